@@ -1,0 +1,154 @@
+-- The neighbouring pairs of a list, and the questions along them.
+use Rattle.std.proofs.Common.{◌≡◌, ℕ, zero, suc, ◌+◌, ◌-◌, ◌<◌, ◌≤◌, Bool, true, false, List, [], ◌∷◌, ◌++◌, length, take, drop, get_or, Some, refl, sym, ap, ◌∙◌, subst, arith, append_assoc, inl, inr, length-drop, add-one}
+use Rattle.std.specs.Prelude.{reverse, map}
+use Rattle.std.specs.List.{AllByRecursion}
+use Rattle.std.proofs.lemmas.List.{reverse-append, length-append, length-take, length-reverse, length-map, take-append-drop, get_or-reverse}
+use Rattle.std.proofs.Math.Seq.{take-append_seam, drop-append_seam}
+use Rattle.sgb_search.specs.Ends.{first, last}
+use Rattle.sgb_search.specs.Neighbours.{neighbours, IsOneOf, AreNeighbours, all_answered, questions_along, front_questions, back_questions, on_pairs}
+use Rattle.sgb_search.specs.Split.{IsAccepted, IsRefusedAcross}
+use Rattle.sgb_search.proofs.Each.{all_append, all_of_first, all_of_rest, all_each, all_take, all_drop, all_reverse, all_of_reverse, all_map, all_of_map}
+
+module _ {A : Type 0} where
+  -- the pair that stands across two lists, if neither is empty
+  abbrev pub across : List A → List A → List (A × A)
+  across [] ys = []
+  across (x ∷ z ∷ zs) ys = across (z ∷ zs) ys
+  across (x ∷ []) [] = []
+  across (x ∷ []) (y ∷ ys) = (x, y) ∷ []
+
+  pub neighbours-append : (xs ys : List A) → neighbours (xs ++ ys) ≡ neighbours xs ++ (across xs ys ++ neighbours ys)
+  neighbours-append [] ys = refl
+  neighbours-append (x ∷ []) [] = refl
+  neighbours-append (x ∷ []) (y ∷ ys) = refl
+  neighbours-append (x ∷ z ∷ zs) ys = ap (λ l. (x, z) ∷ l) (neighbours-append (z ∷ zs) ys)
+
+  pub length-neighbours : (xs : List A) → length (neighbours xs) ≡ length xs - 1
+  length-neighbours [] = refl
+  length-neighbours (x ∷ []) = refl
+  length-neighbours (x ∷ y ∷ ys) = omega (arith, length-neighbours (y ∷ ys))
+
+  -- one of a part is one of the whole
+  pub one_of_first : (qs rs : List (A × A)) (q : A × A) → IsOneOf qs q → IsOneOf (qs ++ rs) q
+  one_of_first [] rs q h = absurd h
+  one_of_first (r ∷ qs) rs q (inl e) = inl e
+  one_of_first (r ∷ qs) rs q (inr h) = inr (one_of_first qs rs q h)
+
+  pub one_of_rest : (qs rs : List (A × A)) (q : A × A) → IsOneOf rs q → IsOneOf (qs ++ rs) q
+  one_of_rest [] rs q h = h
+  one_of_rest (r ∷ qs) rs q h = inr (one_of_rest qs rs q h)
+
+  pub neighbours_of_first : (xs ys : List A) (q : A × A) → AreNeighbours xs q → AreNeighbours (xs ++ ys) q
+  neighbours_of_first xs ys q h = rw (neighbours-append xs ys) (one_of_first (neighbours xs) _ q h)
+
+  pub neighbours_of_rest : (xs ys : List A) (q : A × A) → AreNeighbours ys q → AreNeighbours (xs ++ ys) q
+  neighbours_of_rest xs ys q h = rw (neighbours-append xs ys) (one_of_rest (neighbours xs) _ q (one_of_rest (across xs ys) (neighbours ys) q h))
+
+  all_one_of : (qs : List (A × A)) → AllByRecursion (IsOneOf qs) qs
+  all_one_of [] = tt
+  all_one_of (q ∷ qs) = (inl (refl, refl), all_each (IsOneOf qs) (IsOneOf (q ∷ qs)) (λ r h. inr h) qs (all_one_of qs))
+
+  -- each question is about one of the pairs
+  along_about : (P : A × A → Type 0) (qs : List (A × A)) (g : ℕ) → AllByRecursion P qs → AllByRecursion (λ r. P r.0) (questions_along qs g)
+  along_about P qs g h =
+      all_append (λ r. P r.0) (all_answered true (take (g - 1) qs)) (all_answered false (take 1 (drop (g - 1) qs)))
+      (all_map (λ q. (q, true)) (λ r. P r.0) (take (g - 1) qs) (all_take P (g - 1) qs h))
+      (all_map (λ q. (q, false)) (λ r. P r.0) (take 1 (drop (g - 1) qs)) (all_take P 1 (drop (g - 1) qs) (all_drop P (g - 1) qs h)))
+
+  pub front_about : (xs : List A) (g : ℕ) → AllByRecursion (λ r. AreNeighbours xs r.0) (front_questions xs g)
+  front_about xs g = along_about (AreNeighbours xs) (neighbours xs) g (all_one_of (neighbours xs))
+
+  pub back_about : (xs : List A) (g : ℕ) → AllByRecursion (λ r. AreNeighbours xs r.0) (back_questions xs g)
+  back_about xs g = along_about (AreNeighbours xs) (reverse (neighbours xs)) g (all_reverse (AreNeighbours xs) (neighbours xs) (all_one_of (neighbours xs)))
+
+  length_all_answered : (b : Bool) (qs : List (A × A)) → length (all_answered b qs) ≡ length qs
+  length_all_answered b qs = length-map qs (λ q. (q, b))
+
+  -- how many questions there are: with the pairs that are left they are all
+  along_length : (qs : List (A × A)) (g : ℕ) → 0 < g → g ≤ length qs + 1 → length (questions_along qs g) + (length qs - g) ≡ length qs
+  along_length qs g h l =
+      omega (
+        arith,
+        length-append (all_answered true (take (g - 1) qs)) (all_answered false (take 1 (drop (g - 1) qs))),
+        length_all_answered true (take (g - 1) qs),
+        length_all_answered false (take 1 (drop (g - 1) qs)),
+        length-take (g - 1) qs,
+        length-take 1 (drop (g - 1) qs),
+        length-drop (g - 1) qs,
+      )
+
+  pub front_length : (xs : List A) (g : ℕ) → 0 < g → g ≤ length xs → length (front_questions xs g) + (length xs - g - 1) ≡ length xs - 1
+  front_length xs g h l = omega (arith, length-neighbours xs, along_length (neighbours xs) g h (omega (arith, length-neighbours xs)))
+
+  pub back_length : (xs : List A) (g : ℕ) → 0 < g → g ≤ length xs → length (back_questions xs g) + (length xs - g - 1) ≡ length xs - 1
+  back_length xs g h l =
+      let n = length-reverse (neighbours xs) in
+      omega (arith, length-neighbours xs, n, along_length (reverse (neighbours xs)) g h (omega (arith, length-neighbours xs, n)))
+
+  -- a pair at its place
+  pub record PairAt (qs : List (A × A)) (k : ℕ) (q : A × A) : Type 0 where
+    pub inside : k < length qs
+    pub is : get_or qs k q ≡ q
+
+  pub neighbours_at : (xs : List A) (k : ℕ) (a b : A) → suc k < length xs → a ≡ get_or xs k a → b ≡ get_or xs (suc k) b → PairAt (neighbours xs) k (a, b)
+  neighbours_at xs k a b l e f = record { inside = omega (arith, length-neighbours xs); is = at xs k l e f }
+    where
+      at : (xs : List A) (k : ℕ) → suc k < length xs → a ≡ get_or xs k a → b ≡ get_or xs (suc k) b → get_or (neighbours xs) k (a, b) ≡ (a, b)
+      at [] k l e f = absurd (omega arith)
+      at (x ∷ []) k l e f = absurd (omega arith)
+      at (x ∷ y ∷ ys) zero l e f = rw (← e, ← f) refl
+      at (x ∷ y ∷ ys) (suc k) l e f = at (y ∷ ys) k (omega arith) e f
+
+  pub at_reverse : (qs : List (A × A)) (k j : ℕ) (q : A × A) → PairAt qs k q → k + j + 1 ≡ length qs → PairAt (reverse qs) j q
+  at_reverse qs k j q h e = record {
+    inside = omega (arith, length-reverse qs);
+    is = get_or-reverse qs j q (omega arith) ∙ ap (λ (n : ℕ). get_or qs n q) {x = length qs - 1 - j} {y = k} (omega arith) ∙ h.is;
+  }
+
+  pub one_of_at : (qs : List (A × A)) (k : ℕ) (q : A × A) → PairAt qs k q → IsOneOf qs q
+  one_of_at qs k q h = at qs k h.inside h.is
+    where
+      at : (qs : List (A × A)) (k : ℕ) → k < length qs → get_or qs k q ≡ q → IsOneOf qs q
+      at [] k l e = absurd (omega arith)
+      at (r ∷ rs) zero l e = inl (ap (λ q. q.0) (sym e), ap (λ q. q.1) (sym e))
+      at (r ∷ rs) (suc k) l e = inr (at rs k (omega arith) e)
+
+  -- what the answers say of a test
+  module _ (p : A → A → Bool) where
+    abbrev Agrees : (A × A) × Bool → Type 0
+    Agrees r = r.1 ≡ on_pairs p r.0
+
+    along_says : (qs rs : List (A × A)) (g : ℕ) → g - 1 ≡ length qs → AllByRecursion Agrees (questions_along (qs ++ rs) g) → AllByRecursion (λ q. on_pairs p q ≡ true) qs × AllByRecursion (λ q. on_pairs p q ≡ false) (take 1 rs)
+    along_says qs rs g e h =
+        let k = rw (e, take-append_seam qs rs, drop-append_seam qs rs) at h in (
+          all_each _ _ (λ q a. sym a) qs (all_of_map (λ q. (q, true)) Agrees qs (all_of_first Agrees (all_answered true qs) _ k)),
+          all_each _ _ (λ q a. sym a) (take 1 rs) (all_of_map (λ q. (q, false)) Agrees (take 1 rs) (all_of_rest Agrees (all_answered true qs) _ k)),
+        )
+
+    refused_across : (xs ys : List A) (rs : List (A × A)) → AllByRecursion (λ q. on_pairs p q ≡ false) (take 1 (across xs ys ++ rs)) → IsRefusedAcross p (xs, ys)
+    refused_across [] ys rs h = λ a b i j. cc i
+    refused_across (x ∷ []) [] rs h = λ a b i j. cc j
+    refused_across (x ∷ []) (y ∷ ys) rs h = λ a b i j. let e : p x y ≡ false = h.0 in cc (e, i, j)
+    refused_across (x ∷ z ∷ zs) ys rs h = refused_across (z ∷ zs) ys rs h
+
+    reverse-across : (xs ys : List A) → reverse (across xs ys) ≡ across xs ys
+    reverse-across [] ys = refl
+    reverse-across (x ∷ []) [] = refl
+    reverse-across (x ∷ []) (y ∷ ys) = refl
+    reverse-across (x ∷ z ∷ zs) ys = reverse-across (z ∷ zs) ys
+
+    -- the group is accepted inside, and refused towards the rest
+    pub front_says : (group rest : List A) → 0 < length group → AllByRecursion Agrees (front_questions (group ++ rest) (length group)) → IsAccepted p group × IsRefusedAcross p (group, rest)
+    front_says group rest l h =
+        let k = along_says (neighbours group) (across group rest ++ neighbours rest) (length group) (sym (length-neighbours group)) (rw (neighbours-append group rest) at h) in
+        (k.0, refused_across group rest (neighbours rest) k.1)
+
+    pub back_says : (group rest : List A) → 0 < length group → AllByRecursion Agrees (back_questions (rest ++ group) (length group)) → IsAccepted p group × IsRefusedAcross p (rest, group)
+    back_says group rest l h =
+        let e : reverse (neighbours (rest ++ group)) ≡ reverse (neighbours group) ++ (across rest group ++ reverse (neighbours rest)) =
+            ap reverse (neighbours-append rest group) ∙ reverse-append (neighbours rest) (across rest group ++ neighbours group)
+            ∙ ap (λ l. l ++ reverse (neighbours rest)) (reverse-append (across rest group) (neighbours group) ∙ ap (λ l. reverse (neighbours group) ++ l) (reverse-across rest group))
+            ∙ append_assoc (reverse (neighbours group)) (across rest group) (reverse (neighbours rest)) in
+        let n = length-reverse (neighbours group) in
+        let k = along_says (reverse (neighbours group)) (across rest group ++ reverse (neighbours rest)) (length group) (omega (arith, n, length-neighbours group)) (rw e at h) in
+        (all_of_reverse _ (neighbours group) k.0, refused_across rest group (reverse (neighbours rest)) k.1)

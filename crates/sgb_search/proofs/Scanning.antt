@@ -1,0 +1,62 @@
+-- A scan, question by question: along pairs that are all accepted, up to the first that is refused.
+use Rattle.std.proofs.Common.{◌≡◌, ℕ, suc, ◌+◌, ◌-◌, ◌<◌, ◌≤◌, Bool, true, false, List, [], ◌∷◌, ◌++◌, length, take, drop, get_or, refl, sym, ap, ◌∙◌, subst, arith, drop-cons, length-drop}
+use Rattle.std.specs.Prelude.{map, reverse}
+use Rattle.std.specs.List.{slice_range}
+use Rattle.std.proofs.lemmas.List.{take_more, map-append, append-nil, length-reverse}
+use Rattle.std.proofs.Math.ListN.{drop_of_length-le}
+use Rattle.sgb_search.specs.declared.judge.Judge.{Ghosts}
+use Rattle.sgb_search.specs.Runs.{IsRun}
+use Rattle.sgb_search.specs.Judges.{MayAskAlong}
+use Rattle.sgb_search.specs.Neighbours.{neighbours, AreNeighbours, all_answered, questions_along, front_questions, back_questions}
+use Rattle.sgb_search.proofs.Runs.{run_push, may_now}
+use Rattle.sgb_search.proofs.Pairs.{PairAt, at_reverse, one_of_at, length-neighbours}
+use Rattle.sgb_search.proofs.Ranges.{length-range, range_neighbours}
+
+all_answered_append : {A : Type 0} (b : Bool) (qs rs : List (A × A)) → all_answered b (qs ++ rs) ≡ all_answered b qs ++ all_answered b rs
+all_answered_append b qs rs = map-append (λ q. (q, b)) qs rs
+
+module _ {S A : Type 0} (may : S → A × A → Type 0) (gives : S → A × A → Bool → S → Type 0) (qs : List (A × A)) (s : S) where
+  -- the first k pairs were asked about, from s to t, and all accepted
+  pub record Accepted (k : ℕ) (t : S) : Type 0 where
+    pub run : IsRun may gives s (all_answered true (take k qs)) t
+
+  pub accepted_none : (k : ℕ) (t : S) → k ≡ 0 → t ≡ s → Accepted k t
+  accepted_none k t e f = record { run = rw e f }
+
+  module _ (k : ℕ) (t u : S) (q : A × A) (h : Accepted k t) (here : PairAt qs k q) (m : may t q) where
+    pub accepted_more : gives t q true u → (j : ℕ) → j ≡ k + 1 → Accepted j u
+    accepted_more e j f =
+        let more : take j qs ≡ take k qs ++ q ∷ [] = rw f (take_more qs k q here.inside ∙ ap (λ r. take k qs ++ r ∷ []) here.is) in
+        record { run = rw (more, all_answered_append true (take k qs) (q ∷ [])) (run_push may gives s _ t u q true h.run m e) }
+
+    pub refused_next : gives t q false u → (n : ℕ) → n ≡ k + 1 → IsRun may gives s (questions_along qs n) u
+    refused_next e n f =
+        let i : n - 1 ≡ k = omega arith in
+        let next : drop k qs ≡ q ∷ drop (suc k) qs = drop-cons qs k q here.inside ∙ ap (λ r. r ∷ drop (suc k) qs) here.is in
+        rw (i, next) (run_push may gives s _ t u q false h.run m e)
+
+  -- no pair is left
+  pub accepted_all : (k : ℕ) (t : S) → Accepted k t → length qs ≤ k → (n : ℕ) → n ≡ k + 1 → IsRun may gives s (questions_along qs n) t
+  accepted_all k t h l n f =
+      let i : n - 1 ≡ k = omega arith in
+      rw (i, drop_of_length-le qs {i = k} l, append-nil (all_answered true (take k qs))) h.run
+
+-- the places of a scan: the elements before the place i and at it are asked about
+module _ {T : Type 0} (xs : List T) (low high i : ℕ) (a b : T) (lower : low < i) (upper : i < high) (within : high ≤ length xs) (p : a ≡ get_or xs (i - 1) a) (q : b ≡ get_or xs i b) where
+  -- from the front
+  pub front_pair : PairAt (neighbours (slice_range xs low high)) (i - low - 1) (a, b)
+  front_pair = range_neighbours xs low high i a b lower upper within p q
+
+  -- from the back
+  pub back_pair : PairAt (reverse (neighbours (slice_range xs low high))) (high - i - 1) (a, b)
+  back_pair = at_reverse (neighbours (slice_range xs low high)) (i - low - 1) (high - i - 1) (a, b) front_pair (omega (arith, length-neighbours (slice_range xs low high), length-range xs low high (omega arith) within))
+
+  pub are_neighbours : AreNeighbours (slice_range xs low high) (a, b)
+  are_neighbours = one_of_at (neighbours (slice_range xs low high)) (i - low - 1) (a, b) front_pair
+
+-- how many pairs there are
+pub front_pairs : {T : Type 0} (xs : List T) (low high : ℕ) → low < high → high ≤ length xs → length (neighbours (slice_range xs low high)) ≡ high - low - 1
+front_pairs xs low high l w = omega (arith, length-neighbours (slice_range xs low high), length-range xs low high (omega arith) w)
+
+pub back_pairs : {T : Type 0} (xs : List T) (low high : ℕ) → low < high → high ≤ length xs → length (reverse (neighbours (slice_range xs low high))) ≡ high - low - 1
+back_pairs xs low high l w = length-reverse (neighbours (slice_range xs low high)) ∙ front_pairs xs low high l w

@@ -1,0 +1,6 @@
+pub mod Split
+pub mod Neighbours
+pub mod Ends
+pub mod Runs
+pub mod Judges
+pub mod Groups
