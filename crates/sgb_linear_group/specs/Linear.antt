@@ -1,0 +1,37 @@
+-- What the calls of an iterator over linear groups give.
+use Rattle.std.specs.Prelude.{◌≡◌, ℕ, ◌<◌, Bool, List, [], ◌++◌, length, Option, MatchOption}
+use Rattle.std.specs.Borrow.{Bor}
+use Rattle.sgb_search.specs.declared.judge.Judge.{Ghosts}
+use Rattle.sgb_search.specs.Runs.{IsRun}
+use Rattle.sgb_search.specs.Neighbours.{front_questions, back_questions}
+use Rattle.sgb_search.specs.Judges.{MayAskAlong, AnswersAlong}
+use Rattle.sgb_search.specs.Groups.{Groups}
+
+module _ {T J : Type 0} (g : Ghosts J T) where
+  -- the judge may be asked about the neighbouring pairs that remain, now and after any such questions
+  abbrev pub IsCallable : Groups T J → Type 0
+  IsCallable s = MayAskAlong g s.remainder s.judge
+
+  -- and then it answers what p says
+  abbrev pub IsSettled : Groups T J → (T → T → Bool) → Type 0
+  IsSettled s p = AnswersAlong g s.remainder p s.judge
+
+  -- the group is a nonempty beginning of the remainder, what follows it remains, and the questions up to its end were asked
+  pub record IsFrontGroup (s : Groups T J) (group : List T) (t : Groups T J) : Type 0 where
+    pub nonempty : 0 < length group
+    pub cut : s.remainder ≡ group ++ t.remainder
+    pub asked : IsRun g.may_ask g.answers s.judge (front_questions s.remainder (length group)) t.judge
+
+  -- the same at the back
+  pub record IsBackGroup (s : Groups T J) (group : List T) (t : Groups T J) : Type 0 where
+    pub nonempty : 0 < length group
+    pub cut : s.remainder ≡ t.remainder ++ group
+    pub asked : IsRun g.may_ask g.answers s.judge (back_questions s.remainder (length group)) t.judge
+
+  -- a call at the front gives the group there, or `None` exactly where nothing remains, and then nothing is asked and nothing changes
+  abbrev pub GivesFront : Groups T J → Option (Bor (List T)) → Groups T J → Type 0
+  GivesFront s r t = MatchOption r ((s.remainder ≡ []) × (t ≡ s)) (λ group. IsFrontGroup s group.now t)
+
+  -- a call at the back
+  abbrev pub GivesBack : Groups T J → Option (Bor (List T)) → Groups T J → Type 0
+  GivesBack s r t = MatchOption r ((s.remainder ≡ []) × (t ≡ s)) (λ group. IsBackGroup s group.now t)

@@ -1,0 +1,177 @@
+//! Linear groups for reading, over any judge.
+ghost use Rattle.std.specs.Prelude.{◌≡◌, ℕ, Bool, length, MatchOption, nat_eq, if◌then◌else◌, IfSome};
+ghost use Rattle.std.specs.Iterator.{UpTo};
+ghost use Rattle.std.specs.Iterator.SizeHint.{IsWithinCount};
+ghost use Rattle.sgb_search.specs.Groups.{groups_left};
+ghost use Rattle.sgb_search.specs.Judges.{by_equality};
+
+use crate::scan::{back_start, front_end};
+use sgb_search::judge::{EqualityJudge, Judge};
+use std::iter::FusedIterator;
+use std::marker::Model;
+
+/// An iterator over the groups of a slice, from both ends, that asks its judge about neighbouring elements.
+///
+/// Contracts see of it the elements that it has not handed out yet, its `remainder`, and its `judge`.
+///
+/// A call costs one question for each element of the group that it hands out, and none more: it asks about the
+/// neighbouring pairs from its end on, the left element first from both ends, up to the first pair that the judge
+/// refuses. No pair is asked about twice.
+#[derive(Drop)]
+pub struct LinearGroups<'a, T, J> {
+    slice: &'a [T],
+    // The remainder lies from the place `low` up to the place `high`.
+    low: usize,
+    high: usize,
+    judge: J,
+}
+
+impl<'a, T, J> Model for LinearGroups<'a, T, J> {
+    ghost use Rattle.std.specs.Prelude.{◌≤◌, length, slice_range};
+    ghost use Rattle.sgb_search.specs.Groups.{Groups};
+
+    ghost Value = { Groups T J };
+
+    ghost view = { λ s. record { remainder = slice_range s.slice.now s.low s.high; judge = s.judge } };
+
+    ghost invariant = { λ s. record { order : s.low ≤ s.high; within : s.high ≤ length s.slice.now } };
+}
+
+impl<'a, T, J> LinearGroups<'a, T, J> {
+    // All groups of the slice are still to come.
+    #[inline]
+    fn over(slice: &'a [T], judge: J) -> Self
+        ensures remainder { result.remainder ≡ slice.now }
+        ensures judge { result.judge ≡ judge }
+    {
+        LinearGroups {
+            slice,
+            low: 0,
+            high: slice.len(),
+            judge,
+        }
+    }
+}
+
+impl<'a, T, J: Judge<T>> LinearGroups<'a, T, J> {
+    ghost use Rattle.sgb_linear_group.specs.Linear.{IsCallable, GivesFront, GivesBack};
+
+    #[inline]
+    fn take_front(&mut self) -> Option<&'a [T]>
+        requires { IsCallable J.Judge self.old }
+        ensures gives { GivesFront J.Judge self.old result self.new }
+        ensures callable { IsCallable J.Judge self.new }
+    {
+        if self.low == self.high {
+            return None;
+        }
+        let end = front_end(self.slice, self.low, self.high, &mut self.judge);
+        let group = &self.slice[self.low..end];
+        self.low = end;
+        Some(group)
+    }
+
+    #[inline]
+    fn take_back(&mut self) -> Option<&'a [T]>
+        requires { IsCallable J.Judge self.old }
+        ensures gives { GivesBack J.Judge self.old result self.new }
+        ensures callable { IsCallable J.Judge self.new }
+    {
+        if self.low == self.high {
+            return None;
+        }
+        let start = back_start(self.slice, self.low, self.high, &mut self.judge);
+        let group = &self.slice[start..self.high];
+        self.high = start;
+        Some(group)
+    }
+}
+
+impl<'a, T, J: Judge<T> + Drop> Iterator for LinearGroups<'a, T, J> {
+    type Item = &'a [T];
+
+    ghost use Rattle.sgb_linear_group.specs.Linear.{IsCallable, GivesFront};
+
+    ghost can_next = { IsCallable J.Judge };
+
+    ghost next_gives = { GivesFront J.Judge };
+
+    ghost remaining = { groups_left };
+
+    /// The first group of the remainder, or `None` where nothing remains.
+    #[inline]
+    fn next(&mut self) -> Option<&'a [T]> {
+        self.take_front()
+    }
+
+    /// No groups where nothing remains, and else at least one and at most as many as elements remain.
+    #[inline]
+    fn size_hint(&self) -> (usize, Option<usize>)
+        ensures value { result ≡ (if nat_eq (length self.now.remainder) 0 then (0, Some 0) else (1, Some (length self.now.remainder))) }
+        ensures lower { IsWithinCount result.0 (groups_left self.now) }
+        ensures upper { IfSome result.1 (UpTo (groups_left self.now)) }
+    {
+        let len = self.high - self.low;
+        if len == 0 {
+            return (0, Some(0));
+        }
+        (1, Some(len))
+    }
+}
+
+impl<'a, T, J: Judge<T> + Drop> DoubleEndedIterator for LinearGroups<'a, T, J> {
+    ghost use Rattle.sgb_linear_group.specs.Linear.{IsCallable, GivesBack};
+
+    ghost can_next_back = { IsCallable J.Judge };
+
+    ghost next_back_gives = { GivesBack J.Judge };
+
+    /// The last group of the remainder, or `None` where nothing remains.
+    #[inline]
+    fn next_back(&mut self) -> Option<&'a [T]> {
+        self.take_back()
+    }
+}
+
+impl<'a, T, J: Judge<T> + Drop> FusedIterator for LinearGroups<'a, T, J> {}
+
+impl<'a, T, J: Judge<T> + Drop> LinearGroups<'a, T, J> {
+    ghost use Rattle.sgb_linear_group.specs.Linear.{IsCallable, GivesBack};
+
+    /// What `next_back` gives, with its questions: the last group of the remainder. The iterator is given up.
+    ///
+    /// `Iterator::last` walks all groups from the front; this one scans the last group alone.
+    #[inline]
+    pub fn last(mut self) -> Option<&'a [T]>
+        requires { IsCallable J.Judge self }
+        ensures { (t : _) × GivesBack J.Judge self.entry result t }
+    {
+        self.take_back()
+    }
+}
+
+/// An iterator over the groups of equal elements of a slice, by `==` of neighbours.
+///
+/// ```
+/// let mut groups = LinearGroup::new(&[1, 1, 1, 3, 3, 2, 2, 2]);
+/// groups.next();      // Some([1, 1, 1])
+/// groups.next_back(); // Some([2, 2, 2])
+/// groups.next();      // Some([3, 3])
+/// groups.next_back(); // None
+/// ```
+pub type LinearGroup<'a, T> = LinearGroups<'a, T, EqualityJudge>;
+
+impl<'a, T: PartialEq> LinearGroups<'a, T, EqualityJudge> {
+    ghost use Rattle.sgb_linear_group.specs.Linear.{IsCallable, IsSettled};
+
+    /// All groups of equal elements of the slice, which are still to come. Nothing is asked yet.
+    #[inline]
+    pub fn new(slice: &'a [T]) -> Self
+        ensures remainder { result.remainder ≡ slice.now }
+        ensures asked { result.judge.questions.asked ≡ 0 }
+        ensures callable { IsCallable (by_equality T.eq) result }
+        ensures settled { IsSettled (by_equality T.eq) result T.eq }
+    {
+        LinearGroups::over(slice, EqualityJudge::new())
+    }
+}
