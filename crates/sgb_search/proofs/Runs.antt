@@ -1,8 +1,7 @@
 -- Runs of questions, and what holds along them.
-use Rattle.std.specs.Prelude.{◌≡◌, List, [], ◌∷◌, ◌++◌, refl}
-use Rattle.std.proofs.Common.{subst, sym}
+use Rattle.std.proofs.Common.{◌≡◌, ℕ, ◌+◌, List, [], ◌∷◌, ◌++◌, length, length-append, refl, subst, sym}
 use Rattle.std.specs.List.{AllByRecursion}
-use Rattle.sgb_search.specs.Runs.{IsRun, MayAskAll, AnswersBy}
+use Rattle.sgb_search.specs.Runs.{IsRun, IsRunOf, MayAskAll, AnswersBy}
 use Rattle.sgb_search.proofs.Each.{all_append, all_of_rest, all_each}
 
 module _ {S Q A : Type 0} (may : S → Q → Type 0) (gives : S → Q → A → S → Type 0) where
@@ -13,6 +12,13 @@ module _ {S Q A : Type 0} (may : S → Q → Type 0) (gives : S → Q → A → 
   -- one question more
   pub run_push : (s : S) (rs : List (Q × A)) (t u : S) (q : Q) (a : A) → IsRun may gives s rs t → may t q → gives t q a u → IsRun may gives s (rs ++ (q, a) ∷ []) u
   run_push s rs t u q a h m e = run_append s rs t ((q, a) ∷ []) u h (m, (u, e, refl))
+
+  -- no question, and one run after another
+  pub run_of_none : (s : S) → IsRunOf may gives 0 s s
+  run_of_none s = ([], refl, refl)
+
+  pub run_of_more : (s t u : S) (k m : ℕ) → IsRunOf may gives k s t → IsRunOf may gives m t u → IsRunOf may gives (k + m) s u
+  run_of_more s t u k m a b = (a.0 ++ b.0, run_append s a.0 t b.0 u a.1 b.1, rw (length-append a.0 b.0, a.2, b.2) refl)
 
   -- of fewer allowed questions, after a run of allowed ones: each may still be asked
   pub may_after : (wide narrow : Q → Type 0) → ((q : Q) → narrow q → wide q) → (s : S) (rs : List (Q × A)) (t : S) → IsRun may gives s rs t → AllByRecursion (λ r. wide r.0) rs → MayAskAll may gives wide s → MayAskAll may gives narrow t

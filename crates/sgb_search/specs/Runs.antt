@@ -1,5 +1,5 @@
 -- Runs of questions, from state to state.
-use Rattle.std.specs.Prelude.{◌≡◌, List, [], ◌∷◌}
+use Rattle.std.specs.Prelude.{◌≡◌, ℕ, List, [], ◌∷◌, length}
 use Rattle.std.specs.List.{AllByRecursion}
 
 -- may s q: in the state s the question q may be asked; gives s q a t: the answer may be a, and then the state is t
@@ -8,6 +8,10 @@ module _ {S Q A : Type 0} (may : S → Q → Type 0) (gives : S → Q → A → 
   abbrev pub IsRun : S → List (Q × A) → S → Type 0
   IsRun s [] t = t ≡ s
   IsRun s (r ∷ rs) t = may s r.0 × ((u : S) × gives s r.0 r.1 u × IsRun u rs t)
+
+  -- some run of n questions leads from s to t
+  abbrev pub IsRunOf : ℕ → S → S → Type 0
+  IsRunOf n s t = (rs : List (Q × A)) × IsRun s rs t × (length rs ≡ n)
 
   -- in every state that runs of allowed questions reach, each allowed question may be asked
   abbrev pub MayAskAll : (Q → Type 0) → S → Type 0

@@ -1,0 +1,73 @@
+-- What a chain of calls promises, from what each call does.
+use Rattle.std.proofs.Common.{◌≡◌, ℕ, ◌+◌, ◌≤◌, Bool, true, List, [], ◌∷◌, ◌++◌, Option, None, Some, map, refl, sym, ap, ◌∙◌, subst, append_assoc, arith, reverse}
+use Rattle.std.specs.Prelude.{option_map}
+use Rattle.std.proofs.lemmas.List.{append-nil, reverse-append}
+use Rattle.std.proofs.lemmas.Grind.{flat_map-append}
+use Rattle.sgb_search.specs.Split.{IsSplit, split, joined}
+use Rattle.sgb_search.proofs.Splits.{split_is, split_only}
+use Rattle.slice_group_by.specs.declared.queue.End.{End}
+use Rattle.slice_group_by.specs.declared.queue.End.TheVariants.{Front, Back}
+use Rattle.slice_group_by.specs.Queue.{answers, left}
+use Rattle.slice_group_by.specs.Walk.{TakesPiece, TakesPart, handed, kept, IsChain, AnswersAsQueue, AsksWithin}
+
+joined_push : {A : Type 0} (gs : List (List A)) (g : List A) → joined (gs ++ g ∷ []) ≡ joined gs ++ g
+joined_push gs g = flat_map-append (λ x. x) gs (g ∷ []) ∙ ap (λ l. joined gs ++ l) (append-nil g)
+
+-- one call more, in front of the others: the front groups fs, what remains z, and the back groups bs join to ys
+part_at : {A : Type 0} (e : End) (o : Option (List A)) (xs ys : List A) (fs bs : List (List A)) (z : List A) → TakesPart e xs o ys → (joined fs ++ z) ++ joined (reverse bs) ≡ ys → (joined (kept Front e o fs) ++ z) ++ joined (reverse (kept Back e o bs)) ≡ xs
+part_at Front None xs ys fs bs z t h = h ∙ t.1 ∙ sym t.0
+part_at Back None xs ys fs bs z t h = h ∙ t.1 ∙ sym t.0
+part_at Front (Some g) xs ys fs bs z t h = simp append_assoc (ap (λ l. g ++ l) (simp append_assoc at h) ∙ sym t.1)
+part_at Back (Some g) xs ys fs bs z t h =
+    ap (λ l. (joined fs ++ z) ++ l) (ap joined (reverse-append (g ∷ []) bs) ∙ joined_push (reverse bs) g)
+    ∙ sym (append_assoc (joined fs ++ z) (joined (reverse bs)) g) ∙ ap (λ l. l ++ g) h ∙ sym t.1
+
+module _ {Q I : Type 0} (gives : End → Q → Option I → Q → Type 0) where
+  -- one call more, after the others
+  pub chain_push : (q : Q) (es : List End) (os : List (Option I)) (m : Q) (e : End) (o : Option I) (r : Q) → IsChain gives q es os m → gives e m o r → IsChain gives q (es ++ e ∷ []) (os ++ o ∷ []) r
+  chain_push q [] [] m e o r c s = (r, subst (λ x. gives e x o r) c s, refl)
+  chain_push q [] (o' ∷ os) m e o r c s = absurd c
+  chain_push q (e' ∷ es) [] m e o r c s = absurd c
+  chain_push q (e' ∷ es) (o' ∷ os) m e o r c s = (c.0, c.1, chain_push c.0 es os m e o r c.2 s)
+
+  module _ {A : Type 0} (remainder : Q → List A) (shows : I → List A) where
+    pub chain_parts : ((e : End) (q : Q) (o : Option I) (t : Q) → gives e q o t → TakesPart e (remainder q) (option_map shows o) (remainder t)) → (q : Q) (es : List End) (os : List (Option I)) (r : Q) → IsChain gives q es os r → (joined (handed Front es (map (option_map shows) os)) ++ remainder r) ++ joined (reverse (handed Back es (map (option_map shows) os))) ≡ remainder q
+    chain_parts part q [] [] r c = append-nil (remainder r) ∙ ap remainder c
+    chain_parts part q [] (o ∷ os) r c = absurd c
+    chain_parts part q (e ∷ es) [] r c = absurd c
+    chain_parts part q (e ∷ es) (o ∷ os) r c = part_at e (option_map shows o) (remainder q) (remainder c.0) _ _ (remainder r) (part e q o c.0 c.1) (chain_parts part c.0 es os r c.2)
+
+    -- of a settled queue
+    pub record Answered (settled : Q → (A → A → Bool) → Type 0) (p : A → A → Bool) (q : Q) (es : List End) (os : List (Option I)) (r : Q) : Type 0 where
+      pub stays : settled r p
+      pub answers : map (option_map shows) os ≡ answers (split p (remainder q)) es
+      pub rest : split p (remainder r) ≡ left (split p (remainder q)) es
+
+    module _ (settled : Q → (A → A → Bool) → Type 0) (p : A → A → Bool) (piece : (e : End) (q : Q) (o : Option I) (t : Q) (p : A → A → Bool) → gives e q o t → settled q p → TakesPiece e p (remainder q) (option_map shows o) (remainder t) × settled t p) where
+      pub chain_answers : (q : Q) (es : List End) (os : List (Option I)) (r : Q) → IsChain gives q es os r → settled q p → Answered settled p q es os r
+      chain_answers q [] [] r c h = record { stays = subst (λ x. settled x p) (sym c) h; answers = refl; rest = ap (λ x. split p (remainder x)) c }
+      chain_answers q [] (o ∷ os) r c h = absurd c
+      chain_answers q (e ∷ es) [] r c h = absurd c
+      chain_answers q (e ∷ es) (o ∷ os) r c h =
+          let now = piece e q o c.0 p c.1 h in
+          let later = chain_answers c.0 es os r c.2 now.1 in
+          record {
+            stays = later.stays;
+            answers = rw (now.0.0, later.answers, now.0.1) refl;
+            rest = later.rest ∙ ap (λ ps. left ps es) now.0.1;
+          }
+
+      pub chain_settled : (q : Q) (es : List End) (os : List (Option I)) (r : Q) → IsChain gives q es os r → settled q p → settled r p × ((ps : List (List A)) × AnswersAsQueue p (remainder q) es (map (option_map shows) os) (remainder r) ps)
+      chain_settled q es os r c h =
+          let a = chain_answers q es os r c h in
+          (a.stays, (split p (remainder q), record { is_split = split_is p (remainder q); only = split_only p (remainder q); answers = a.answers; rest = subst (IsSplit p (remainder r)) a.rest (split_is p (remainder r)) }))
+
+  module _ (asked : Q → Q → ℕ → Type 0) (due : Q → ℕ) (exact : Bool) (none : (q : Q) → asked q q 0) (more : (q r t : Q) (k m : ℕ) → asked q r k → asked r t m → asked q t (k + m)) (asks : (e : End) (q : Q) (o : Option I) (t : Q) → gives e q o t → AsksWithin asked due exact q t) where
+    asks_add : (q r t : Q) → AsksWithin asked due exact q r → AsksWithin asked due exact r t → AsksWithin asked due exact q t
+    asks_add q r t (k, a, b, c) (m, d, e, f) = (k + m, more q r t k m a d, omega arith, λ x. let u = c x in let v = f x in omega arith)
+
+    pub chain_asks : (q : Q) (es : List End) (os : List (Option I)) (r : Q) → IsChain gives q es os r → AsksWithin asked due exact q r
+    chain_asks q [] [] r c = subst (λ x. AsksWithin asked due exact q x) (sym c) (0, none q, omega arith, λ x. omega arith)
+    chain_asks q [] (o ∷ os) r c = absurd c
+    chain_asks q (e ∷ es) [] r c = absurd c
+    chain_asks q (e ∷ es) (o ∷ os) r c = asks_add q c.0 r (asks e q o c.0 c.1) (chain_asks c.0 es os r c.2)

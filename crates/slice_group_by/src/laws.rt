@@ -1,0 +1,1 @@
+//! Laws that a caller can cite.

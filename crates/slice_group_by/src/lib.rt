@@ -1,0 +1,22 @@
+//! Groups of neighbouring elements of a slice, without copying, from either end.
+//!
+//! A group ends where two neighbouring elements do not belong together. The groups of a slice are nonempty, cover it,
+//! and are the same from the front and from the back: they are the pieces of its one `split`.
+//!
+//! ```
+//! let mut groups = LinearGroup::new(&[1, 1, 1, 3, 3, 2, 2, 2]);
+//! groups.next();      // Some([1, 1, 1])
+//! groups.next_back(); // Some([2, 2, 2])
+//! groups.next();      // Some([3, 3])
+//! groups.next_back(); // None
+//! ```
+#![tactic(auto)]
+
+pub mod laws;
+mod linear;
+mod queue;
+#[cfg(test)]
+mod tests;
+
+pub use queue::{End, GroupQueue, walk};
+pub use sgb_linear_group::groups::LinearGroup;
