@@ -1,5 +1,5 @@
 -- A split exists, it is the only one, and its outermost pieces come off alone.
-use Rattle.std.proofs.Common.{◌≡◌, ℕ, ◌+◌, Bool, true, false, not, cond, List, [], ◌∷◌, ◌++◌, length, Option, Some, refl, sym, ap, ◌∙◌, subst, append_assoc, arith}
+use Rattle.std.proofs.Common.{◌≡◌, ℕ, ◌+◌, ◌<◌, Bool, true, false, not, cond, List, [], ◌∷◌, ◌++◌, length, Option, Some, refl, sym, ap, ◌∙◌, subst, append_assoc, arith}
 use Rattle.std.specs.Prelude.{⊤, ◌≢◌, count_by}
 use Rattle.std.specs.List.{AllByRecursion}
 use Rattle.std.proofs.lemmas.List.{append-nil}
@@ -113,14 +113,15 @@ module _ {A : Type 0} (p : A → A → Bool) where
       (sym (ap last e ∙ last_push (split p rest) (y ∷ ys)), sym (ap without_last e ∙ without_last_push (split p rest) (y ∷ ys)))
 
   -- how many pieces there are
-  length_put_before : (b : Bool) (x : A) (g : List A) (gs : List (List A)) → length (put_before p b x (g ∷ gs)) ≡ cond (not b) 1 0 + length (g ∷ gs)
-  length_put_before true x g gs = omega arith
-  length_put_before false x g gs = omega arith
+  length-put_before : (b : Bool) (x : A) (g : List A) (gs : List (List A)) → length (put_before p b x (g ∷ gs)) ≡ cond (not b) 1 0 + length (g ∷ gs)
+  length-put_before true x g gs = omega arith
+  length-put_before false x g gs = omega arith
 
-  pub length_split : (x : A) (xs : List A) → length (split p (x ∷ xs)) ≡ refused_pairs p (x ∷ xs) + 1
-  length_split x [] = refl
-  length_split x (y ∷ ys) =
+  pub length-split : (xs : List A) → 0 < length xs → length (split p xs) ≡ refused_pairs p xs + 1
+  length-split [] l = absurd (omega arith)
+  length-split (x ∷ []) l = refl
+  length-split (x ∷ y ∷ ys) l =
       let h = split_begins y ys in
-      let n : length (put_before p (p x y) x (split p (y ∷ ys))) ≡ cond (not (p x y)) 1 0 + length (split p (y ∷ ys)) = rw h.is (length_put_before (p x y) x (y ∷ h.more) h.others) in
+      let n : length (put_before p (p x y) x (split p (y ∷ ys))) ≡ cond (not (p x y)) 1 0 + length (split p (y ∷ ys)) = rw h.is (length-put_before (p x y) x (y ∷ h.more) h.others) in
       let m : refused_pairs p (x ∷ y ∷ ys) ≡ cond (not (p x y)) 1 0 + refused_pairs p (y ∷ ys) = sum_by-cons (λ q. cond (not (on_pairs p q)) 1 0) (x, y) (neighbours (y ∷ ys)) in
-      omega (arith, n, m, length_split y ys)
+      omega (arith, n, m, length-split (y ∷ ys) (omega arith))

@@ -10,8 +10,8 @@ impl<'a, T, J: Judge<T> + Drop> GroupQueue for LinearGroups<'a, T, J> {
     ghost use Rattle.sgb_search.specs.Neighbours.{neighbours};
     ghost use Rattle.sgb_search.specs.Runs.{IsRunOf};
     ghost use Rattle.sgb_linear_group.specs.Linear.{IsCallable, IsSettled};
-    ghost use Rattle.slice_group_by.specs.Linear.{gives_at};
-    ghost use Rattle.slice_group_by.specs.Linear as linear;
+    ghost use Rattle.slice_group_by.specs.LinearQueue.{gives_at};
+    ghost use Rattle.slice_group_by.specs.LinearQueue as linear;
 
     ghost Element = { T };
 

@@ -1,4 +1,4 @@
-use Rattle.sgb_search.proofs.Splits.{split_is, split_only, length_split}
+use Rattle.sgb_search.proofs.Splits.{split_is, split_only, length-split}
 use Rattle.sgb_search.proofs.laws.one_split.Goals as goal
 
 pub returns-clause-exists : goal.returns-clause-exists
@@ -8,4 +8,4 @@ pub returns-clause-unique : goal.returns-clause-unique
 returns-clause-unique g c = split_only
 
 pub returns-clause-count : goal.returns-clause-count
-returns-clause-count g c = length_split
+returns-clause-count g c = length-split

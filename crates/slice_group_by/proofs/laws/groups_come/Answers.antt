@@ -1,0 +1,8 @@
+use Rattle.slice_group_by.proofs.Counts.{at_most_length, at_least_one}
+use Rattle.slice_group_by.proofs.laws.groups_come.Goals as goal
+
+pub returns-clause-most : goal.returns-clause-most
+returns-clause-most g c = at_most_length _ _ _ g.met.Q.GroupQueue.part
+
+pub returns-clause-least : goal.returns-clause-least
+returns-clause-least g c = at_least_one _ _ _ g.met.Q.GroupQueue.part
