@@ -146,7 +146,7 @@ impl<'a, T, J: Judge<T> + Drop> LinearGroups<'a, T, J> {
         requires { IsCallable J.Judge self }
         ensures { (t : _) × GivesBack J.Judge self.entry result t }
     {
-        self.take_back()
+        self.next_back()
     }
 }
 
