@@ -1,5 +1,5 @@
 -- What the calls of an iterator over linear groups give.
-use Rattle.std.specs.Prelude.{◌≡◌, ℕ, ◌<◌, Bool, List, [], ◌++◌, length, Option, MatchOption}
+use Rattle.std.specs.Prelude.{◌≡◌, ◌<◌, Bool, List, [], ◌++◌, length, Option, MatchOption}
 use Rattle.std.specs.Borrow.{Bor}
 use Rattle.sgb_search.specs.declared.judge.Judge.{Ghosts}
 use Rattle.sgb_search.specs.Runs.{IsRun}

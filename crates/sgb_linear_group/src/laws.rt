@@ -13,5 +13,4 @@ use sgb_search::judge::Judge;
 pub fn linear_calls_give_pieces<T, J: Judge<T>>()
     ensures front { (p : T → T → Bool) (s t : Groups T J) (group : Option (Bor (List T))) → IsSettled J.Judge s p → GivesFront J.Judge s group t → TakesFirst p s.remainder (option_map (λ x. x.now) group) t.remainder × IsSettled J.Judge t p }
     ensures back { (p : T → T → Bool) (s t : Groups T J) (group : Option (Bor (List T))) → IsSettled J.Judge s p → GivesBack J.Judge s group t → TakesLast p s.remainder (option_map (λ x. x.now) group) t.remainder × IsSettled J.Judge t p }
-{
-}
+{}

@@ -8,7 +8,12 @@ use sgb_search::judge::Judge;
 
 /// The place after the first group of the elements from `low` up to `high`.
 #[inline]
-pub(crate) fn front_end<T, J: Judge<T>>(slice: &[T], low: usize, high: usize, judge: &mut J) -> usize
+pub(crate) fn front_end<T, J: Judge<T>>(
+    slice: &[T],
+    low: usize,
+    high: usize,
+    judge: &mut J,
+) -> usize
     requires order { low < high }
     requires within { high ≤ length slice.now }
     requires callable { MayAskAlong J.Judge (slice_range slice.now low high) judge.old }
@@ -30,7 +35,12 @@ pub(crate) fn front_end<T, J: Judge<T>>(slice: &[T], low: usize, high: usize, ju
 
 /// The place where the last group of the elements from `low` up to `high` begins.
 #[inline]
-pub(crate) fn back_start<T, J: Judge<T>>(slice: &[T], low: usize, high: usize, judge: &mut J) -> usize
+pub(crate) fn back_start<T, J: Judge<T>>(
+    slice: &[T],
+    low: usize,
+    high: usize,
+    judge: &mut J,
+) -> usize
     requires order { low < high }
     requires within { high ≤ length slice.now }
     requires callable { MayAskAlong J.Judge (slice_range slice.now low high) judge.old }

@@ -1,5 +1,5 @@
 -- The judge by equality may always be asked, answers what equality says, and counts.
-use Rattle.std.specs.Prelude.{◌≡◌, ℕ, ◌+◌, Bool, List, [], ◌∷◌, ⊤, length}
+use Rattle.std.specs.Prelude.{◌≡◌, ◌+◌, Bool, List, [], ◌∷◌, ⊤, length}
 use Rattle.std.proofs.Common.{ap, arith}
 use Rattle.sgb_search.specs.Runs.{IsRun}
 use Rattle.sgb_search.specs.Judges.{MayAskAlong, AnswersAlong, by_equality}

@@ -1,10 +1,9 @@
 -- The neighbouring pairs of a list, and the questions along them.
-use Rattle.std.proofs.Common.{◌≡◌, ℕ, zero, suc, ◌+◌, ◌-◌, ◌<◌, ◌≤◌, Bool, true, false, List, [], ◌∷◌, ◌++◌, length, take, drop, get_or, Some, refl, sym, ap, ◌∙◌, subst, arith, append_assoc, inl, inr, length-drop, add-one}
-use Rattle.std.specs.Prelude.{reverse, map}
+use Rattle.std.proofs.Common.{◌≡◌, ℕ, zero, suc, ◌+◌, ◌-◌, ◌<◌, ◌≤◌, Bool, true, false, List, [], ◌∷◌, ◌++◌, length, take, drop, get_or, refl, sym, ap, ◌∙◌, arith, append_assoc, inl, inr, length-drop}
+use Rattle.std.specs.Prelude.{reverse}
 use Rattle.std.specs.List.{AllByRecursion}
-use Rattle.std.proofs.lemmas.List.{reverse-append, length-append, length-take, length-reverse, length-map, take-append-drop, get_or-reverse}
+use Rattle.std.proofs.lemmas.List.{reverse-append, length-append, length-take, length-reverse, length-map, get_or-reverse}
 use Rattle.std.proofs.Math.Seq.{take-append_seam, drop-append_seam}
-use Rattle.sgb_search.specs.Ends.{first, last}
 use Rattle.sgb_search.specs.Neighbours.{neighbours, IsOneOf, AreNeighbours, all_answered, questions_along, front_questions, back_questions, on_pairs}
 use Rattle.sgb_search.specs.Split.{IsAccepted, IsRefusedAcross}
 use Rattle.sgb_search.proofs.Each.{all_append, all_of_first, all_of_rest, all_each, all_take, all_drop, all_reverse, all_of_reverse, all_map, all_of_map}
@@ -146,9 +145,9 @@ module _ {A : Type 0} where
     pub back_says : (group rest : List A) → 0 < length group → AllByRecursion Agrees (back_questions (rest ++ group) (length group)) → IsAccepted p group × IsRefusedAcross p (rest, group)
     back_says group rest l h =
         let e : reverse (neighbours (rest ++ group)) ≡ reverse (neighbours group) ++ (across rest group ++ reverse (neighbours rest)) =
-            ap reverse (neighbours-append rest group) ∙ reverse-append (neighbours rest) (across rest group ++ neighbours group)
-            ∙ ap (λ l. l ++ reverse (neighbours rest)) (reverse-append (across rest group) (neighbours group) ∙ ap (λ l. reverse (neighbours group) ++ l) (reverse-across rest group))
-            ∙ append_assoc (reverse (neighbours group)) (across rest group) (reverse (neighbours rest)) in
+        ap reverse (neighbours-append rest group) ∙ reverse-append (neighbours rest) (across rest group ++ neighbours group)
+        ∙ ap (λ l. l ++ reverse (neighbours rest)) (reverse-append (across rest group) (neighbours group) ∙ ap (λ l. reverse (neighbours group) ++ l) (reverse-across rest group))
+        ∙ append_assoc (reverse (neighbours group)) (across rest group) (reverse (neighbours rest)) in
         let n = length-reverse (neighbours group) in
         let k = along_says (reverse (neighbours group)) (across rest group ++ reverse (neighbours rest)) (length group) (omega (arith, n, length-neighbours group)) (rw e at h) in
         (all_of_reverse _ (neighbours group) k.0, refused_across rest group (reverse (neighbours rest)) k.1)

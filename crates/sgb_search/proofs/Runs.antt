@@ -1,5 +1,5 @@
 -- Runs of questions, and what holds along them.
-use Rattle.std.proofs.Common.{◌≡◌, ℕ, ◌+◌, List, [], ◌∷◌, ◌++◌, length, length-append, refl, subst, sym}
+use Rattle.std.proofs.Common.{◌≡◌, ℕ, ◌+◌, List, [], ◌∷◌, ◌++◌, length-append, refl, subst, sym}
 use Rattle.std.specs.List.{AllByRecursion}
 use Rattle.sgb_search.specs.Runs.{IsRun, IsRunOf, MayAskAll, AnswersBy}
 use Rattle.sgb_search.proofs.Each.{all_append, all_of_rest, all_each}

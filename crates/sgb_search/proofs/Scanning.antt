@@ -1,14 +1,12 @@
 -- A scan, question by question: along pairs that are all accepted, up to the first that is refused.
-use Rattle.std.proofs.Common.{◌≡◌, ℕ, suc, ◌+◌, ◌-◌, ◌<◌, ◌≤◌, Bool, true, false, List, [], ◌∷◌, ◌++◌, length, take, drop, get_or, refl, sym, ap, ◌∙◌, subst, arith, drop-cons, length-drop}
-use Rattle.std.specs.Prelude.{map, reverse}
+use Rattle.std.proofs.Common.{◌≡◌, ℕ, suc, ◌+◌, ◌-◌, ◌<◌, ◌≤◌, Bool, true, false, List, [], ◌∷◌, ◌++◌, length, take, drop, get_or, ap, ◌∙◌, arith, drop-cons}
+use Rattle.std.specs.Prelude.{reverse}
 use Rattle.std.specs.List.{slice_range}
 use Rattle.std.proofs.lemmas.List.{take_more, map-append, append-nil, length-reverse}
 use Rattle.std.proofs.Math.ListN.{drop_of_length-le}
-use Rattle.sgb_search.specs.declared.judge.Judge.{Ghosts}
 use Rattle.sgb_search.specs.Runs.{IsRun}
-use Rattle.sgb_search.specs.Judges.{MayAskAlong}
-use Rattle.sgb_search.specs.Neighbours.{neighbours, AreNeighbours, all_answered, questions_along, front_questions, back_questions}
-use Rattle.sgb_search.proofs.Runs.{run_push, may_now}
+use Rattle.sgb_search.specs.Neighbours.{neighbours, AreNeighbours, all_answered, questions_along}
+use Rattle.sgb_search.proofs.Runs.{run_push}
 use Rattle.sgb_search.proofs.Pairs.{PairAt, at_reverse, one_of_at, length-neighbours}
 use Rattle.sgb_search.proofs.Ranges.{length-range, range_neighbours}
 

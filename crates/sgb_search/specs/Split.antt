@@ -2,7 +2,7 @@
 --     IsSplit p xs ps       ps are the pieces of xs for the test p
 --     split p xs            those pieces, computed
 --     refused_pairs p xs    how many neighbouring pairs of xs the test refuses
-use Rattle.std.specs.Prelude.{◌≡◌, ◌≢◌, ℕ, Bool, true, false, not, cond, List, [], ◌∷◌, Option, Some, flat_map, count_by}
+use Rattle.std.specs.Prelude.{◌≡◌, ◌≢◌, ℕ, Bool, true, false, not, List, [], ◌∷◌, Option, Some, flat_map, count_by}
 use Rattle.std.specs.List.{AllByRecursion}
 use Rattle.sgb_search.specs.Ends.{first, last, without_first, without_last}
 use Rattle.sgb_search.specs.Neighbours.{neighbours, on_pairs}

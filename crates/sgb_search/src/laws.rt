@@ -9,5 +9,4 @@ pub fn one_split<T>()
     ensures exists { (p : T → T → Bool) (xs : List T) → IsSplit p xs (split p xs) }
     ensures unique { (p : T → T → Bool) (xs : List T) (ps : List (List T)) → IsSplit p xs ps → ps ≡ split p xs }
     ensures count { (p : T → T → Bool) (xs : List T) → 0 < length xs → length (split p xs) ≡ refused_pairs p xs + 1 }
-{
-}
+{}

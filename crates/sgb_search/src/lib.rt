@@ -7,3 +7,5 @@
 pub mod judge;
 pub mod laws;
 pub mod questions;
+#[cfg(test)]
+mod tests;

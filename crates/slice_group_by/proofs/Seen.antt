@@ -1,9 +1,9 @@
 -- What calls at one end give of a settled queue, one after another.
-use Rattle.std.proofs.Common.{◌≡◌, Bool, List, [], ◌∷◌, ◌++◌, Option, None, Some, refl, sym, ap, ◌∙◌, reverse}
+use Rattle.std.proofs.Common.{◌≡◌, Bool, List, [], ◌∷◌, Option, None, Some, refl, sym, ap, ◌∙◌, reverse}
 use Rattle.std.specs.Prelude.{option_map}
 use Rattle.std.specs.Iterator.{AlwaysYields}
 use Rattle.std.proofs.lemmas.List.{reverse-append}
-use Rattle.sgb_search.specs.Ends.{first, last, without_first, without_last}
+use Rattle.sgb_search.specs.Ends.{last, without_last}
 use Rattle.sgb_search.specs.Split.{split}
 use Rattle.sgb_search.proofs.Splits.{last_push, without_last_push}
 use Rattle.slice_group_by.specs.declared.queue.End.{End}

@@ -25,7 +25,7 @@ pub fn sees_pieces<Q: GroupQueue>()
 /// How many groups come, whatever the judge answers: no more than elements go, and at least one before nothing remains
 /// of a nonempty remainder.
 #[inline]
-pub fn groups_come<Q: GroupQueue>()
+pub fn groups_still_come<Q: GroupQueue>()
     ensures most { (q t : Q) (ends : List End) (out : List (Option Q.Item)) → IsChain Q.gives q ends out t → count_by is_some out + length (Q.remainder t) ≤ length (Q.remainder q) }
     ensures least { (q t : Q) (ends : List End) (out : List (Option Q.Item)) → IsChain Q.gives q ends out t → Q.remainder q ≢ [] → Q.remainder t ≡ [] → 0 < count_by is_some out }
 {}

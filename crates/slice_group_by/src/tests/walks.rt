@@ -1,4 +1,9 @@
-//! Walks at concrete types.
+//! Walks at concrete types, and the definitions of a queue computed at small cases.
+ghost use Rattle.std.specs.Prelude.{◌≡◌, ℕ, [], ◌∷◌, Some, None};
+ghost use Rattle.slice_group_by.specs.declared.queue.End.TheVariants.{Front, Back};
+ghost use Rattle.slice_group_by.specs.Queue.{answers, left};
+ghost use Rattle.slice_group_by.specs.Walk.{handed};
+
 use crate::{End, LinearGroup, walk};
 
 #[test]
@@ -35,4 +40,16 @@ fn over_nothing(rt: HostRuntime) {
     walk(&mut groups, &[End::Front, End::Back], &mut out);
     assert_eq!(rt; out[0], None);
     assert_eq!(rt; out[1], None);
+}
+
+fn queue_of_three()
+    ensures answers { answers {X = ℕ} (1 ∷ 2 ∷ 3 ∷ []) (Front ∷ Back ∷ Front ∷ Back ∷ Front ∷ []) ≡ Some 1 ∷ Some 3 ∷ Some 2 ∷ None ∷ None ∷ [] }
+    ensures left { left {X = ℕ} (1 ∷ 2 ∷ 3 ∷ []) (Front ∷ Back ∷ []) ≡ 2 ∷ [] }
+    ensures front { handed {X = ℕ} Front (Front ∷ Back ∷ Front ∷ Back ∷ Front ∷ []) (Some 1 ∷ Some 3 ∷ Some 2 ∷ None ∷ None ∷ []) ≡ 1 ∷ 2 ∷ [] }
+    ensures back { handed {X = ℕ} Back (Front ∷ Back ∷ Front ∷ Back ∷ Front ∷ []) (Some 1 ∷ Some 3 ∷ Some 2 ∷ None ∷ None ∷ []) ≡ 3 ∷ [] }
+{}
+
+#[test]
+fn definitions_at_small_cases() {
+    queue_of_three();
 }

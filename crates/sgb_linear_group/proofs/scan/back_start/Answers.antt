@@ -1,4 +1,4 @@
-use Rattle.std.proofs.Common.{◌-◌, ◌<◌, ◌≤◌, arith, reverse}
+use Rattle.std.proofs.Common.{◌-◌, arith, reverse}
 use Rattle.std.specs.List.{slice_range}
 use Rattle.sgb_search.specs.Neighbours.{neighbours}
 use Rattle.sgb_search.proofs.Runs.{may_now, may_next}

@@ -1,4 +1,4 @@
-use Rattle.std.proofs.Common.{◌≡◌, ◌≤◌, length, take, arith, take_all, rules}
+use Rattle.std.proofs.Common.{arith, take_all, rules}
 use Rattle.std.proofs.lemmas.List.{take_more, take_more_set}
 use Rattle.slice_group_by.specs.declared.queue.End.TheVariants.{Front}
 use Rattle.slice_group_by.specs.Walk.{IsChain}

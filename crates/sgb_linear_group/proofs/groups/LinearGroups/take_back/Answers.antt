@@ -1,4 +1,4 @@
-use Rattle.std.proofs.Common.{◌≤◌, arith, subst, sym}
+use Rattle.std.proofs.Common.{arith, subst, sym}
 use Rattle.sgb_search.specs.Judges.{MayAskAlong}
 use Rattle.sgb_search.specs.Groups.{Groups}
 use Rattle.sgb_linear_group.proofs.Cuts.{back_cut, callable_front}

@@ -1,4 +1,4 @@
-use Rattle.std.proofs.Common.{◌≡◌, ◌+◌, ap, ◌∙◌, sym, length, map}
+use Rattle.std.proofs.Common.{ap, ◌∙◌, sym, length}
 use Rattle.std.proofs.lemmas.List.{length-map}
 use Rattle.std.proofs.lemmas.Iterator.{items_from_drains}
 use Rattle.slice_group_by.proofs.tests.users.count_groups.Goals as goal

@@ -1,5 +1,5 @@
 use Rattle.slice_group_by.proofs.Counts.{at_most_length, at_least_one}
-use Rattle.slice_group_by.proofs.laws.groups_come.Goals as goal
+use Rattle.slice_group_by.proofs.laws.groups_still_come.Goals as goal
 
 pub returns-clause-most : goal.returns-clause-most
 returns-clause-most g c = at_most_length _ _ _ g.met.Q.GroupQueue.part
