@@ -3,10 +3,9 @@ ghost use Rattle.std.specs.Prelude.{◌≡◌, ℕ, Bool, length, MatchOption, n
 ghost use Rattle.std.specs.Iterator.{UpTo};
 ghost use Rattle.std.specs.Iterator.SizeHint.{IsWithinCount};
 ghost use Rattle.sgb_search.specs.Groups.{groups_left};
-ghost use Rattle.sgb_search.specs.Judges.{by_equality};
 
 use crate::scan::{back_start, front_end};
-use sgb_search::judge::{EqualityJudge, Judge};
+use sgb_search::judge::Judge;
 use std::iter::FusedIterator;
 use std::marker::Model;
 
@@ -40,7 +39,7 @@ impl<'a, T, J> Model for LinearGroups<'a, T, J> {
 impl<'a, T, J> LinearGroups<'a, T, J> {
     // All groups of the slice are still to come.
     #[inline]
-    fn over(slice: &'a [T], judge: J) -> Self
+    pub(crate) fn over(slice: &'a [T], judge: J) -> Self
         ensures remainder { result.remainder ≡ slice.now }
         ensures judge { result.judge ≡ judge }
     {
@@ -147,31 +146,5 @@ impl<'a, T, J: Judge<T> + Drop> LinearGroups<'a, T, J> {
         ensures { (t : _) × GivesBack J.Judge self.entry result t }
     {
         self.next_back()
-    }
-}
-
-/// An iterator over the groups of equal elements of a slice, by `==` of neighbours.
-///
-/// ```
-/// let mut groups = LinearGroup::new(&[1, 1, 1, 3, 3, 2, 2, 2]);
-/// groups.next();      // Some([1, 1, 1])
-/// groups.next_back(); // Some([2, 2, 2])
-/// groups.next();      // Some([3, 3])
-/// groups.next_back(); // None
-/// ```
-pub type LinearGroup<'a, T> = LinearGroups<'a, T, EqualityJudge>;
-
-impl<'a, T: PartialEq> LinearGroups<'a, T, EqualityJudge> {
-    ghost use Rattle.sgb_linear_group.specs.Linear.{IsCallable, IsSettled};
-
-    /// All groups of equal elements of the slice, which are still to come. Nothing is asked yet.
-    #[inline]
-    pub fn new(slice: &'a [T]) -> Self
-        ensures remainder { result.remainder ≡ slice.now }
-        ensures asked { result.judge.questions.asked ≡ 0 }
-        ensures callable { IsCallable (by_equality T.eq) result }
-        ensures settled { IsSettled (by_equality T.eq) result T.eq }
-    {
-        LinearGroups::over(slice, EqualityJudge::new())
     }
 }

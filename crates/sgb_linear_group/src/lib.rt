@@ -3,4 +3,5 @@
 
 pub mod groups;
 pub mod laws;
+pub mod linear_group;
 mod scan;

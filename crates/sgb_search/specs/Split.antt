@@ -19,7 +19,7 @@ module _ {A : Type 0} where
 
     -- the pair of the last element of the one list and the first of the other is refused
     abbrev pub IsRefusedAcross : List A × List A → Type 0
-    IsRefusedAcross gs = (a b : A) → last gs.0 ≡ Some a → first gs.1 ≡ Some b → p a b ≡ false
+    IsRefusedAcross q = (a b : A) → last q.0 ≡ Some a → first q.1 ≡ Some b → p a b ≡ false
 
     -- ps is the split of xs: no piece is empty, neighbours inside a piece are accepted, and neighbours across two pieces are refused
     pub record IsSplit (xs : List A) (ps : List (List A)) : Type 0 where
@@ -34,7 +34,7 @@ module _ {A : Type 0} where
     put_before true x (g ∷ gs) = (x ∷ g) ∷ gs
     put_before false x gs = (x ∷ []) ∷ gs
 
-    -- the split, computed from the back
+    -- the split, computed: each element comes before the pieces of those after it
     abbrev pub split : List A → List (List A)
     split [] = []
     split (x ∷ []) = (x ∷ []) ∷ []

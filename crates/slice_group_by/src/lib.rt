@@ -19,4 +19,4 @@ mod queue;
 mod tests;
 
 pub use queue::{End, GroupQueue, walk};
-pub use sgb_linear_group::groups::LinearGroup;
+pub use sgb_linear_group::linear_group::LinearGroup;
