@@ -50,6 +50,20 @@ impl<'a, T, J> LinearGroups<'a, T, J> {
             judge,
         }
     }
+
+    #[inline]
+    pub(crate) fn rest(&self) -> &'a [T]
+        ensures { result.now ≡ self.now.remainder }
+    {
+        &self.slice[self.low..self.high]
+    }
+
+    #[inline]
+    pub(crate) fn len(&self) -> usize
+        ensures { result ≡ length self.now.remainder }
+    {
+        self.high - self.low
+    }
 }
 
 impl<'a, T, J: Judge<T>> LinearGroups<'a, T, J> {
@@ -110,7 +124,7 @@ impl<'a, T, J: Judge<T> + Drop> Iterator for LinearGroups<'a, T, J> {
         ensures lower { IsWithinCount result.0 (groups_left self.now) }
         ensures upper { IfSome result.1 (UpTo (groups_left self.now)) }
     {
-        let len = self.high - self.low;
+        let len = self.len();
         if len == 0 {
             return (0, Some(0));
         }

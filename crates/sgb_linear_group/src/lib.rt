@@ -4,4 +4,6 @@
 pub mod groups;
 pub mod laws;
 pub mod linear_group;
+pub mod linear_group_by;
+pub mod linear_group_by_key;
 mod scan;

@@ -5,3 +5,4 @@ pub mod Runs
 pub mod Ranges
 pub mod Scanning
 pub mod Equality
+pub mod Closures

@@ -2,6 +2,7 @@
 ghost use Rattle.std.specs.Prelude.{◌≡◌, Bool};
 
 use crate::questions::Questions;
+use std::marker::PhantomData;
 
 /// Decides whether two elements belong together.
 ///
@@ -17,6 +18,47 @@ pub trait Judge<T> {
     fn ask(&mut self, left: &T, right: &T) -> bool
         requires { may_ask self.old (left.now, right.now) }
         ensures { answers self.old (left.now, right.now) result self.new };
+}
+
+/// Asks a predicate: one call a question, on the left element and the right one.
+#[derive(Drop)]
+pub struct PredicateJudge<P> {
+    pub predicate: P,
+}
+
+impl<T, P: FnMut(&T, &T) -> bool> Judge<T> for PredicateJudge<P> {
+    ghost use Rattle.sgb_search.specs.Judges.{by_predicate};
+
+    ghost may_ask = { (by_predicate P.FnMut).may_ask };
+
+    ghost answers = { (by_predicate P.FnMut).answers };
+
+    #[inline]
+    fn ask(&mut self, left: &T, right: &T) -> bool {
+        (self.predicate)(left, right)
+    }
+}
+
+/// Asks for the keys: a call of the key function on the left element, then one on the right, then `==` of the two keys.
+#[derive(Drop)]
+pub struct KeyJudge<F, K> {
+    pub func: F,
+    pub key: PhantomData<K>,
+}
+
+impl<T, K: PartialEq + Drop, F: FnMut(&T) -> K> Judge<T> for KeyJudge<F, K> {
+    ghost use Rattle.sgb_search.specs.Judges.{by_key};
+
+    ghost may_ask = { (by_key F.FnMut K.eq).may_ask };
+
+    ghost answers = { (by_key F.FnMut K.eq).answers };
+
+    #[inline]
+    fn ask(&mut self, left: &T, right: &T) -> bool {
+        let left_key = (self.func)(left);
+        let right_key = (self.func)(right);
+        left_key == right_key
+    }
 }
 
 /// Asks `==` of the elements, once a question. It may always be asked.

@@ -17,6 +17,10 @@ mod linear;
 mod queue;
 #[cfg(test)]
 mod tests;
+mod traits;
 
 pub use queue::{End, GroupQueue, walk};
 pub use sgb_linear_group::linear_group::LinearGroup;
+pub use sgb_linear_group::linear_group_by::LinearGroupBy;
+pub use sgb_linear_group::linear_group_by_key::LinearGroupByKey;
+pub use traits::GroupBy;

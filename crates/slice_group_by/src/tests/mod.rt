@@ -1,4 +1,5 @@
 //! What no contract says, and users' functions over the public contracts.
+mod closures;
 mod linear;
 mod users;
 mod walks;

@@ -20,10 +20,11 @@ fn count_groups<T: PartialEq>(xs: &[T]) -> usize
     ensures none { length xs.now ≡ 0 → result ≡ 0 }
     ensures some { 0 < length xs.now → result ≡ refused_pairs T.eq xs.now + 1 }
 {
+    let groups = LinearGroup::new(xs);
+    sees_pieces(&groups);
     one_split::<T>();
-    sees_pieces::<LinearGroup<T>>();
     let mut count = 0;
-    for _group in LinearGroup::new(xs) {
+    for _group in groups {
         count += 1;
     }
     count

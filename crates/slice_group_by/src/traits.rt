@@ -1,0 +1,80 @@
+//! Groups by a method of the slice.
+ghost use Rattle.std.specs.Prelude.{◌≡◌, Bool, List};
+ghost use Rattle.std.specs.Fn.{ComputesOnPairs, ComputesKey};
+ghost use Rattle.sgb_search.specs.Judges.{by_predicate, predicate_judge, by_key, key_judge, by_equality};
+ghost use Rattle.sgb_linear_group.specs.Linear.{IsCallable, IsSettled};
+
+use crate::{LinearGroup, LinearGroupBy, LinearGroupByKey};
+
+/// Groups of neighbouring elements, for reading.
+///
+/// A method requires what `new` of its type requires, and gives what it gives on the whole slice. The groups live as long
+/// as the borrow of the variable; groups from `new` live as long as the slice.
+///
+/// ```
+/// let slice: &[i32] = &[1, 1, 1, 3, 3, 2, 2, 2];
+/// let mut groups = slice.linear_group_by(|a, b| a == b);
+/// groups.next();      // Some([1, 1, 1])
+/// groups.next_back(); // Some([2, 2, 2])
+/// ```
+pub trait GroupBy<T> {
+    // The elements that are grouped.
+    ghost elements: { Self → List T };
+
+    /// Groups by a key: neighbours whose keys are equal belong together.
+    fn linear_group_by_key<F, K>(&self, func: F) -> LinearGroupByKey<'_, T, F, K>
+    where
+        F: FnMut(&T) -> K,
+        K: PartialEq + Drop,
+        requires { IsCallable (by_key F.FnMut K.eq) (record { remainder = elements self.now; judge = key_judge func }) }
+        ensures is { result ≡ record { remainder = elements self.now; judge = key_judge func } }
+        ensures callable { IsCallable (by_key F.FnMut K.eq) result }
+        ensures settled { (key : T → K) → ComputesKey F.FnMut key func → IsSettled (by_key F.FnMut K.eq) result (λ x y. K.eq (key x) (key y)) };
+
+    /// Groups by a predicate: neighbours of which it says yes, the left one first, belong together.
+    fn linear_group_by<P>(&self, predicate: P) -> LinearGroupBy<'_, T, P>
+    where
+        P: FnMut(&T, &T) -> bool,
+        requires { IsCallable (by_predicate P.FnMut) (record { remainder = elements self.now; judge = predicate_judge predicate }) }
+        ensures is { result ≡ record { remainder = elements self.now; judge = predicate_judge predicate } }
+        ensures callable { IsCallable (by_predicate P.FnMut) result }
+        ensures settled { (p : T → T → Bool) → ComputesOnPairs P.FnMut p predicate → IsSettled (by_predicate P.FnMut) result p };
+
+    /// Groups of equal elements.
+    fn linear_group(&self) -> LinearGroup<'_, T>
+    where
+        T: PartialEq,
+        ensures remainder { result.remainder ≡ elements self.now }
+        ensures asked { result.judge.questions.asked ≡ 0 }
+        ensures callable { IsCallable (by_equality T.eq) result }
+        ensures settled { IsSettled (by_equality T.eq) result T.eq };
+}
+
+impl<T> GroupBy<T> for &[T] {
+    ghost elements = { λ slice. slice.now };
+
+    #[inline]
+    fn linear_group_by_key<F, K>(&self, func: F) -> LinearGroupByKey<'_, T, F, K>
+    where
+        F: FnMut(&T) -> K,
+        K: PartialEq + Drop,
+    {
+        LinearGroupByKey::new(*self, func)
+    }
+
+    #[inline]
+    fn linear_group_by<P>(&self, predicate: P) -> LinearGroupBy<'_, T, P>
+    where
+        P: FnMut(&T, &T) -> bool,
+    {
+        LinearGroupBy::new(*self, predicate)
+    }
+
+    #[inline]
+    fn linear_group(&self) -> LinearGroup<'_, T>
+    where
+        T: PartialEq,
+    {
+        LinearGroup::new(*self)
+    }
+}
