@@ -1,3 +1,3 @@
 pub mod Cuts
 pub mod Pieces
-pub mod Asked
+pub mod PairsAsked

@@ -1,9 +1,9 @@
 -- What the calls of an iterator over linear groups give.
-use Rattle.std.specs.Prelude.{◌≡◌, ◌<◌, Bool, List, [], ◌++◌, length, Option, MatchOption}
+use Rattle.std.specs.Prelude.{◌≡◌, ◌<◌, Bool, List, [], ◌++◌, length, map, Option, MatchOption, IsPermutation}
 use Rattle.std.specs.Borrow.{Bor}
 use Rattle.sgb_search.specs.declared.judge.Judge.{Ghosts}
 use Rattle.sgb_search.specs.Runs.{IsRun}
-use Rattle.sgb_search.specs.Neighbours.{front_questions, back_questions}
+use Rattle.sgb_search.specs.Neighbours.{neighbours, front_questions, back_questions}
 use Rattle.sgb_search.specs.Judges.{MayAskAlong, AnswersAlong}
 use Rattle.sgb_search.specs.Groups.{Groups}
 
@@ -35,3 +35,9 @@ module _ {T J : Type 0} (g : Ghosts J T) where
   -- a call at the back
   abbrev pub GivesBack : Groups T J → Option (Bor (List T)) → Groups T J → Type 0
   GivesBack s r t = MatchOption r ((s.remainder ≡ []) × (t ≡ s)) (λ group. IsBackGroup s group.now t)
+
+  -- from s to t the judge was asked about the neighbouring pairs that are gone, about each once
+  pub record AsksEachOnce (s t : Groups T J) : Type 0 where
+    pub questions : List ((T × T) × Bool)
+    pub run : IsRun g.may_ask g.answers s.judge questions t.judge
+    pub pairs : IsPermutation (map (λ r. r.0) questions ++ neighbours t.remainder) (neighbours s.remainder)

@@ -60,30 +60,6 @@ module _ {A : Type 0} where
   pub back_about : (xs : List A) (g : ℕ) → AllByRecursion (λ r. AreNeighbours xs r.0) (back_questions xs g)
   back_about xs g = along_about (AreNeighbours xs) (reverse (neighbours xs)) g (all_reverse (AreNeighbours xs) (neighbours xs) (all_one_of (neighbours xs)))
 
-  length_all_answered : (b : Bool) (qs : List (A × A)) → length (all_answered b qs) ≡ length qs
-  length_all_answered b qs = length-map qs (λ q. (q, b))
-
-  -- how many questions there are: with the pairs that are left they are all
-  along_length : (qs : List (A × A)) (g : ℕ) → 0 < g → g ≤ length qs + 1 → length (questions_along qs g) + (length qs - g) ≡ length qs
-  along_length qs g h l =
-      omega (
-        arith,
-        length-append (all_answered true (take (g - 1) qs)) (all_answered false (take 1 (drop (g - 1) qs))),
-        length_all_answered true (take (g - 1) qs),
-        length_all_answered false (take 1 (drop (g - 1) qs)),
-        length-take (g - 1) qs,
-        length-take 1 (drop (g - 1) qs),
-        length-drop (g - 1) qs,
-      )
-
-  pub front_length : (xs : List A) (g : ℕ) → 0 < g → g ≤ length xs → length (front_questions xs g) + (length xs - g - 1) ≡ length xs - 1
-  front_length xs g h l = omega (arith, length-neighbours xs, along_length (neighbours xs) g h (omega (arith, length-neighbours xs)))
-
-  pub back_length : (xs : List A) (g : ℕ) → 0 < g → g ≤ length xs → length (back_questions xs g) + (length xs - g - 1) ≡ length xs - 1
-  back_length xs g h l =
-      let n = length-reverse (neighbours xs) in
-      omega (arith, length-neighbours xs, n, along_length (reverse (neighbours xs)) g h (omega (arith, length-neighbours xs, n)))
-
   -- a pair at its place
   pub record PairAt (qs : List (A × A)) (k : ℕ) (q : A × A) : Type 0 where
     pub inside : k < length qs

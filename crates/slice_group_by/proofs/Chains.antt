@@ -10,7 +10,7 @@ use Rattle.slice_group_by.specs.declared.queue.End.TheVariants.{Front, Back}
 use Rattle.slice_group_by.specs.Queue.{answers, left}
 use Rattle.slice_group_by.specs.Walk.{TakesPiece, TakesPart, handed, kept, IsChain, AnswersAsQueue, AsksWithin}
 
-joined_push : {A : Type 0} (gs : List (List A)) (g : List A) → joined (gs ++ g ∷ []) ≡ joined gs ++ g
+pub joined_push : {A : Type 0} (gs : List (List A)) (g : List A) → joined (gs ++ g ∷ []) ≡ joined gs ++ g
 joined_push gs g = flat_map-append (λ x. x) gs (g ∷ []) ∙ ap (λ l. joined gs ++ l) (append-nil g)
 
 -- one call more, in front of the others: the front groups fs, what remains z, and the back groups bs join to ys

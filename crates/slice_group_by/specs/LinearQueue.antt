@@ -1,5 +1,5 @@
 -- Linear groups as queues: what a call at each end gives, and the laws of a queue for it.
-use Rattle.std.proofs.Common.{◌≡◌, ℕ, ◌+◌, ◌<◌, Bool, true, List, [], length, Option, None, Some, ap, ◌∙◌, arith}
+use Rattle.std.proofs.Common.{◌≡◌, ℕ, ◌+◌, ◌<◌, Bool, true, List, [], length, Option, None, Some, ap, ◌∙◌, arith, refl}
 use Rattle.std.specs.Prelude.{option_map}
 use Rattle.std.specs.Borrow.{Bor}
 use Rattle.sgb_search.specs.declared.judge.Judge.{Ghosts}
@@ -7,9 +7,9 @@ use Rattle.sgb_search.specs.Runs.{IsRunOf}
 use Rattle.sgb_search.specs.Neighbours.{neighbours}
 use Rattle.sgb_search.specs.Groups.{Groups}
 use Rattle.sgb_search.proofs.Runs.{run_of_none, run_of_more}
-use Rattle.sgb_linear_group.specs.Linear.{IsSettled, GivesFront, GivesBack}
+use Rattle.sgb_linear_group.specs.Linear.{IsSettled, GivesFront, GivesBack, AsksEachOnce}
 use Rattle.sgb_linear_group.proofs.Pieces.{front_gives_piece, back_gives_piece}
-use Rattle.sgb_linear_group.proofs.Asked.{AsksPairs, front_asks_pairs, back_asks_pairs}
+use Rattle.sgb_linear_group.proofs.PairsAsked.{front_asks_once, back_asks_once, count_asked}
 use Rattle.slice_group_by.specs.declared.queue.End.{End}
 use Rattle.slice_group_by.specs.declared.queue.End.TheVariants.{Front, Back}
 use Rattle.slice_group_by.specs.Walk.{TakesPart, TakesPiece, AsksWithin}
@@ -50,9 +50,9 @@ module _ {T J : Type 0} (g : Ghosts J T) where
   abbrev due : Groups T J → ℕ
   due s = length (neighbours s.remainder)
 
-  within : (s t : Groups T J) → AsksPairs g s t → AsksWithin asked_between due true s t
-  within s t a = (a.n, a.asked, omega (arith, a.fewer), λ _. a.fewer)
+  pub asks_once : (e : End) (s : Groups T J) (r : Option (Bor (List T))) (t : Groups T J) → gives_at e s r t → AsksEachOnce g s t
+  asks_once Front s r t h = front_asks_once g s t r h
+  asks_once Back s r t h = back_asks_once g s t r h
 
   pub asks : (e : End) (s : Groups T J) (r : Option (Bor (List T))) (t : Groups T J) → gives_at e s r t → AsksWithin asked_between due true s t
-  asks Front s r t h = within s t (front_asks_pairs g s t r h)
-  asks Back s r t h = within s t (back_asks_pairs g s t r h)
+  asks e s r t h = let a = asks_once e s r t h in let n = count_asked g s t a in (length a.questions, (a.questions, a.run, refl), omega (arith, n), λ _. n)
