@@ -41,16 +41,14 @@ pub fn groups_join<Q: GroupQueue>(_queue: &Q)
     ensures back { (q t : Q) (groups : List Q.Item) → Yields (Q.gives Back) q groups t → Q.remainder t ++ joined (reverse (map Q.shows groups)) ≡ Q.remainder q }
     ensures whole_front { (q : Q) (groups : List Q.Item) → Drains (Q.gives Front) q groups → joined (map Q.shows groups) ≡ Q.remainder q }
     ensures whole_back { (q : Q) (groups : List Q.Item) → Drains (Q.gives Back) q groups → joined (reverse (map Q.shows groups)) ≡ Q.remainder q }
-{
-}
+{}
 
 /// Front and back agree: the groups from the back until nothing remains are, in reverse, those from the front, for every
 /// test that the queue is settled for, also one that is not symmetric.
 #[inline]
 pub fn ends_agree<Q: GroupQueue>(_queue: &Q)
     ensures { (p : Q.Element → Q.Element → Bool) (q s t : Q) (fronts backs : List Q.Item) → Q.is_settled q p → Yields (Q.gives Front) q fronts s → Q.remainder s ≡ [] → Yields (Q.gives Back) q backs t → Q.remainder t ≡ [] → reverse (map Q.shows backs) ≡ map Q.shows fronts }
-{
-}
+{}
 
 /// How many groups come, whatever the judge answers: no more than elements go, and at least one before nothing remains
 /// of a nonempty remainder.
@@ -66,8 +64,7 @@ pub fn groups_still_come<Q: GroupQueue>(_queue: &Q)
 pub fn each_pair_asked_once<T, J: Judge<T>>(_groups: &LinearGroups<'_, T, J>)
     ensures pairs { (s t : Groups T J) (ends : List End) (out : List (Option (Bor (List T)))) → IsChain (gives_at J.Judge) s ends out t → AsksEachOnce J.Judge s t }
     ensures whole { (s t : Groups T J) (ends : List End) (out : List (Option (Bor (List T)))) → IsChain (gives_at J.Judge) s ends out t → t.remainder ≡ [] → IsRunOf J.may_ask J.answers (length s.remainder - 1) s.judge t.judge }
-{
-}
+{}
 
 /// The questions of an equality type are what its counter goes up by.
 #[inline]

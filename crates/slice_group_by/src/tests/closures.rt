@@ -58,7 +58,12 @@ fn by_tens<'a>(slice: &'a &[u8], ends: &[End], out: &mut [Option<&'a [u8]>])
 }
 
 // Over any closure that may always be called.
-fn groups_by<'a, T, P: FnMut(&T, &T) -> bool>(xs: &'a [T], predicate: P, ends: &[End], out: &mut [Option<&'a [T]>])
+fn groups_by<'a, T, P: FnMut(&T, &T) -> bool>(
+    xs: &'a [T],
+    predicate: P,
+    ends: &[End],
+    out: &mut [Option<&'a [T]>],
+)
     requires len { length out.old ≡ length ends.now }
     requires callable { P.IsAlwaysCallable predicate }
     ensures { (p : T → T → Bool) → ComputesOnPairs P.FnMut p predicate → map (option_map (λ group. group.now)) out.new ≡ answers (split p xs.now) ends.now }
@@ -68,7 +73,12 @@ fn groups_by<'a, T, P: FnMut(&T, &T) -> bool>(xs: &'a [T], predicate: P, ends: &
     walk(&mut groups, ends, out);
 }
 
-fn groups_by_key<'a, T, F: FnMut(&T) -> K, K: PartialEq + Drop>(xs: &'a [T], func: F, ends: &[End], out: &mut [Option<&'a [T]>])
+fn groups_by_key<'a, T, F: FnMut(&T) -> K, K: PartialEq + Drop>(
+    xs: &'a [T],
+    func: F,
+    ends: &[End],
+    out: &mut [Option<&'a [T]>],
+)
     requires len { length out.old ≡ length ends.now }
     requires callable { F.IsAlwaysCallable func }
     ensures { (key : T → K) → ComputesKey F.FnMut key func → map (option_map (λ group. group.now)) out.new ≡ answers (split (λ a b. K.eq (key a) (key b)) xs.now) ends.now }

@@ -1,0 +1,10 @@
+use Rattle.std.proofs.Common.{rules, length, map, ◌∙◌, sym}
+use Rattle.std.proofs.lemmas.Iterator.{YieldsList-from_map}
+use Rattle.std.proofs.lemmas.Iterator.Consumers.{nth_from_yields_List, YieldsList-at}
+use Rattle.std.proofs.lemmas.Iterator.Adapters.{option_map_id}
+use Rattle.slice_group_by.proofs.tests.loops.nth_length.Goals as goal
+
+pub returns : goal.returns
+returns g c =
+    let seen = YieldsList-at c.map.ensures.source (c.sees_pieces.ensures.front g.T.PartialEq.eq _ c.new-groups.ensures.settled) in
+    rw c.new-groups.ensures.remainder at (sym (option_map_id _) ∙ nth_from_yields_List {v = λ r. r} _ _ _ c.nth.ensures.ran (YieldsList-from_map _ length seen c.map.ensures.closure (λ x r q k. search rules)))
