@@ -1,5 +1,8 @@
-//! The rows: the calls of each, and the answers that are wanted.
-use slice_group_by::{End, LinearGroup, walk};
+//! The rows: the calls of each, the answers that are wanted, and the questions that may be asked.
+ghost use Rattle.std.specs.Prelude.{◌<ℤ◌};
+
+use slice_group_by::{End, GroupBy, LinearGroup, LinearGroupBy, walk};
+use std::cell::Cell;
 use std::io::{Error, Write};
 
 /// Writes a line for each row, in the order of their numbers, and answers whether each gave what is wanted.
@@ -7,11 +10,29 @@ use std::io::{Error, Write};
 /// A row that differs is written as such, and the run goes on. A fault of the writer ends the run at once.
 pub fn run<W: Write>(out: &mut W) -> Result<bool, Error> {
     let mut same = true;
+    same &= row_1(out)?;
     same &= row_2(out)?;
+    same &= row_3(out)?;
+    same &= row_13(out)?;
+    same &= row_17(out)?;
     Ok(same)
 }
 
 type Group = Option<&'static [i32]>;
+
+const ROW_1: [Group; 4] = [Some(&[1, 1, 1]), Some(&[3, 3]), Some(&[2, 2, 2]), None];
+
+// Groups by a key, which is called twice a question.
+fn row_1<W: Write>(out: &mut W) -> Result<bool, Error> {
+    let slice: &[i32] = &[1, 1, 1, 3, 3, 2, 2, 2];
+    let mut calls = 0usize;
+    let mut groups = slice.linear_group_by_key(|x| {
+        calls = calls.wrapping_add(1);
+        x.wrapping_neg()
+    });
+    let answers = [groups.next(), groups.next(), groups.next(), groups.next()];
+    write_groups(out, 1, &answers, &ROW_1, calls == 14)
+}
 
 const ROW_2: [Group; 5] = [
     Some(&[1, 1, 1]),
@@ -28,17 +49,70 @@ fn row_2<W: Write>(out: &mut W) -> Result<bool, Error> {
     let ends = [End::Front, End::Back, End::Front, End::Back, End::Front];
     let mut answers: [Option<&[i32]>; 5] = [None; 5];
     walk(&mut groups, &ends, &mut answers);
-    write_groups(out, 2, &answers, &ROW_2)
+    write_groups(out, 2, &answers, &ROW_2, true)
 }
 
-// Writes the line of a row whose answers are groups.
+const ROW_3: [Group; 3] = [Some(&[1, 2, 3]), Some(&[2, 3]), None];
+
+// Groups by a predicate that is not symmetric: three questions for the first, one for the second.
+fn row_3<W: Write>(out: &mut W) -> Result<bool, Error> {
+    let slice: &[i32] = &[1, 2, 3, 2, 3];
+    let questions = Cell::new(0usize);
+    let mut groups = slice.linear_group_by(|a, b| {
+        questions.set(questions.get().wrapping_add(1));
+        a < b
+    });
+    let first = groups.next();
+    let for_first = questions.get();
+    let second = groups.next();
+    let for_both = questions.get();
+    let answers = [first, second, groups.next()];
+    let counted = for_first == 3 && for_both == 4 && questions.get() == 4;
+    write_groups(out, 3, &answers, &ROW_3, counted)
+}
+
+const ROW_13: [Group; 3] = [Some(&[7, 8]), Some(&[9, 10]), None];
+
+// A predicate that refuses its second question alone.
+fn row_13<W: Write>(out: &mut W) -> Result<bool, Error> {
+    let slice: &[i32] = &[7, 8, 9, 10];
+    let mut questions = 0usize;
+    let mut groups = slice.linear_group_by(|_a, _b| {
+        questions = questions.wrapping_add(1);
+        questions != 2
+    });
+    let answers = [groups.next(), groups.next(), groups.next()];
+    write_groups(out, 13, &answers, &ROW_13, questions == 3)
+}
+
+const ROW_17: [Group; 2] = [Some(&[1, 2, 3, 4, 5]), None];
+
+// A predicate that may be called only where the left element is below the right one, from the back.
+fn row_17<W: Write>(out: &mut W) -> Result<bool, Error> {
+    let slice = [1, 2, 3, 4, 5];
+    let mut questions = 0usize;
+    let mut groups = LinearGroupBy::new(
+        &slice,
+        |a: &i32, b: &i32| -> bool
+            requires { a.now <ℤ b.now }
+        {
+            questions = questions.wrapping_add(1);
+            true
+        },
+    );
+    let answers = [groups.next_back(), groups.next_back()];
+    write_groups(out, 17, &answers, &ROW_17, questions == 4)
+}
+
+// Writes the line of a row whose answers are groups; `counted` says whether it asked as often as is wanted.
 fn write_groups<W: Write>(
     out: &mut W,
     row: u32,
     answers: &[Option<&[i32]>],
     wanted: &[Option<&[i32]>],
+    counted: bool,
 ) -> Result<bool, Error> {
-    if answers != wanted {
+    if answers != wanted || !counted {
         writeln!(out, "row {row}: differs")?;
         return Ok(false);
     }
@@ -57,11 +131,15 @@ fn write_groups<W: Write>(
 mod tests {
     use super::*;
 
-    const LINES: &[u8] = b"row 2: [1, 1, 1] [2, 2, 2] [3, 3] None None\n";
+    const LINES: &[u8] = b"row 1: [1, 1, 1] [3, 3] [2, 2, 2] None\n\
+row 2: [1, 1, 1] [2, 2, 2] [3, 3] None None\n\
+row 3: [1, 2, 3] [2, 3] None\n\
+row 13: [7, 8] [9, 10] None\n\
+row 17: [1, 2, 3, 4, 5] None\n";
 
     #[test]
     fn writes_the_lines(rt: HostRuntime) {
-        let mut bytes = [0u8; 44];
+        let mut bytes = [0u8; 169];
         assert_eq!(rt; bytes.len(), LINES.len());
         let mut rest: &mut [u8] = &mut bytes;
         assert!(rt; matches!(run(&mut rest), Ok(true)));
@@ -70,8 +148,8 @@ mod tests {
 
     #[test]
     fn ends_at_a_fault_of_the_writer(rt: HostRuntime) {
-        for room in 0..44 {
-            let mut bytes = [0u8; 44];
+        for room in 0..169 {
+            let mut bytes = [0u8; 169];
             let mut rest: &mut [u8] = &mut bytes[..room];
             assert!(rt; run(&mut rest).is_err(), "with room for {room} bytes");
         }
@@ -79,14 +157,15 @@ mod tests {
 
     #[test]
     fn says_which_row_differs(rt: HostRuntime) {
-        let mut bytes = [0u8; 26];
+        let mut bytes = [0u8; 41];
         let mut rest: &mut [u8] = &mut bytes;
         let group: [Group; 1] = [Some(&[1])];
-        assert!(rt; matches!(write_groups(&mut rest, 7, &[None], &group), Ok(false)));
-        assert!(rt; matches!(write_groups(&mut rest, 8, &group, &group), Ok(true)));
+        assert!(rt; matches!(write_groups(&mut rest, 7, &[None], &group, true), Ok(false)));
+        assert!(rt; matches!(write_groups(&mut rest, 8, &group, &group, false), Ok(false)));
+        assert!(rt; matches!(write_groups(&mut rest, 9, &group, &group, true), Ok(true)));
         assert_eq!(rt;
             bytes.as_slice(),
-            b"row 7: differs\nrow 8: [1]\n".as_slice()
+            b"row 7: differs\nrow 8: differs\nrow 9: [1]\n".as_slice()
         );
     }
 }

@@ -150,3 +150,10 @@ fn elements_of_no_bytes(rt: HostRuntime) {
     assert_eq!(rt; groups.next_back(), Some([(), (), (), (), ()].as_slice()));
     assert_eq!(rt; groups.next(), None);
 }
+
+#[test]
+fn last_of_nothing(rt: HostRuntime) {
+    let slice: [i32; 0] = [];
+    let groups = LinearGroup::new(&slice);
+    assert_eq!(rt; groups.last(), None);
+}

@@ -1,6 +1,7 @@
 //! What no contract says, and users' functions over the public contracts.
 mod closures;
 mod linear;
+mod linear_by;
 mod loops;
 mod users;
 mod walks;
