@@ -1,3 +1,4 @@
 pub mod Cuts
 pub mod Pieces
 pub mod PairsAsked
+pub mod Queue

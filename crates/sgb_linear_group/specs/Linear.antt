@@ -12,11 +12,11 @@ module _ {T J : Type 0} (g : Ghosts J T) where
   abbrev pub IsCallable : Groups T J → Type 0
   IsCallable s = MayAskAlong g s.remainder s.judge
 
-  -- and then it answers what p says
+  -- each answer to questions about the neighbouring pairs that remain is what p says
   abbrev pub IsSettled : Groups T J → (T → T → Bool) → Type 0
   IsSettled s p = AnswersAlong g s.remainder p s.judge
 
-  -- the group is a nonempty beginning of the remainder, what follows it remains, and the questions up to its end were asked
+  -- the group is a nonempty beginning of the remainder, t has the rest, and exactly the questions up to the group's end were asked
   pub record IsFrontGroup (s : Groups T J) (group : List T) (t : Groups T J) : Type 0 where
     pub nonempty : 0 < length group
     pub cut : s.remainder ≡ group ++ t.remainder

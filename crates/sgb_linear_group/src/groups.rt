@@ -2,7 +2,7 @@
 ghost use Rattle.std.specs.Prelude.{◌≡◌, ℕ, Bool, length, MatchOption, nat_eq, if◌then◌else◌, IfSome};
 ghost use Rattle.std.specs.Iterator.{UpTo};
 ghost use Rattle.std.specs.Iterator.SizeHint.{IsWithinCount};
-ghost use Rattle.sgb_search.specs.Groups.{groups_left};
+ghost use Rattle.sgb_search.specs.Groups.{Groups, groups_left};
 
 use crate::scan::{back_start, front_end};
 use sgb_search::judge::Judge;
@@ -13,9 +13,9 @@ use std::marker::Model;
 ///
 /// Contracts see of it the elements that it has not handed out yet, its `remainder`, and its `judge`.
 ///
-/// A call costs one question for each element of the group that it hands out, and none more: it asks about the
-/// neighbouring pairs from its end on, the left element first from both ends, up to the first pair that the judge
-/// refuses. No pair is asked about twice.
+/// A call asks about the neighbouring pairs of the remainder from its end on, the left element first from both ends, up
+/// to the first pair that the judge refuses. So a group of g elements costs g questions, or g - 1 if nothing remains after
+/// it. A list of calls asks about no pair twice.
 #[derive(Drop)]
 pub struct LinearGroups<'a, T, J> {
     slice: &'a [T],
@@ -151,13 +151,15 @@ impl<'a, T, J: Judge<T> + Drop> FusedIterator for LinearGroups<'a, T, J> {}
 impl<'a, T, J: Judge<T> + Drop> LinearGroups<'a, T, J> {
     ghost use Rattle.sgb_linear_group.specs.Linear.{IsCallable, GivesBack};
 
-    /// What `next_back` gives, with its questions: the last group of the remainder. The iterator is given up.
+    /// The last group of the remainder, or `None` where nothing remains: what `next_back` gives. The iterator is given up.
     ///
-    /// `Iterator::last` walks all groups from the front; this one scans the last group alone.
+    /// It asks what `next_back` asks, which leads the judge to some state `t`; what is asked after that, before the judge is
+    /// given up, is nothing, which is read in the code. `Iterator::last` walks all groups from the front; this one scans
+    /// the last group alone.
     #[inline]
     pub fn last(mut self) -> Option<&'a [T]>
         requires { IsCallable J.Judge self }
-        ensures { (t : _) × GivesBack J.Judge self.entry result t }
+        ensures { (t : Groups T J) × GivesBack J.Judge self.entry result t }
     {
         self.next_back()
     }

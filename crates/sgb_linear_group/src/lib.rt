@@ -2,7 +2,6 @@
 #![tactic(auto)]
 
 pub mod groups;
-pub mod laws;
 pub mod linear_group;
 pub mod linear_group_by;
 pub mod linear_group_by_key;

@@ -1,5 +1,5 @@
 -- The neighbouring pairs of a list, and the questions along them.
-use Rattle.std.proofs.Common.{◌≡◌, ℕ, zero, suc, ◌+◌, ◌-◌, ◌<◌, ◌≤◌, Bool, true, false, List, [], ◌∷◌, ◌++◌, length, take, drop, get_or, refl, sym, ap, ◌∙◌, arith, append_assoc, inl, inr, length-drop}
+use Rattle.std.proofs.Common.{◌≡◌, ℕ, zero, suc, ◌+◌, ◌-◌, ◌<◌, ◌≤◌, Bool, true, false, List, [], ◌∷◌, ◌++◌, length, take, drop, get_or, refl, sym, ap, ◌∙◌, arith, append_assoc, inl, inr, length-drop, min}
 use Rattle.std.specs.Prelude.{reverse}
 use Rattle.std.specs.List.{AllByRecursion}
 use Rattle.std.proofs.lemmas.List.{reverse-append, length-append, length-take, length-reverse, length-map, get_or-reverse}
@@ -59,6 +59,28 @@ module _ {A : Type 0} where
 
   pub back_about : (xs : List A) (g : ℕ) → AllByRecursion (λ r. AreNeighbours xs r.0) (back_questions xs g)
   back_about xs g = along_about (AreNeighbours xs) (reverse (neighbours xs)) g (all_reverse (AreNeighbours xs) (neighbours xs) (all_one_of (neighbours xs)))
+
+  -- how many questions there are
+  length-answered : (b : Bool) (qs : List (A × A)) → length (all_answered b qs) ≡ length qs
+  length-answered b qs = length-map qs (λ q. (q, b))
+
+  length-along : (qs : List (A × A)) (g : ℕ) → 0 < g → length (questions_along qs g) ≡ min g (length qs)
+  length-along qs g h =
+      omega (
+        arith,
+        length-append (all_answered true (take (g - 1) qs)) (all_answered false (take 1 (drop (g - 1) qs))),
+        length-answered true (take (g - 1) qs),
+        length-answered false (take 1 (drop (g - 1) qs)),
+        length-take (g - 1) qs,
+        length-take 1 (drop (g - 1) qs),
+        length-drop (g - 1) qs,
+      )
+
+  pub length-front_questions : (xs : List A) (g : ℕ) → 0 < g → length (front_questions xs g) ≡ min g (length xs - 1)
+  length-front_questions xs g h = length-along (neighbours xs) g h ∙ ap (λ (n : ℕ). min g n) (length-neighbours xs)
+
+  pub length-back_questions : (xs : List A) (g : ℕ) → 0 < g → length (back_questions xs g) ≡ min g (length xs - 1)
+  length-back_questions xs g h = length-along (reverse (neighbours xs)) g h ∙ ap (λ (n : ℕ). min g n) (length-reverse (neighbours xs) ∙ length-neighbours xs)
 
   -- a pair at its place
   pub record PairAt (qs : List (A × A)) (k : ℕ) (q : A × A) : Type 0 where

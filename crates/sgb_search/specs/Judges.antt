@@ -14,7 +14,7 @@ module _ {J T : Type 0} (g : Ghosts J T) where
   abbrev pub MayAskAlong : List T → J → Type 0
   MayAskAlong xs j = MayAskAll g.may_ask g.answers (AreNeighbours xs) j
 
-  -- and then it answers what p says
+  -- each answer to questions about neighbouring pairs of the list, in any order, is what p says; whether they may be asked it leaves open
   abbrev pub AnswersAlong : List T → (T → T → Bool) → J → Type 0
   AnswersAlong xs p j = AnswersBy g.may_ask g.answers (AreNeighbours xs) (on_pairs p) j
 
@@ -47,7 +47,7 @@ by_key {F} {K} g eq = record {
 abbrev pub key_judge : {F K : Type 0} → F → KeyJudge F K
 key_judge func = record { func = func; key = record {} }
 
--- by equality: one comparison, which is counted
+-- by equality: the answer is what eq says, and the question is counted
 abbrev pub by_equality : {T : Type 0} → (T → T → Bool) → Ghosts EqualityJudge T
 by_equality eq = record {
   may_ask = λ _ _. Unit {0};

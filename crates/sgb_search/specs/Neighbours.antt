@@ -1,7 +1,7 @@
 -- Neighbouring pairs of a list, and the questions about them.
 --     neighbours xs            the pairs that stand side by side, in order
---     front_questions xs g     what a linear call asks that takes the first g elements
---     back_questions xs g      what a linear call asks that takes the last g elements
+--     front_questions xs g     what a linear call asks that takes the first g > 0 elements, with the answers
+--     back_questions xs g      the same of the last g elements
 use Rattle.std.specs.Prelude.{◌≡◌, ℕ, ◌-◌, Bool, true, false, List, [], ◌∷◌, ◌++◌, ◌⊎◌, map, take, drop, reverse}
 
 module _ {A : Type 0} where
@@ -24,11 +24,11 @@ module _ {A : Type 0} where
   abbrev pub all_answered : Bool → List (A × A) → List ((A × A) × Bool)
   all_answered b qs = map (λ q. (q, b)) qs
 
-  -- going along the pairs, g - 1 are accepted and then the next is refused, if there is one
+  -- going along the pairs, the first g - 1 are accepted and then the next is refused, if there is one
   abbrev pub questions_along : List (A × A) → ℕ → List ((A × A) × Bool)
   questions_along qs g = all_answered true (take (g - 1) qs) ++ all_answered false (take 1 (drop (g - 1) qs))
 
-  -- the questions of a linear call that takes the first g elements of the list
+  -- the questions of a linear call that takes the first g elements of the list, with their answers
   abbrev pub front_questions : List A → ℕ → List ((A × A) × Bool)
   front_questions xs g = questions_along (neighbours xs) g
 

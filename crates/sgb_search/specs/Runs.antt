@@ -1,10 +1,11 @@
--- Runs of questions, from state to state.
-use Rattle.std.specs.Prelude.{◌≡◌, ℕ, List, [], ◌∷◌, length}
+-- Runs of questions, from state to state. They speak of the states of a judge, a comparator or a key function, and so hold of
+-- each call that its state can tell: code that is generic in the judge is held to them by a judge that keeps a list of its calls.
+use Rattle.std.specs.Prelude.{◌≡◌, ℕ, ◌+◌, ◌≤◌, Bool, true, List, [], ◌∷◌, length}
 use Rattle.std.specs.List.{AllByRecursion}
 
 -- may s q: in the state s the question q may be asked; gives s q a t: the answer may be a, and then the state is t
 module _ {S Q A : Type 0} (may : S → Q → Type 0) (gives : S → Q → A → S → Type 0) where
-  -- the records lead from s to t: each is a question with its answer, allowed in the state in which the one before it ended
+  -- from s to t: each pair is a question and its answer, asked in the state in which the one before it ended, and allowed there
   abbrev pub IsRun : S → List (Q × A) → S → Type 0
   IsRun s [] t = t ≡ s
   IsRun s (r ∷ rs) t = may s r.0 × ((u : S) × gives s r.0 r.1 u × IsRun u rs t)
@@ -20,3 +21,10 @@ module _ {S Q A : Type 0} (may : S → Q → Type 0) (gives : S → Q → A → 
   -- each allowed question has the one answer, in every state that runs of allowed questions reach
   pub record AnswersBy (allowed : Q → Type 0) (answer : Q → A) (s : S) : Type 0 where
     pub at : (rs : List (Q × A)) (t : S) → IsRun s rs t → AllByRecursion (λ r. allowed r.0) rs → AllByRecursion (λ r. r.1 ≡ answer r.0) rs
+
+-- some number of questions was asked from q to r: at most what is due at q less what is due at r, and just that number where exact
+pub record AsksWithin {Q : Type 0} (asked : Q → Q → ℕ → Type 0) (due : Q → ℕ) (exact : Bool) (q r : Q) : Type 0 where
+  pub number : ℕ
+  pub asks : asked q r number
+  pub most : number + due r ≤ due q
+  pub all : exact ≡ true → number + due r ≡ due q

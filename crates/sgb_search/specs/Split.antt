@@ -28,7 +28,7 @@ module _ {A : Type 0} where
       pub accepted : AllByRecursion IsAccepted ps
       pub refused : AllByRecursion IsRefusedAcross (neighbours ps)
 
-    -- x in front of the first piece, or as a piece of its own
+    -- true: x joins the first piece; false: x is a piece of its own
     abbrev pub put_before : Bool → A → List (List A) → List (List A)
     put_before true x [] = (x ∷ []) ∷ []
     put_before true x (g ∷ gs) = (x ∷ g) ∷ gs

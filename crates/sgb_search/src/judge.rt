@@ -61,9 +61,10 @@ impl<T, K: PartialEq + Drop, F: FnMut(&T) -> K> Judge<T> for KeyJudge<F, K> {
     }
 }
 
-/// Asks `==` of the elements, once a question. It may always be asked.
+/// Asks `==` of the elements. It may always be asked.
 ///
-/// It counts its questions for contracts alone, and takes no bytes.
+/// It counts its questions for contracts alone, and takes no bytes. That a question is one `==`, and that no other is made,
+/// no contract can say: it is read in the body of `ask`, and tested.
 #[derive(Drop)]
 pub struct EqualityJudge {
     pub questions: Questions,

@@ -1,7 +1,10 @@
 //! Laws of the definitions. Each is a function that does nothing: its contract is the law, and a caller cites it.
-ghost use Rattle.std.specs.Prelude.{◌≡◌, ℕ, ◌+◌, ◌<◌, Bool, List, length};
+ghost use Rattle.std.specs.Prelude.{◌≡◌, ℕ, ◌+◌, ◌-◌, ◌<◌, Bool, List, length};
 ghost use Rattle.sgb_search.specs.Split.{IsSplit, split, refused_pairs};
-ghost use Rattle.sgb_search.specs.Judges.{MayAskAlong, by_predicate, predicate_judge, by_key, key_judge};
+ghost use Rattle.sgb_search.specs.Neighbours.{neighbours, front_questions, back_questions};
+ghost use Rattle.sgb_search.specs.Runs.{IsRunOf};
+ghost use Rattle.sgb_search.specs.Judges.{MayAskAlong, AnswersAlong, by_predicate, predicate_judge, by_key, key_judge, by_equality};
+ghost use Rattle.sgb_search.specs.declared.judge.EqualityJudge.{EqualityJudge};
 
 /// Each list has exactly one split for a test. It has one piece more than the test refuses pairs, and none if it is
 /// empty.
@@ -12,16 +15,33 @@ pub fn one_split<T>()
     ensures count { (p : T → T → Bool) (xs : List T) → 0 < length xs → length (split p xs) ≡ refused_pairs p xs + 1 }
 {}
 
+/// How many neighbouring pairs a list has, and how many questions a linear call asks that takes g of its elements: g if
+/// something remains after them, and else g - 1.
+#[inline]
+pub fn question_count<T>()
+    ensures pairs { (xs : List T) → length (neighbours xs) ≡ length xs - 1 }
+    ensures front { (xs : List T) (g : ℕ) → 0 < g → g < length xs → length (front_questions xs g) ≡ g }
+    ensures back { (xs : List T) (g : ℕ) → 0 < g → g < length xs → length (back_questions xs g) ≡ g }
+    ensures front_last { (xs : List T) (g : ℕ) → 0 < g → g ≡ length xs → length (front_questions xs g) ≡ g - 1 }
+    ensures back_last { (xs : List T) (g : ℕ) → 0 < g → g ≡ length xs → length (back_questions xs g) ≡ g - 1 }
+{}
+
 /// A predicate that may always be called may be asked about the neighbouring pairs of every slice.
 #[inline]
 pub fn always_callable<T, P: FnMut(&T, &T) -> bool>()
     ensures { (xs : List T) (predicate : P) → P.IsAlwaysCallable predicate → MayAskAlong (by_predicate P.FnMut) xs (predicate_judge predicate) }
-{
-}
+{}
 
 /// A key function that may always be called may be asked about the neighbouring pairs of every slice.
 #[inline]
 pub fn always_callable_key<T, F: FnMut(&T) -> K, K: PartialEq + Drop>()
     ensures { (xs : List T) (func : F) → F.IsAlwaysCallable func → MayAskAlong (by_key F.FnMut K.eq) xs (key_judge func) }
-{
-}
+{}
+
+/// Equality may be asked about every slice, answers what `==` says, and counts: in every state of its judge.
+#[inline]
+pub fn equality_judges<T: PartialEq>()
+    ensures callable { (xs : List T) (j : EqualityJudge) → MayAskAlong (by_equality T.eq) xs j }
+    ensures settled { (xs : List T) (j : EqualityJudge) → AnswersAlong (by_equality T.eq) xs T.eq j }
+    ensures counts { (j k : EqualityJudge) (n : ℕ) → IsRunOf (by_equality T.eq).may_ask (by_equality T.eq).answers n j k → k.questions.asked ≡ j.questions.asked + n }
+{}

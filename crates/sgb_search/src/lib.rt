@@ -1,7 +1,7 @@
 //! What decides whether two elements belong together, and the definitions that every group stands on.
 //!
 //! The definitions are in `specs/`, and are meant to be read first: `Split` (what the groups are), `Neighbours`
-//! (which questions a linear call asks), `Runs` (what a list of questions does to the state of a closure).
+//! (which questions a linear call asks), `Runs` (what a list of questions does to the state of a judge).
 #![tactic(auto)]
 
 pub mod judge;

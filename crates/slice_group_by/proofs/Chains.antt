@@ -1,17 +1,39 @@
 -- What a chain of calls promises, from what each call does.
 use Rattle.std.proofs.Common.{◌≡◌, ℕ, ◌+◌, Bool, List, [], ◌∷◌, ◌++◌, Option, None, Some, map, refl, sym, ap, ◌∙◌, subst, append_assoc, arith, reverse}
 use Rattle.std.specs.Prelude.{option_map}
+use Rattle.std.specs.List.{AllByRecursion}
 use Rattle.std.proofs.lemmas.List.{append-nil, reverse-append}
 use Rattle.std.proofs.lemmas.Grind.{flat_map-append}
-use Rattle.sgb_search.specs.Split.{IsSplit, split, joined}
+use Rattle.sgb_search.specs.Ends.{first, last}
+use Rattle.sgb_search.specs.Split.{IsSplit, IsAccepted, split, joined}
 use Rattle.sgb_search.proofs.Splits.{split_is, split_only}
 use Rattle.slice_group_by.specs.declared.queue.End.{End}
 use Rattle.slice_group_by.specs.declared.queue.End.TheVariants.{Front, Back}
-use Rattle.slice_group_by.specs.Queue.{answers, left}
-use Rattle.slice_group_by.specs.Walk.{TakesPiece, TakesPart, handed, kept, IsChain, AnswersAsQueue, AsksWithin}
+use Rattle.sgb_search.specs.Runs.{AsksWithin}
+use Rattle.slice_group_by.specs.Queue.{answer, after, answers, left}
+use Rattle.slice_group_by.specs.Walk.{TakesPiece, TakesPart, Partition, handed, kept, IsChain, AnswersAsQueue}
 
 pub joined_push : {A : Type 0} (gs : List (List A)) (g : List A) → joined (gs ++ g ∷ []) ≡ joined gs ++ g
 joined_push gs g = flat_map-append (λ x. x) gs (g ∷ []) ∙ ap (λ l. joined gs ++ l) (append-nil g)
+
+-- a call that takes a piece answers as a queue of the pieces
+pub piece_answers : {A : Type 0} (e : End) (p : A → A → Bool) (xs : List A) (o : Option (List A)) (ys : List A) → TakesPiece e p xs o ys → (o ≡ answer e (split p xs)) × (split p ys ≡ after e (split p xs))
+piece_answers Front p xs o ys h = h
+piece_answers Back p xs o ys h = h
+
+first_accepted : {A : Type 0} (p : A → A → Bool) (x : List A) (ps : List (List A)) → AllByRecursion (IsAccepted p) ps → Some x ≡ first ps → IsAccepted p x
+first_accepted p x [] a e = cc e
+first_accepted p x (y ∷ ps) a e = let same : y ≡ x = cc e in subst (IsAccepted p) same a.0
+
+last_accepted : {A : Type 0} (p : A → A → Bool) (x : List A) (ps : List (List A)) → AllByRecursion (IsAccepted p) ps → Some x ≡ last ps → IsAccepted p x
+last_accepted p x [] a e = cc e
+last_accepted p x (y ∷ []) a e = let same : y ≡ x = cc e in subst (IsAccepted p) same a.0
+last_accepted p x (y ∷ z ∷ zs) a e = last_accepted p x (z ∷ zs) a.1 e
+
+-- and a piece is accepted inside
+pub piece_accepted : {A : Type 0} (e : End) (p : A → A → Bool) (xs group ys : List A) → TakesPiece e p xs (Some group) ys → IsAccepted p group
+piece_accepted Front p xs group ys h = first_accepted p group (split p xs) (split_is p xs).accepted h.0
+piece_accepted Back p xs group ys h = last_accepted p group (split p xs) (split_is p xs).accepted h.0
 
 -- one call more, in front of the others: the front groups fs, what remains z, and the back groups bs join to ys
 part_at : {A : Type 0} (e : End) (o : Option (List A)) (xs ys : List A) (fs bs : List (List A)) (z : List A) → TakesPart e xs o ys → (joined fs ++ z) ++ joined (reverse bs) ≡ ys → (joined (kept Front e o fs) ++ z) ++ joined (reverse (kept Back e o bs)) ≡ xs
@@ -31,7 +53,7 @@ module _ {Q I : Type 0} (gives : End → Q → Option I → Q → Type 0) where
   chain_push q (e' ∷ es) (o' ∷ os) m e o r c s = (c.0, c.1, chain_push c.0 es os m e o r c.2 s)
 
   module _ {A : Type 0} (remainder : Q → List A) (shows : I → List A) where
-    pub chain_parts : ((e : End) (q : Q) (o : Option I) (t : Q) → gives e q o t → TakesPart e (remainder q) (option_map shows o) (remainder t)) → (q : Q) (es : List End) (os : List (Option I)) (r : Q) → IsChain gives q es os r → (joined (handed Front es (map (option_map shows) os)) ++ remainder r) ++ joined (reverse (handed Back es (map (option_map shows) os))) ≡ remainder q
+    pub chain_parts : ((e : End) (q : Q) (o : Option I) (t : Q) → gives e q o t → TakesPart e (remainder q) (option_map shows o) (remainder t)) → (q : Q) (es : List End) (os : List (Option I)) (r : Q) → IsChain gives q es os r → Partition es (map (option_map shows) os) (remainder r) (remainder q)
     chain_parts part q [] [] r c = append-nil (remainder r) ∙ ap remainder c
     chain_parts part q [] (o ∷ os) r c = absurd c
     chain_parts part q (e ∷ es) [] r c = absurd c
@@ -49,25 +71,31 @@ module _ {Q I : Type 0} (gives : End → Q → Option I → Q → Type 0) where
       chain_answers q [] (o ∷ os) r c h = absurd c
       chain_answers q (e ∷ es) [] r c h = absurd c
       chain_answers q (e ∷ es) (o ∷ os) r c h =
-          let now = piece e q o c.0 p c.1 h in
-          let later = chain_answers c.0 es os r c.2 now.1 in
+          let step = piece e q o c.0 p c.1 h in
+          let now = piece_answers e p (remainder q) (option_map shows o) (remainder c.0) step.0 in
+          let later = chain_answers c.0 es os r c.2 step.1 in
           record {
             stays = later.stays;
-            answers = rw (now.0.0, later.answers, now.0.1) refl;
-            rest = later.rest ∙ ap (λ ps. left ps es) now.0.1;
+            answers = rw (now.0, later.answers, now.1) refl;
+            rest = later.rest ∙ ap (λ ps. left ps es) now.1;
           }
 
       pub chain_settled : (q : Q) (es : List End) (os : List (Option I)) (r : Q) → IsChain gives q es os r → settled q p → settled r p × ((ps : List (List A)) × AnswersAsQueue p (remainder q) es (map (option_map shows) os) (remainder r) ps)
       chain_settled q es os r c h =
           let a = chain_answers q es os r c h in
-          (a.stays, (split p (remainder q), record { is_split = split_is p (remainder q); only = split_only p (remainder q); answers = a.answers; rest = subst (IsSplit p (remainder r)) a.rest (split_is p (remainder r)) }))
+          (a.stays, (split p (remainder q), record { is_split = split_is p (remainder q); only = split_only p (remainder q); gave = a.answers; rest = subst (IsSplit p (remainder r)) a.rest (split_is p (remainder r)) }))
 
   module _ (asked : Q → Q → ℕ → Type 0) (due : Q → ℕ) (exact : Bool) (none : (q : Q) → asked q q 0) (more : (q r t : Q) (k m : ℕ) → asked q r k → asked r t m → asked q t (k + m)) (asks : (e : End) (q : Q) (o : Option I) (t : Q) → gives e q o t → AsksWithin asked due exact q t) where
     asks_add : (q r t : Q) → AsksWithin asked due exact q r → AsksWithin asked due exact r t → AsksWithin asked due exact q t
-    asks_add q r t (k, a, b, c) (m, d, e, f) = (k + m, more q r t k m a d, omega arith, λ x. let u = c x in let v = f x in omega arith)
+    asks_add q r t a b = record {
+      number = a.number + b.number;
+      asks = more q r t a.number b.number a.asks b.asks;
+      most = omega (arith, a.most, b.most);
+      all = λ e. omega (arith, a.all e, b.all e);
+    }
 
     pub chain_asks : (q : Q) (es : List End) (os : List (Option I)) (r : Q) → IsChain gives q es os r → AsksWithin asked due exact q r
-    chain_asks q [] [] r c = subst (λ x. AsksWithin asked due exact q x) (sym c) (0, none q, omega arith, λ x. omega arith)
+    chain_asks q [] [] r c = subst (λ x. AsksWithin asked due exact q x) (sym c) (record { number = 0; asks = none q; most = omega arith; all = λ e. omega arith })
     chain_asks q [] (o ∷ os) r c = absurd c
     chain_asks q (e ∷ es) [] r c = absurd c
     chain_asks q (e ∷ es) (o ∷ os) r c = asks_add q c.0 r (asks e q o c.0 c.1) (chain_asks c.0 es os r c.2)

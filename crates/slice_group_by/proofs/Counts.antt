@@ -1,5 +1,5 @@
 -- How many groups a chain of calls gives.
-use Rattle.std.proofs.Common.{◌≡◌, ℕ, ◌+◌, ◌<◌, ◌≤◌, cond, List, [], ◌∷◌, ◌++◌, length, length-append, Option, None, Some, sym, ap, ◌∙◌, arith}
+use Rattle.std.proofs.Common.{◌≡◌, ℕ, ◌+◌, ◌-◌, ◌<◌, ◌≤◌, cond, List, [], ◌∷◌, ◌++◌, length, length-append, Option, None, Some, sym, ap, ◌∙◌, arith}
 use Rattle.std.specs.Prelude.{◌≢◌, option_map, count_by, is_some}
 use Rattle.std.proofs.lemmas.List.Sums.{sum_by-cons}
 use Rattle.slice_group_by.specs.declared.queue.End.{End}
@@ -18,6 +18,10 @@ part_length Back xs group ys h = omega (arith, ap length h.1 ∙ length-append y
 none_length : {A : Type 0} (e : End) (xs ys : List A) → TakesPart e xs None ys → length ys ≤ length xs
 none_length Front xs ys h = omega (arith, ap length h.1)
 none_length Back xs ys h = omega (arith, ap length h.1)
+
+none_rest : {A : Type 0} (e : End) (xs ys : List A) → TakesPart e xs None ys → length ys ≡ 0
+none_rest Front xs ys h = ap length h.1
+none_rest Back xs ys h = ap length h.1
 
 none_empty : {A : Type 0} (e : End) (xs ys : List A) → TakesPart e xs None ys → xs ≡ []
 none_empty Front xs ys h = h.0
@@ -40,3 +44,12 @@ module _ {Q I A : Type 0} (gives : End → Q → Option I → Q → Type 0) (rem
   at_least_one q t (e ∷ es) [] c n z = absurd c
   at_least_one q t (e ∷ es) (None ∷ os) c n z = absurd (n (none_empty e (remainder q) (remainder c.0) (part e q None c.0 c.1)))
   at_least_one q t (e ∷ es) (Some x ∷ os) c n z = omega (arith, count-cons (Some x) os)
+
+  pub at_most_calls : (q t : Q) (es : List End) (os : List (Option I)) → IsChain gives q es os t → length (remainder t) ≤ length (remainder q) - length es
+  at_most_calls q t [] [] c = omega (arith, ap (λ x. length (remainder x)) c)
+  at_most_calls q t [] (o ∷ os) c = absurd c
+  at_most_calls q t (e ∷ es) [] c = absurd c
+  at_most_calls q t (e ∷ es) (None ∷ os) c =
+      omega (arith, at_most_calls c.0 t es os c.2, none_rest e (remainder q) (remainder c.0) (part e q None c.0 c.1))
+  at_most_calls q t (e ∷ es) (Some x ∷ os) c =
+      omega (arith, at_most_calls c.0 t es os c.2, part_length e (remainder q) (shows x) (remainder c.0) (part e q (Some x) c.0 c.1))

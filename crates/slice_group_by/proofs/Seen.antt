@@ -12,7 +12,7 @@ use Rattle.slice_group_by.specs.declared.queue.End.{End}
 use Rattle.slice_group_by.specs.declared.queue.End.TheVariants.{Front, Back}
 use Rattle.slice_group_by.specs.Queue.{answer, after}
 use Rattle.slice_group_by.specs.Walk.{TakesPiece, TakesPart}
-use Rattle.slice_group_by.proofs.Chains.{joined_push}
+use Rattle.slice_group_by.proofs.Chains.{joined_push, piece_answers}
 
 -- a list whose items come from the end in this order
 abbrev pub from_end : {X : Type 0} → End → List X → List X
@@ -47,22 +47,25 @@ same_some : {X : Type 0} {x y : X} → Some x ≡ Some y → x ≡ y
 same_some e = cc e
 
 module _ {Q I A : Type 0} (gives : End → Q → Option I → Q → Type 0) (remainder : Q → List A) (shows : I → List A) (settled : Q → (A → A → Bool) → Type 0) (p : A → A → Bool) (piece : (e : End) (q : Q) (o : Option I) (t : Q) (p : A → A → Bool) → gives e q o t → settled q p → TakesPiece e p (remainder q) (option_map shows o) (remainder t) × settled t p) where
+  taken : (e : End) (q : Q) (o : Option I) (t : Q) → gives e q o t → settled q p → (option_map shows o ≡ answer e (split p (remainder q))) × (split p (remainder t) ≡ after e (split p (remainder q)))
+  taken e q o t g h = piece_answers e p (remainder q) (option_map shows o) (remainder t) (piece e q o t p g h).0
+
   pub yields_pieces : (e : End) (q : Q) (ps : List (List A)) → settled q p → split p (remainder q) ≡ from_end e ps → AlwaysYields (gives e) shows q ps
-  yields_pieces e q [] h s = λ x t g. none_some ((piece e q (Some x) t p g h).0.0 ∙ ap (answer e) s ∙ answer_none e)
+  yields_pieces e q [] h s = λ x t g. none_some ((taken e q (Some x) t g h).0 ∙ ap (answer e) s ∙ answer_none e)
   yields_pieces e q (y ∷ ps) h s = (
-    λ t g. none_some (sym (answer_first e y ps) ∙ ap (answer e) (sym s) ∙ sym (piece e q None t p g h).0.0),
+    λ t g. none_some (sym (answer_first e y ps) ∙ ap (answer e) (sym s) ∙ sym (taken e q None t g h).0),
     λ x t g.
-        let k = piece e q (Some x) t p g h in
-        (same_some (k.0.0 ∙ ap (answer e) s ∙ answer_first e y ps), yields_pieces e t ps k.1 (k.0.1 ∙ ap (after e) s ∙ after_first e y ps)),
+        let k = taken e q (Some x) t g h in
+        (same_some (k.0 ∙ ap (answer e) s ∙ answer_first e y ps), yields_pieces e t ps (piece e q (Some x) t p g h).1 (k.1 ∙ ap (after e) s ∙ after_first e y ps)),
   )
 
   -- the groups so far, and what is left
   pub yields_settled : (e : End) (q t : Q) (xs : List I) → settled q p → Yields (gives e) q xs t → settled t p × (from_end e (split p (remainder q)) ≡ map shows xs ++ from_end e (split p (remainder t)))
   yields_settled e q t [] h y = rw (sym y) (h, refl)
   yields_settled e q t (x ∷ xs) h y =
-      let k = piece e q (Some x) y.0 p y.1 h in
-      let later = yields_settled e y.0 t xs k.1 y.2 in
-      (later.0, from_end_taken e (shows x) (split p (remainder q)) (sym k.0.0) ∙ ap (λ l. shows x ∷ l) (ap (from_end e) (sym k.0.1) ∙ later.1))
+      let k = taken e q (Some x) y.0 y.1 h in
+      let later = yields_settled e y.0 t xs (piece e q (Some x) y.0 p y.1 h).1 y.2 in
+      (later.0, from_end_taken e (shows x) (split p (remainder q)) (sym k.0) ∙ ap (λ l. shows x ∷ l) (ap (from_end e) (sym k.1) ∙ later.1))
 
 module _ {Q I A : Type 0} (gives : End → Q → Option I → Q → Type 0) (remainder : Q → List A) (shows : I → List A) (part : (e : End) (q : Q) (o : Option I) (t : Q) → gives e q o t → TakesPart e (remainder q) (option_map shows o) (remainder t)) where
   pub yields_front_parts : (q t : Q) (xs : List I) → Yields (gives Front) q xs t → joined (map shows xs) ++ remainder t ≡ remainder q

@@ -1,6 +1,5 @@
 pub mod Queue
 pub mod Walk
-pub mod LinearQueue
 pub use Rattle.sgb_search.specs.Split
 pub use Rattle.sgb_search.specs.Neighbours
 pub use Rattle.sgb_search.specs.Ends

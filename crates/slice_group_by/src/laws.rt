@@ -2,30 +2,67 @@
 //!
 //! A function whose contract rests on a law calls it, and then its proof may cite it. Where a law takes a queue, that only
 //! names the type, which may hold a closure: the law is over all of its states.
-ghost use Rattle.std.specs.Prelude.{◌≡◌, ◌≢◌, ℕ, ◌+◌, ◌-◌, ◌<◌, ◌≤◌, Bool, List, [], ◌++◌, length, Option, map, reverse, count_by, is_some};
+ghost use Rattle.std.specs.Prelude.{◌≡◌, ◌≢◌, ℕ, ◌+◌, ◌-◌, ◌<◌, ◌≤◌, Bool, List, [], ◌∷◌, ◌++◌, length, Option, Some, map, option_map, reverse, count_by, is_some};
 ghost use Rattle.std.specs.Borrow.{Bor};
 ghost use Rattle.std.specs.Iterator.{Yields, Drains};
 ghost use Rattle.std.specs.Iterator.Adapters.{rev_source, rev_steps};
 ghost use Rattle.std.specs.declared.iter.Rev.{Rev};
 ghost use Rattle.std.proofs.lemmas.Iterator.{YieldsList};
-ghost use Rattle.sgb_search.specs.Split.{joined, split};
-ghost use Rattle.sgb_search.specs.Runs.{IsRunOf};
+ghost use Rattle.sgb_search.specs.Ends.{first, last, without_first, without_last};
+ghost use Rattle.sgb_search.specs.Split.{joined, IsAccepted, split};
+ghost use Rattle.sgb_search.specs.Runs.{IsRunOf, AsksWithin};
 ghost use Rattle.sgb_search.specs.Groups.{Groups};
-ghost use Rattle.sgb_search.specs.declared.judge.EqualityJudge.{EqualityJudge};
 ghost use Rattle.slice_group_by.specs.declared.queue.End.{End};
 ghost use Rattle.slice_group_by.specs.declared.queue.End.TheVariants.{Front, Back};
-ghost use Rattle.sgb_linear_group.specs.Linear.{AsksEachOnce};
-ghost use Rattle.slice_group_by.specs.Walk.{IsChain};
-ghost use Rattle.slice_group_by.specs.LinearQueue.{gives_at};
+ghost use Rattle.sgb_linear_group.specs.Linear.{GivesFront, GivesBack, AsksEachOnce};
+ghost use Rattle.slice_group_by.specs.Walk.{Partition, IsChain};
+ghost use Rattle.slice_group_by.specs.Queue.{at_end, answers, left};
 
-use crate::LinearGroup;
 use crate::queue::GroupQueue;
 use sgb_linear_group::groups::LinearGroups;
-pub use sgb_linear_group::laws::linear_calls_give_pieces;
 use sgb_search::judge::Judge;
-pub use sgb_search::laws::{always_callable, always_callable_key, one_split};
+pub use sgb_search::laws::{
+    always_callable, always_callable_key, equality_judges, one_split, question_count,
+};
 
-/// What a loop or an adapter sees of a settled queue: the pieces of the split in order, and from the back in reverse.
+/// One call on a queue that is settled for a test: it gives the outermost piece of the split of what remained, or `None`
+/// where there is no piece; the other pieces are the split of what remains; and the queue is settled again.
+#[inline]
+pub fn calls_take_pieces<Q: GroupQueue>(_queue: &Q)
+    ensures front { (p : Q.Element → Q.Element → Bool) (q t : Q) (group : Option Q.Item)
+        → Q.gives Front q group t → Q.is_settled q p → option_map Q.shows group ≡ first (split p (Q.remainder q)) }
+    ensures back { (p : Q.Element → Q.Element → Bool) (q t : Q) (group : Option Q.Item)
+        → Q.gives Back q group t → Q.is_settled q p → option_map Q.shows group ≡ last (split p (Q.remainder q)) }
+    ensures after_front { (p : Q.Element → Q.Element → Bool) (q t : Q) (group : Option Q.Item)
+        → Q.gives Front q group t → Q.is_settled q p → split p (Q.remainder t) ≡ without_first (split p (Q.remainder q)) }
+    ensures after_back { (p : Q.Element → Q.Element → Bool) (q t : Q) (group : Option Q.Item)
+        → Q.gives Back q group t → Q.is_settled q p → split p (Q.remainder t) ≡ without_last (split p (Q.remainder q)) }
+    ensures settled { (p : Q.Element → Q.Element → Bool) (e : End) (q t : Q) (group : Option Q.Item)
+        → Q.gives e q group t → Q.is_settled q p → Q.is_settled t p }
+    ensures accepted { (p : Q.Element → Q.Element → Bool) (e : End) (q t : Q) (group : Q.Item)
+        → Q.gives e q (Some group) t → Q.is_settled q p → IsAccepted p (Q.shows group) }
+{}
+
+/// A list of calls on a queue, made one by one, as a loop of a caller makes them: what `walk` promises of its calls.
+#[inline]
+pub fn chains_answer<Q: GroupQueue>(_queue: &Q)
+    ensures none { (q : Q) → IsChain Q.gives q [] [] q }
+    ensures more { (q r t : Q) (ends : List End) (out : List (Option Q.Item)) (e : End) (group : Option Q.Item)
+        → IsChain Q.gives q ends out r → Q.gives e r group t → IsChain Q.gives q (ends ++ e ∷ []) (out ++ group ∷ []) t }
+    ensures partition { (q t : Q) (ends : List End) (out : List (Option Q.Item))
+        → IsChain Q.gives q ends out t → Partition ends (map (option_map Q.shows) out) (Q.remainder t) (Q.remainder q) }
+    ensures pieces { (p : Q.Element → Q.Element → Bool) (q t : Q) (ends : List End) (out : List (Option Q.Item))
+        → IsChain Q.gives q ends out t → Q.is_settled q p → map (option_map Q.shows) out ≡ answers (split p (Q.remainder q)) ends }
+    ensures left { (p : Q.Element → Q.Element → Bool) (q t : Q) (ends : List End) (out : List (Option Q.Item))
+        → IsChain Q.gives q ends out t → Q.is_settled q p → split p (Q.remainder t) ≡ left (split p (Q.remainder q)) ends }
+    ensures settled { (p : Q.Element → Q.Element → Bool) (q t : Q) (ends : List End) (out : List (Option Q.Item))
+        → IsChain Q.gives q ends out t → Q.is_settled q p → Q.is_settled t p }
+    ensures questions { (q t : Q) (ends : List End) (out : List (Option Q.Item))
+        → IsChain Q.gives q ends out t → AsksWithin Q.asked Q.due Q.exact q t }
+{}
+
+/// What a loop or an adapter sees of a settled queue: the pieces of the split in order, and from the back or under `rev()`
+/// in reverse. What `next` and `next_back` of this library's types give is `gives Front` and `gives Back`.
 #[inline]
 pub fn sees_pieces<Q: GroupQueue>(_queue: &Q)
     ensures front { (p : Q.Element → Q.Element → Bool) (q : Q) → Q.is_settled q p → YieldsList (Q.gives Front) Q.shows q (split p (Q.remainder q)) }
@@ -50,24 +87,19 @@ pub fn ends_agree<Q: GroupQueue>(_queue: &Q)
     ensures { (p : Q.Element → Q.Element → Bool) (q s t : Q) (fronts backs : List Q.Item) → Q.is_settled q p → Yields (Q.gives Front) q fronts s → Q.remainder s ≡ [] → Yields (Q.gives Back) q backs t → Q.remainder t ≡ [] → reverse (map Q.shows backs) ≡ map Q.shows fronts }
 {}
 
-/// How many groups come, whatever the judge answers: no more than elements go, and at least one before nothing remains
-/// of a nonempty remainder.
+/// How many groups come, whatever the judge answers: no more than elements go, at least one before nothing remains of a
+/// nonempty remainder, and as many calls as there are elements leave nothing.
 #[inline]
 pub fn groups_still_come<Q: GroupQueue>(_queue: &Q)
     ensures most { (q t : Q) (ends : List End) (out : List (Option Q.Item)) → IsChain Q.gives q ends out t → count_by is_some out + length (Q.remainder t) ≤ length (Q.remainder q) }
     ensures least { (q t : Q) (ends : List End) (out : List (Option Q.Item)) → IsChain Q.gives q ends out t → Q.remainder q ≢ [] → Q.remainder t ≡ [] → 0 < count_by is_some out }
+    ensures fewer { (q t : Q) (ends : List End) (out : List (Option Q.Item)) → IsChain Q.gives q ends out t → length (Q.remainder t) ≤ length (Q.remainder q) - length ends }
 {}
 
 /// A list of calls of linear groups asks about each neighbouring pair that goes once, however the ends are mixed, and
 /// about no other: so until nothing remains of n > 0 elements it asks exactly n - 1 questions.
 #[inline]
 pub fn each_pair_asked_once<T, J: Judge<T>>(_groups: &LinearGroups<'_, T, J>)
-    ensures pairs { (s t : Groups T J) (ends : List End) (out : List (Option (Bor (List T)))) → IsChain (gives_at J.Judge) s ends out t → AsksEachOnce J.Judge s t }
-    ensures whole { (s t : Groups T J) (ends : List End) (out : List (Option (Bor (List T)))) → IsChain (gives_at J.Judge) s ends out t → t.remainder ≡ [] → IsRunOf J.may_ask J.answers (length s.remainder - 1) s.judge t.judge }
-{}
-
-/// The questions of an equality type are what its counter goes up by.
-#[inline]
-pub fn equality_counts<'a, T: PartialEq + 'a>()
-    ensures { (q r : Groups T EqualityJudge) (n : ℕ) → ⟦<LinearGroup<'a, T> as GroupQueue>⟧.asked q r n → r.judge.questions.asked ≡ q.judge.questions.asked + n }
+    ensures pairs { (s t : Groups T J) (ends : List End) (out : List (Option (Bor (List T)))) → IsChain (at_end (GivesFront J.Judge) (GivesBack J.Judge)) s ends out t → AsksEachOnce J.Judge s t }
+    ensures whole { (s t : Groups T J) (ends : List End) (out : List (Option (Bor (List T)))) → IsChain (at_end (GivesFront J.Judge) (GivesBack J.Judge)) s ends out t → t.remainder ≡ [] → IsRunOf J.may_ask J.answers (length s.remainder - 1) s.judge t.judge }
 {}

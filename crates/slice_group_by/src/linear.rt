@@ -9,9 +9,9 @@ impl<'a, T, J: Judge<T> + Drop> GroupQueue for LinearGroups<'a, T, J> {
     ghost use Rattle.std.specs.Prelude.{length, true};
     ghost use Rattle.sgb_search.specs.Neighbours.{neighbours};
     ghost use Rattle.sgb_search.specs.Runs.{IsRunOf};
-    ghost use Rattle.sgb_linear_group.specs.Linear.{IsCallable, IsSettled};
-    ghost use Rattle.slice_group_by.specs.LinearQueue.{gives_at};
-    ghost use Rattle.slice_group_by.specs.LinearQueue as linear;
+    ghost use Rattle.sgb_linear_group.specs.Linear.{IsCallable, IsSettled, GivesFront, GivesBack};
+    ghost use Rattle.sgb_linear_group.proofs.Queue as laws;
+    ghost use Rattle.slice_group_by.specs.Queue.{at_end, each_end};
 
     ghost Element = { T };
 
@@ -21,7 +21,7 @@ impl<'a, T, J: Judge<T> + Drop> GroupQueue for LinearGroups<'a, T, J> {
 
     ghost is_settled = { IsSettled J.Judge };
 
-    ghost gives = { gives_at J.Judge };
+    ghost gives = { at_end (GivesFront J.Judge) (GivesBack J.Judge) };
 
     ghost asked = { λ q r n. IsRunOf J.may_ask J.answers n q.judge r.judge };
 
@@ -41,15 +41,15 @@ impl<'a, T, J: Judge<T> + Drop> GroupQueue for LinearGroups<'a, T, J> {
         self.next_back()
     }
 
-    ghost part = { linear.part J.Judge };
+    ghost part = { each_end _ (laws.front_part J.Judge) (laws.back_part J.Judge) };
 
-    ghost none = { linear.none J.Judge };
+    ghost none = { each_end _ (λ _ _ h. h.1) (λ _ _ h. h.1) };
 
-    ghost piece = { linear.piece J.Judge };
+    ghost piece = { each_end _ (laws.front_piece J.Judge) (laws.back_piece J.Judge) };
 
-    ghost asked_none = { λ q. linear.asked_none J.Judge q };
+    ghost asked_none = { laws.asked_none J.Judge };
 
-    ghost asked_more = { linear.asked_more J.Judge };
+    ghost asked_more = { laws.asked_more J.Judge };
 
-    ghost asks = { linear.asks J.Judge };
+    ghost asks = { each_end _ (laws.front_asks J.Judge) (laws.back_asks J.Judge) };
 }

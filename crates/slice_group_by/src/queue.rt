@@ -1,10 +1,11 @@
 //! Groups as a two-ended queue, and a walk over it.
 ghost use Rattle.std.specs.Prelude.{◌≡◌, ℕ, ◌+◌, Bool, List, ◌++◌, length, Option, None, map, option_map, reverse, ⊤};
-ghost use Rattle.sgb_search.specs.Split.{split, joined};
+ghost use Rattle.sgb_search.specs.Split.{split};
+ghost use Rattle.sgb_search.specs.Runs.{AsksWithin};
 ghost use Rattle.slice_group_by.specs.declared.queue.End.{End};
 ghost use Rattle.slice_group_by.specs.declared.queue.End.TheVariants.{Front, Back};
-ghost use Rattle.slice_group_by.specs.Queue.{answers};
-ghost use Rattle.slice_group_by.specs.Walk.{TakesPart, TakesPiece, AsksWithin, IsChain, AnswersAsQueue, handed};
+ghost use Rattle.slice_group_by.specs.Queue.{answers, left};
+ghost use Rattle.slice_group_by.specs.Walk.{TakesPart, TakesPiece, Partition, IsChain, AnswersAsQueue};
 
 /// An end of a queue of groups.
 #[derive(Drop)]
@@ -16,32 +17,36 @@ pub enum End {
 /// An iterator over groups, as a two-ended queue of them.
 ///
 /// Contracts see of it what is left of the elements (`remainder`), what a call at an end gives (`gives`), for which
-/// tests it is settled (`is_settled`), and how many questions lie between two of its states (`asked`).
+/// tests it is settled (`is_settled`), and how many questions lie between two of its states (`asked`). An implementation
+/// chooses what these mean, and `walk` promises no more of it than they say; this library's say what each type's own
+/// calls promise.
 pub trait GroupQueue {
     type Item: Drop;
 
     ghost Element: { Type 0 };
 
-    // The elements that no call has handed out yet, and those of a group that a call has handed out.
+    // The elements that no call has handed out yet.
     ghost remainder: { Self → List Element };
 
+    // The elements of a group that a call has handed out.
     ghost shows: { Self.Item → List Element };
 
-    // The judge answers what the test says, and the remainder is such that calls then find its pieces.
+    // Calls find the pieces of the remainder for this test.
     ghost is_settled: { Self → (Element → Element → Bool) → Type 0 };
 
     // The queue before, what a call at the end answers, and the queue after.
     ghost gives: { End → Self → Option Self.Item → Self → Type 0 };
 
-    // Some run of so many questions leads from the judge of the one to the judge of the other.
+    // So many questions may lead from the one state to the other.
     ghost asked: { Self → Self → ℕ → Type 0 };
 
-    // The most questions that all calls to come can ask, and whether they ask exactly as many.
+    // The most questions that all calls to come can ask.
     ghost due: { Self → ℕ };
 
+    // All calls to come ask exactly as many.
     ghost exact: { Bool };
 
-    // The judge may be asked whatever a call may ask, in every state that its answers can lead to.
+    // What a call may ask may be asked, in every state that the answers can lead to.
     ghost can_pop: { Self → Type 0 } = { λ _. ⊤ };
 
     /// The first group, or `None` where nothing remains: what `next` gives.
@@ -57,20 +62,24 @@ pub trait GroupQueue {
         ensures can { can_pop self.new };
 
     // A call gives a nonempty outer part of the remainder, or `None` exactly where nothing remains.
-    ghost part: { (e : End) (q : Self) (group : Option Self.Item) (t : Self) → gives e q group t → TakesPart e (remainder q) (option_map shows group) (remainder t) };
+    ghost part: { (e : End) (q : Self) (group : Option Self.Item) (t : Self) → gives e q group t
+        → TakesPart e (remainder q) (option_map shows group) (remainder t) };
 
     // Where it gives `None`, nothing changes.
     ghost none: { (e : End) (q t : Self) → gives e q None t → t ≡ q };
 
     // Of a settled queue it gives the outermost piece of the split, and leaves it settled.
-    ghost piece: { (e : End) (q : Self) (group : Option Self.Item) (t : Self) (p : Element → Element → Bool) → gives e q group t → is_settled q p → TakesPiece e p (remainder q) (option_map shows group) (remainder t) × is_settled t p };
+    ghost piece: { (e : End) (q : Self) (group : Option Self.Item) (t : Self) (p : Element → Element → Bool)
+        → gives e q group t → is_settled q p
+        → TakesPiece e p (remainder q) (option_map shows group) (remainder t) × is_settled t p };
 
     // Questions add up, and a call asks no more of them than it takes off those due.
     ghost asked_none: { (q : Self) → asked q q 0 };
 
     ghost asked_more: { (q r t : Self) (k m : ℕ) → asked q r k → asked r t m → asked q t (k + m) };
 
-    ghost asks: { (e : End) (q : Self) (group : Option Self.Item) (t : Self) → gives e q group t → AsksWithin asked due exact q t };
+    ghost asks: { (e : End) (q : Self) (group : Option Self.Item) (t : Self) → gives e q group t
+        → AsksWithin asked due exact q t };
 }
 
 fn pop_at<Q: GroupQueue>(queue: &mut Q, end: &End) -> Option<Q::Item>
@@ -86,8 +95,8 @@ fn pop_at<Q: GroupQueue>(queue: &mut Q, end: &End) -> Option<Q::Item>
 
 /// Makes one call at each of the ends, in order, and puts each answer at the same place of `out`.
 ///
-/// The answers are those of a two-ended queue of the pieces of the split of what remained, `None` exactly when no piece
-/// is left, also past the last one. What `out` held before is dropped.
+/// Of a settled queue the answers are those of a two-ended queue of the pieces of the split of what remained, `None`
+/// exactly when no piece is left, also past the last one. What `out` held before is dropped.
 ///
 /// ```
 /// let mut groups = LinearGroup::new(&[1, 1, 1, 3, 3, 2, 2, 2]);
@@ -104,11 +113,18 @@ pub fn walk<Q: GroupQueue>(queue: &mut Q, ends: &[End], out: &mut [Option<Q::Ite
     ensures chain { IsChain Q.gives queue.old ends.now out.new queue.new }
 
     // The front answers in order, what remains, and the back answers in reverse are what remained before.
-    ensures partition { joined (handed Front ends.now (map (option_map Q.shows) out.new)) ++ Q.remainder queue.new ++ joined (reverse (handed Back ends.now (map (option_map Q.shows) out.new))) ≡ Q.remainder queue.old }
+    ensures partition { let groups = map (option_map Q.shows) out.new in
+        Partition ends.now groups (Q.remainder queue.new) (Q.remainder queue.old) }
 
     // Of a settled queue the answers are those of a queue of the one split, and what is left is settled.
-    ensures settled { (p : Q.Element → Q.Element → Bool) → Q.is_settled queue.old p → Q.is_settled queue.new p × ((ps : List (List Q.Element)) × AnswersAsQueue p (Q.remainder queue.old) ends.now (map (option_map Q.shows) out.new) (Q.remainder queue.new) ps) }
-    ensures pieces { (p : Q.Element → Q.Element → Bool) → Q.is_settled queue.old p → map (option_map Q.shows) out.new ≡ answers (split p (Q.remainder queue.old)) ends.now }
+    ensures settled { let groups = map (option_map Q.shows) out.new in
+        (p : Q.Element → Q.Element → Bool) → Q.is_settled queue.old p
+        → Q.is_settled queue.new p
+        × ((ps : List (List Q.Element)) × AnswersAsQueue p (Q.remainder queue.old) ends.now groups (Q.remainder queue.new) ps) }
+    ensures pieces { (p : Q.Element → Q.Element → Bool) → Q.is_settled queue.old p
+        → map (option_map Q.shows) out.new ≡ answers (split p (Q.remainder queue.old)) ends.now }
+    ensures left { (p : Q.Element → Q.Element → Bool) → Q.is_settled queue.old p
+        → split p (Q.remainder queue.new) ≡ left (split p (Q.remainder queue.old)) ends.now }
 
     // Whatever the judge answers, no more questions are asked than were due before and are not due after.
     ensures questions { AsksWithin Q.asked Q.due Q.exact queue.old queue.new }

@@ -2,7 +2,7 @@
 ghost use Rattle.std.specs.Prelude.{◌≡◌, ◌-◌, [], length, map, fold, max, slice_get, nat_eq, nat_lt};
 ghost use Rattle.slice_group_by.specs.Split.{split};
 
-use crate::laws::{each_pair_asked_once, equality_counts, sees_pieces};
+use crate::laws::{each_pair_asked_once, equality_judges, sees_pieces};
 use crate::{End, GroupBy, LinearGroup, walk};
 
 // How many groups there are.
@@ -63,7 +63,7 @@ fn walk_through<'a, T: PartialEq>(
 {
     let mut groups = LinearGroup::new(xs);
     each_pair_asked_once(&groups);
-    equality_counts::<T>();
+    equality_judges::<T>();
     walk(&mut groups, ends, out);
     groups
 }

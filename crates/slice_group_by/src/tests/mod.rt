@@ -1,5 +1,6 @@
 //! What no contract says, and users' functions over the public contracts.
 mod closures;
+mod counted;
 mod linear;
 mod linear_by;
 mod loops;

@@ -24,5 +24,8 @@ returns-clause-settled g c p h = chain_settled _ _ _ _ p g.met.Q.GroupQueue.piec
 pub returns-clause-pieces : goal.returns-clause-pieces
 returns-clause-pieces g c p h = (chain_answers _ _ _ _ p g.met.Q.GroupQueue.piece _ _ _ _ (whole g c) h).answers
 
+pub returns-clause-left : goal.returns-clause-left
+returns-clause-left g c p h = (chain_answers _ _ _ _ p g.met.Q.GroupQueue.piece _ _ _ _ (whole g c) h).rest
+
 pub returns-clause-questions : goal.returns-clause-questions
 returns-clause-questions g c = chain_asks _ _ _ _ g.met.Q.GroupQueue.asked_none g.met.Q.GroupQueue.asked_more g.met.Q.GroupQueue.asks _ _ _ _ (whole g c)

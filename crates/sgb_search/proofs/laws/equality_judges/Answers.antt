@@ -1,0 +1,12 @@
+use Rattle.std.proofs.Common.{◌+◌, ap, ◌∙◌}
+use Rattle.sgb_search.proofs.Equality.{equality_callable, equality_settled, equality_counts}
+use Rattle.sgb_search.proofs.laws.equality_judges.Goals as goal
+
+pub returns-clause-callable : goal.returns-clause-callable
+returns-clause-callable g c = equality_callable g.T.PartialEq.eq
+
+pub returns-clause-settled : goal.returns-clause-settled
+returns-clause-settled g c = equality_settled g.T.PartialEq.eq
+
+pub returns-clause-counts : goal.returns-clause-counts
+returns-clause-counts g c j k n a = equality_counts g.T.PartialEq.eq j a.0 k a.1 ∙ ap (λ m. j.questions.asked + m) a.2

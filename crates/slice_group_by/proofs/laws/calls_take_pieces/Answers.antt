@@ -1,0 +1,21 @@
+use Rattle.slice_group_by.specs.declared.queue.End.TheVariants.{Front, Back}
+use Rattle.slice_group_by.proofs.Chains.{piece_accepted}
+use Rattle.slice_group_by.proofs.laws.calls_take_pieces.Goals as goal
+
+pub returns-clause-front : goal.returns-clause-front
+returns-clause-front g c p q t group s h = (g.met.Q.GroupQueue.piece Front q group t p s h).0.0
+
+pub returns-clause-back : goal.returns-clause-back
+returns-clause-back g c p q t group s h = (g.met.Q.GroupQueue.piece Back q group t p s h).0.0
+
+pub returns-clause-after_front : goal.returns-clause-after_front
+returns-clause-after_front g c p q t group s h = (g.met.Q.GroupQueue.piece Front q group t p s h).0.1
+
+pub returns-clause-after_back : goal.returns-clause-after_back
+returns-clause-after_back g c p q t group s h = (g.met.Q.GroupQueue.piece Back q group t p s h).0.1
+
+pub returns-clause-settled : goal.returns-clause-settled
+returns-clause-settled g c p e q t group s h = (g.met.Q.GroupQueue.piece e q group t p s h).1
+
+pub returns-clause-accepted : goal.returns-clause-accepted
+returns-clause-accepted g c p e q t group s h = piece_accepted e p _ _ _ (g.met.Q.GroupQueue.piece e q _ t p s h).0
