@@ -1,12 +1,11 @@
 -- The pairs of a call's questions, with the neighbouring pairs that are left, are those that there were.
-use Rattle.std.proofs.Common.{◌≡◌, ℕ, zero, suc, ◌+◌, ◌-◌, ◌<◌, ◌≤◌, Bool, true, false, List, [], ◌∷◌, ◌++◌, length, take, drop, map, reverse, Option, None, Some, refl, sym, ap, ◌∙◌, subst, arith, take_all, append_assoc}
+use Rattle.std.proofs.Common.{◌≡◌, ℕ, zero, suc, ◌+◌, ◌-◌, ◌<◌, Bool, true, false, List, [], ◌∷◌, ◌++◌, length, take, drop, map, reverse, Option, None, Some, refl, sym, ap, ◌∙◌, subst, arith, take_all, append_assoc}
 use Rattle.std.specs.Prelude.{IsPermutation}
 use Rattle.std.specs.Borrow.{Bor}
 use Rattle.std.proofs.lemmas.List.{append-nil, reverse-append, length-append, length-reverse, length-map, map-append, take-append-drop}
 use Rattle.std.proofs.Math.Seq.{take-append_seam, drop-append_seam}
 use Rattle.std.proofs.lemmas.List.Sorted.{IsPermutation-refl, IsPermutation-trans, IsPermutation-sym, IsPermutation-reverse, IsPermutation-append_comm, IsPermutation-append_left, IsPermutation-append_right, length_permutation}
 use Rattle.sgb_search.specs.declared.judge.Judge.{Ghosts}
-use Rattle.sgb_search.specs.Runs.{IsRun}
 use Rattle.sgb_search.specs.Neighbours.{neighbours, all_answered, questions_along, front_questions, back_questions}
 use Rattle.sgb_search.specs.Groups.{Groups}
 use Rattle.sgb_search.proofs.Runs.{run_append}
@@ -74,9 +73,9 @@ module _ {A : Type 0} where
   back_pairs group rest h =
       let cs = across rest group ++ neighbours group in
       let e : asked_pairs (back_questions (rest ++ group) (length group)) ≡ reverse cs =
-          pairs-along (reverse (neighbours (rest ++ group))) (length group) h
-          ∙ ap (λ l. take (length group) l) (ap reverse (neighbours-append rest group) ∙ reverse-append (neighbours rest) cs)
-          ∙ back_taken group rest h in
+      pairs-along (reverse (neighbours (rest ++ group))) (length group) h
+      ∙ ap (λ l. take (length group) l) (ap reverse (neighbours-append rest group) ∙ reverse-append (neighbours rest) cs)
+      ∙ back_taken group rest h in
       let p : IsPermutation (reverse cs ++ neighbours rest) (cs ++ neighbours rest) = IsPermutation-append_left (neighbours rest) (reverse cs) cs (IsPermutation-sym cs (reverse cs) (IsPermutation-reverse cs)) in
       rw (e, neighbours-append rest group) (IsPermutation-trans (reverse cs ++ neighbours rest) (cs ++ neighbours rest) (neighbours rest ++ cs) p (IsPermutation-append_comm cs (neighbours rest)))
 
@@ -107,7 +106,7 @@ module _ {T J : Type 0} (g : Ghosts J T) where
     run = run_append _ _ s.judge a.questions t.judge b.questions u.judge a.run b.run;
     pairs =
         let e : asked_pairs (a.questions ++ b.questions) ++ neighbours u.remainder ≡ asked_pairs a.questions ++ (asked_pairs b.questions ++ neighbours u.remainder) =
-            ap (λ l. l ++ neighbours u.remainder) (map-append {B = T × T} (λ r. r.0) a.questions b.questions) ∙ append_assoc (asked_pairs a.questions) (asked_pairs b.questions) (neighbours u.remainder) in
+        ap (λ l. l ++ neighbours u.remainder) (map-append {B = T × T} (λ r. r.0) a.questions b.questions) ∙ append_assoc (asked_pairs a.questions) (asked_pairs b.questions) (neighbours u.remainder) in
         rw e (IsPermutation-trans _ (asked_pairs a.questions ++ neighbours t.remainder) _ (IsPermutation-append_right (asked_pairs a.questions) _ _ b.pairs) a.pairs);
   }
 

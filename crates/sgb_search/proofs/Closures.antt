@@ -1,6 +1,6 @@
 -- Judges over a closure: when they may be asked, and for which test they are settled.
 use Rattle.std.specs.Prelude.{◌≡◌, Bool, List, [], ◌∷◌}
-use Rattle.std.proofs.Common.{refl, sym, ap, ◌∙◌, subst}
+use Rattle.std.proofs.Common.{refl, ap, ◌∙◌}
 use Rattle.std.specs.Borrow.{Bor}
 use Rattle.std.specs.Fn.{Mut, ComputesOnPairs, ComputesKey, CalledAt, CalledAtTwo}
 use denote.Param.Always.{always_mut, mut_next}

@@ -11,7 +11,7 @@ use Rattle.slice_group_by.specs.declared.queue.End.{End}
 use Rattle.slice_group_by.specs.declared.queue.End.TheVariants.{Front, Back}
 use Rattle.sgb_search.specs.Runs.{AsksWithin}
 use Rattle.slice_group_by.specs.Queue.{answer, after, answers, left}
-use Rattle.slice_group_by.specs.Walk.{TakesPiece, TakesPart, Partition, handed, kept, IsChain, AnswersAsQueue}
+use Rattle.slice_group_by.specs.Walk.{TakesPiece, TakesPart, Partition, kept, IsChain, AnswersAsQueue}
 
 pub joined_push : {A : Type 0} (gs : List (List A)) (g : List A) → joined (gs ++ g ∷ []) ≡ joined gs ++ g
 joined_push gs g = flat_map-append (λ x. x) gs (g ∷ []) ∙ ap (λ l. joined gs ++ l) (append-nil g)

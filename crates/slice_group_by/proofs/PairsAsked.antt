@@ -1,5 +1,5 @@
 -- A chain of calls asks about each neighbouring pair that goes once.
-use Rattle.std.proofs.Common.{◌≡◌, ℕ, ◌+◌, ◌-◌, List, [], ◌∷◌, length, Option, refl, ap, arith, subst}
+use Rattle.std.proofs.Common.{◌≡◌, ◌-◌, List, [], ◌∷◌, length, Option, ap, arith}
 use Rattle.std.specs.Borrow.{Bor}
 use Rattle.sgb_search.specs.declared.judge.Judge.{Ghosts}
 use Rattle.sgb_search.specs.Runs.{IsRunOf}

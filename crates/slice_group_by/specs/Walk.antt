@@ -1,5 +1,5 @@
 -- What one call of a queue of groups does, and what a list of calls does.
-use Rattle.std.specs.Prelude.{◌≡◌, Bool, List, [], ◌∷◌, ◌++◌, Option, None, Some, reverse}
+use Rattle.std.specs.Prelude.{◌≡◌, Bool, List, [], ◌∷◌, ◌++◌, Option, Some, reverse}
 use Rattle.sgb_search.specs.Ends.{CutsFront, CutsBack}
 use Rattle.sgb_search.specs.Split.{joined, IsSplit, TakesFirst, TakesLast}
 use Rattle.slice_group_by.specs.Queue.{answers, left}

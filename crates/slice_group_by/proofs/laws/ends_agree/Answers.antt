@@ -1,4 +1,4 @@
-use Rattle.std.proofs.Common.{◌≡◌, ◌++◌, sym, ap, ◌∙◌, map, reverse}
+use Rattle.std.proofs.Common.{◌≡◌, sym, ap, ◌∙◌, map, reverse}
 use Rattle.std.proofs.lemmas.List.{append-nil, reverse-reverse}
 use Rattle.sgb_search.specs.Split.{split}
 use Rattle.slice_group_by.specs.declared.queue.End.TheVariants.{Front, Back}

@@ -1,5 +1,4 @@
-use Rattle.std.proofs.Common.{rules, refl}
-use borrow.Author.Rules.{of_calls}
+use Rattle.std.proofs.Common.{refl}
 use Rattle.sgb_search.proofs.judge.KeyJudgeJudge.ask.Goals as goal
 
 pub func-right_key-requires : goal.func-right_key-requires

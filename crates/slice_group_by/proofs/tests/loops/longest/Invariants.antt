@@ -2,8 +2,4 @@ use Rattle.std.proofs.Common.{◌≡◌, map, max, fold, length}
 use Rattle.slice_group_by.proofs.tests.loops.longest.Given as goal
 
 abbrev pub invariant-loop-group : goal.invariant-loop-group
-invariant-loop-group g l = record {
-  can : (goal.iterator-loop-group g).can_next l.group-iterator;
-  finite : (goal.iterator-loop-group g).is_finite l.group-iterator;
-  best : l.best ≡ fold max 0 (map length (map (λ group. group.now) l.yielded));
-}
+invariant-loop-group g l = l.best ≡ fold max 0 (map length (map (λ group. group.now) l.yielded))

@@ -1,4 +1,4 @@
-use Rattle.std.proofs.Common.{rules, length, map, ◌∙◌, sym}
+use Rattle.std.proofs.Common.{rules, length, ◌∙◌, sym}
 use Rattle.std.proofs.lemmas.Iterator.{YieldsList-from_map}
 use Rattle.std.proofs.lemmas.Iterator.Consumers.{nth_from_yields_List, YieldsList-at}
 use Rattle.std.proofs.lemmas.Iterator.Adapters.{option_map_id}

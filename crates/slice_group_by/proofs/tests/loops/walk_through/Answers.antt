@@ -1,4 +1,4 @@
-use Rattle.std.proofs.Common.{◌≡◌, ◌+◌, ◌-◌, length, arith, ap}
+use Rattle.std.proofs.Common.{length, arith, ap}
 use Rattle.slice_group_by.proofs.tests.loops.walk_through.Goals as goal
 
 pub returns : goal.returns

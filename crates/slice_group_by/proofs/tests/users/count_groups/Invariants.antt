@@ -3,8 +3,6 @@ use Rattle.slice_group_by.proofs.tests.users.count_groups.Given as goal
 
 abbrev pub invariant-loop-group : goal.invariant-loop-group
 invariant-loop-group g l = record {
-  can : (goal.iterator-loop-group g).can_next l._group-iterator;
-  finite : (goal.iterator-loop-group g).is_finite l._group-iterator;
   counted : l.count ≡ length l.yielded;
   within : l.count + length l._group-iterator.remainder ≤ length l.xs;
 }
