@@ -65,41 +65,56 @@ pub fn chains_answer<Q: GroupQueue>(_queue: &Q)
 /// in reverse. What `next` and `next_back` of this library's types give is `gives Front` and `gives Back`.
 #[inline]
 pub fn sees_pieces<Q: GroupQueue>(_queue: &Q)
-    ensures front { (p : Q.Element → Q.Element → Bool) (q : Q) → Q.is_settled q p → YieldsList (Q.gives Front) Q.shows q (split p (Q.remainder q)) }
-    ensures back { (p : Q.Element → Q.Element → Bool) (q : Q) → Q.is_settled q p → YieldsList (Q.gives Back) Q.shows q (reverse (split p (Q.remainder q))) }
-    ensures rev { (p : Q.Element → Q.Element → Bool) (q : Rev Q) → Q.is_settled (rev_source q) p → YieldsList (rev_steps (Q.gives Back)) Q.shows q (reverse (split p (Q.remainder (rev_source q)))) }
+    ensures front { (p : Q.Element → Q.Element → Bool) (q : Q) → Q.is_settled q p
+        → YieldsList (Q.gives Front) Q.shows q (split p (Q.remainder q)) }
+    ensures back { (p : Q.Element → Q.Element → Bool) (q : Q) → Q.is_settled q p
+        → YieldsList (Q.gives Back) Q.shows q (reverse (split p (Q.remainder q))) }
+    ensures rev { (p : Q.Element → Q.Element → Bool) (q : Rev Q) → Q.is_settled (rev_source q) p
+        → YieldsList (rev_steps (Q.gives Back)) Q.shows q (reverse (split p (Q.remainder (rev_source q)))) }
 {}
 
 /// The groups that calls at one end give, joined, are what goes off that end, whatever the judge answers: all of it, where
 /// the calls go on until `None`.
 #[inline]
 pub fn groups_join<Q: GroupQueue>(_queue: &Q)
-    ensures front { (q t : Q) (groups : List Q.Item) → Yields (Q.gives Front) q groups t → joined (map Q.shows groups) ++ Q.remainder t ≡ Q.remainder q }
-    ensures back { (q t : Q) (groups : List Q.Item) → Yields (Q.gives Back) q groups t → Q.remainder t ++ joined (reverse (map Q.shows groups)) ≡ Q.remainder q }
-    ensures whole_front { (q : Q) (groups : List Q.Item) → Drains (Q.gives Front) q groups → joined (map Q.shows groups) ≡ Q.remainder q }
-    ensures whole_back { (q : Q) (groups : List Q.Item) → Drains (Q.gives Back) q groups → joined (reverse (map Q.shows groups)) ≡ Q.remainder q }
+    ensures front { (q t : Q) (groups : List Q.Item) → Yields (Q.gives Front) q groups t
+        → joined (map Q.shows groups) ++ Q.remainder t ≡ Q.remainder q }
+    ensures back { (q t : Q) (groups : List Q.Item) → Yields (Q.gives Back) q groups t
+        → Q.remainder t ++ joined (reverse (map Q.shows groups)) ≡ Q.remainder q }
+    ensures whole_front { (q : Q) (groups : List Q.Item) → Drains (Q.gives Front) q groups
+        → joined (map Q.shows groups) ≡ Q.remainder q }
+    ensures whole_back { (q : Q) (groups : List Q.Item) → Drains (Q.gives Back) q groups
+        → joined (reverse (map Q.shows groups)) ≡ Q.remainder q }
 {}
 
 /// Front and back agree: the groups from the back until nothing remains are, in reverse, those from the front, for every
 /// test that the queue is settled for, also one that is not symmetric.
 #[inline]
 pub fn ends_agree<Q: GroupQueue>(_queue: &Q)
-    ensures { (p : Q.Element → Q.Element → Bool) (q s t : Q) (fronts backs : List Q.Item) → Q.is_settled q p → Yields (Q.gives Front) q fronts s → Q.remainder s ≡ [] → Yields (Q.gives Back) q backs t → Q.remainder t ≡ [] → reverse (map Q.shows backs) ≡ map Q.shows fronts }
+    ensures { (p : Q.Element → Q.Element → Bool) (q s t : Q) (fronts backs : List Q.Item) → Q.is_settled q p
+        → Yields (Q.gives Front) q fronts s → Q.remainder s ≡ [] → Yields (Q.gives Back) q backs t
+        → Q.remainder t ≡ [] → reverse (map Q.shows backs) ≡ map Q.shows fronts }
 {}
 
 /// How many groups come, whatever the judge answers: no more than elements go, at least one before nothing remains of a
 /// nonempty remainder, and as many calls as there are elements leave nothing.
 #[inline]
 pub fn groups_still_come<Q: GroupQueue>(_queue: &Q)
-    ensures most { (q t : Q) (ends : List End) (out : List (Option Q.Item)) → IsChain Q.gives q ends out t → count_by is_some out + length (Q.remainder t) ≤ length (Q.remainder q) }
-    ensures least { (q t : Q) (ends : List End) (out : List (Option Q.Item)) → IsChain Q.gives q ends out t → Q.remainder q ≢ [] → Q.remainder t ≡ [] → 0 < count_by is_some out }
-    ensures fewer { (q t : Q) (ends : List End) (out : List (Option Q.Item)) → IsChain Q.gives q ends out t → length (Q.remainder t) ≤ length (Q.remainder q) - length ends }
+    ensures most { (q t : Q) (ends : List End) (out : List (Option Q.Item)) → IsChain Q.gives q ends out t
+        → count_by is_some out + length (Q.remainder t) ≤ length (Q.remainder q) }
+    ensures least { (q t : Q) (ends : List End) (out : List (Option Q.Item)) → IsChain Q.gives q ends out t
+        → Q.remainder q ≢ [] → Q.remainder t ≡ [] → 0 < count_by is_some out }
+    ensures fewer { (q t : Q) (ends : List End) (out : List (Option Q.Item)) → IsChain Q.gives q ends out t
+        → length (Q.remainder t) ≤ length (Q.remainder q) - length ends }
 {}
 
 /// A list of calls of linear groups asks about each neighbouring pair that goes once, however the ends are mixed, and
 /// about no other: so until nothing remains of n > 0 elements it asks exactly n - 1 questions.
 #[inline]
 pub fn each_pair_asked_once<T, J: Judge<T>>(_groups: &LinearGroups<'_, T, J>)
-    ensures pairs { (s t : Groups T J) (ends : List End) (out : List (Option (Bor (List T)))) → IsChain (at_end (GivesFront J.Judge) (GivesBack J.Judge)) s ends out t → AsksEachOnce J.Judge s t }
-    ensures whole { (s t : Groups T J) (ends : List End) (out : List (Option (Bor (List T)))) → IsChain (at_end (GivesFront J.Judge) (GivesBack J.Judge)) s ends out t → t.remainder ≡ [] → IsRunOf J.may_ask J.answers (length s.remainder - 1) s.judge t.judge }
+    ensures pairs { (s t : Groups T J) (ends : List End) (out : List (Option (Bor (List T))))
+        → IsChain (at_end (GivesFront J.Judge) (GivesBack J.Judge)) s ends out t → AsksEachOnce J.Judge s t }
+    ensures whole { (s t : Groups T J) (ends : List End) (out : List (Option (Bor (List T))))
+        → IsChain (at_end (GivesFront J.Judge) (GivesBack J.Judge)) s ends out t → t.remainder ≡ []
+        → IsRunOf J.may_ask J.answers (length s.remainder - 1) s.judge t.judge }
 {}
