@@ -1,7 +1,6 @@
 -- The pairs of a call's questions, with the neighbouring pairs that are left, are those that there were.
 use Rattle.std.proofs.Common.{◌≡◌, ℕ, zero, suc, ◌+◌, ◌-◌, ◌<◌, Bool, true, false, List, [], ◌∷◌, ◌++◌, length, take, drop, map, reverse, Option, None, Some, refl, sym, ap, ◌∙◌, subst, arith, take_all, append_assoc}
 use Rattle.std.specs.Prelude.{IsPermutation}
-use Rattle.std.specs.Borrow.{Bor}
 use Rattle.std.proofs.lemmas.List.{append-nil, reverse-append, length-append, length-reverse, length-map, map-append, take-append-drop}
 use Rattle.std.proofs.Math.Seq.{take-append_seam, drop-append_seam}
 use Rattle.std.proofs.lemmas.List.Sorted.{IsPermutation-refl, IsPermutation-trans, IsPermutation-sym, IsPermutation-reverse, IsPermutation-append_comm, IsPermutation-append_left, IsPermutation-append_right, length_permutation}
@@ -10,7 +9,7 @@ use Rattle.sgb_search.specs.Neighbours.{neighbours, all_answered, questions_alon
 use Rattle.sgb_search.specs.Groups.{Groups}
 use Rattle.sgb_search.proofs.Runs.{run_append}
 use Rattle.sgb_search.proofs.Pairs.{across, neighbours-append, length-neighbours}
-use Rattle.sgb_linear_group.specs.Linear.{GivesFront, GivesBack, AsksEachOnce}
+use Rattle.sgb_linear_group.specs.Linear.{FrontCall, BackCall, AsksEachOnce}
 
 module _ {A : Type 0} where
   -- what was asked about
@@ -83,20 +82,20 @@ module _ {T J : Type 0} (g : Ghosts J T) where
   pub asks_none : (s t : Groups T J) → t ≡ s → AsksEachOnce g s t
   asks_none s t e = record { questions = []; run = ap (λ u. u.judge) e; pairs = subst (λ (u : Groups T J). IsPermutation (neighbours u.remainder) (neighbours s.remainder)) (sym e) (IsPermutation-refl (neighbours s.remainder)) }
 
-  pub front_asks_once : (s t : Groups T J) (r : Option (Bor (List T))) → GivesFront g s r t → AsksEachOnce g s t
+  pub front_asks_once : (s t : Groups T J) (r : Option (List T)) → FrontCall g s r t → AsksEachOnce g s t
   front_asks_once s t None h = asks_none s t h.1
   front_asks_once s t (Some x) h = record {
-    questions = front_questions s.remainder (length x.now);
+    questions = front_questions s.remainder (length x);
     run = h.asked;
-    pairs = rw (h.cut, front_pairs x.now t.remainder h.nonempty) (IsPermutation-refl (neighbours (x.now ++ t.remainder)));
+    pairs = rw (h.cut, front_pairs x t.remainder h.nonempty) (IsPermutation-refl (neighbours (x ++ t.remainder)));
   }
 
-  pub back_asks_once : (s t : Groups T J) (r : Option (Bor (List T))) → GivesBack g s r t → AsksEachOnce g s t
+  pub back_asks_once : (s t : Groups T J) (r : Option (List T)) → BackCall g s r t → AsksEachOnce g s t
   back_asks_once s t None h = asks_none s t h.1
   back_asks_once s t (Some x) h = record {
-    questions = back_questions s.remainder (length x.now);
+    questions = back_questions s.remainder (length x);
     run = h.asked;
-    pairs = rw h.cut (back_pairs x.now t.remainder h.nonempty);
+    pairs = rw h.cut (back_pairs x t.remainder h.nonempty);
   }
 
   -- one chain of calls after another

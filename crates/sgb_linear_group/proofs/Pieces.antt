@@ -1,7 +1,5 @@
 -- A call on a settled iterator gives the outermost piece, and leaves it settled.
 use Rattle.std.proofs.Common.{Bool, List, [], ◌∷◌, length, Option, None, Some, refl, sym, subst, arith}
-use Rattle.std.specs.Prelude.{option_map}
-use Rattle.std.specs.Borrow.{Bor}
 use Rattle.sgb_search.specs.declared.judge.Judge.{Ghosts}
 use Rattle.sgb_search.specs.Neighbours.{AreNeighbours, front_questions, back_questions, on_pairs}
 use Rattle.sgb_search.specs.Split.{TakesFirst, TakesLast}
@@ -9,7 +7,7 @@ use Rattle.sgb_search.specs.Groups.{Groups}
 use Rattle.sgb_search.proofs.Runs.{answers_after}
 use Rattle.sgb_search.proofs.Pairs.{front_about, back_about, front_says, back_says, neighbours_of_first, neighbours_of_rest}
 use Rattle.sgb_search.proofs.Splits.{takes_first, takes_last}
-use Rattle.sgb_linear_group.specs.Linear.{IsSettled, IsFrontGroup, IsBackGroup, GivesFront, GivesBack}
+use Rattle.sgb_linear_group.specs.Linear.{IsSettled, IsFrontGroup, IsBackGroup, FrontCall, BackCall}
 
 module _ {T J : Type 0} (g : Ghosts J T) (p : T → T → Bool) where
   first_taken : (s : Groups T J) (group : List T) (t : Groups T J) → IsSettled g s p → IsFrontGroup g s group t → TakesFirst p s.remainder (Some group) t.remainder
@@ -34,10 +32,10 @@ module _ {T J : Type 0} (g : Ghosts J T) (p : T → T → Bool) where
   back_stays s group t m h =
       answers_after _ _ (AreNeighbours s.remainder) (AreNeighbours t.remainder) (λ q n. rw h.cut (neighbours_of_first t.remainder group q n)) (on_pairs p) s.judge _ t.judge h.asked (back_about s.remainder (length group)) m
 
-  pub front_gives_piece : (s t : Groups T J) (r : Option (Bor (List T))) → IsSettled g s p → GivesFront g s r t → TakesFirst p s.remainder (option_map (λ x. x.now) r) t.remainder × IsSettled g t p
+  pub front_gives_piece : (s t : Groups T J) (r : Option (List T)) → IsSettled g s p → FrontCall g s r t → TakesFirst p s.remainder r t.remainder × IsSettled g t p
   front_gives_piece s t None m h = (rw (h.1, h.0) (refl, refl), subst (λ (u : Groups T J). IsSettled g u p) (sym h.1) m)
-  front_gives_piece s t (Some x) m h = (first_taken s x.now t m h, front_stays s x.now t m h)
+  front_gives_piece s t (Some x) m h = (first_taken s x t m h, front_stays s x t m h)
 
-  pub back_gives_piece : (s t : Groups T J) (r : Option (Bor (List T))) → IsSettled g s p → GivesBack g s r t → TakesLast p s.remainder (option_map (λ x. x.now) r) t.remainder × IsSettled g t p
+  pub back_gives_piece : (s t : Groups T J) (r : Option (List T)) → IsSettled g s p → BackCall g s r t → TakesLast p s.remainder r t.remainder × IsSettled g t p
   back_gives_piece s t None m h = (rw (h.1, h.0) (refl, refl), subst (λ (u : Groups T J). IsSettled g u p) (sym h.1) m)
-  back_gives_piece s t (Some x) m h = (last_taken s x.now t m h, back_stays s x.now t m h)
+  back_gives_piece s t (Some x) m h = (last_taken s x t m h, back_stays s x t m h)

@@ -1,7 +1,5 @@
 -- The laws of a queue for linear groups, at each end.
 use Rattle.std.proofs.Common.{◌≡◌, ℕ, ◌+◌, ◌<◌, Bool, true, List, [], length, Option, None, Some, refl, ap, ◌∙◌, arith}
-use Rattle.std.specs.Prelude.{option_map}
-use Rattle.std.specs.Borrow.{Bor}
 use Rattle.sgb_search.specs.declared.judge.Judge.{Ghosts}
 use Rattle.sgb_search.specs.Runs.{IsRunOf, AsksWithin}
 use Rattle.sgb_search.specs.Neighbours.{neighbours}
@@ -9,7 +7,7 @@ use Rattle.sgb_search.specs.Ends.{CutsFront, CutsBack}
 use Rattle.sgb_search.specs.Split.{TakesFirst, TakesLast}
 use Rattle.sgb_search.specs.Groups.{Groups}
 use Rattle.sgb_search.proofs.Runs.{run_of_none, run_of_more}
-use Rattle.sgb_linear_group.specs.Linear.{IsSettled, GivesFront, GivesBack, AsksEachOnce}
+use Rattle.sgb_linear_group.specs.Linear.{IsSettled, FrontCall, BackCall, AsksEachOnce}
 use Rattle.sgb_linear_group.proofs.Pieces.{front_gives_piece, back_gives_piece}
 use Rattle.sgb_linear_group.proofs.PairsAsked.{front_asks_once, back_asks_once, count_asked}
 
@@ -17,18 +15,18 @@ module _ {T J : Type 0} (g : Ghosts J T) where
   some : (xs : List T) → 0 < length xs → xs ≡ [] → ⊥
   some xs l e = omega (arith, l, ap length e)
 
-  pub front_part : (s : Groups T J) (r : Option (Bor (List T))) (t : Groups T J) → GivesFront g s r t → CutsFront s.remainder (option_map (λ x. x.now) r) t.remainder
+  pub front_part : (s : Groups T J) (r : Option (List T)) (t : Groups T J) → FrontCall g s r t → CutsFront s.remainder r t.remainder
   front_part s None t h = (h.0, ap (λ u. u.remainder) h.1 ∙ h.0)
-  front_part s (Some x) t h = (some x.now h.nonempty, h.cut)
+  front_part s (Some x) t h = (some x h.nonempty, h.cut)
 
-  pub back_part : (s : Groups T J) (r : Option (Bor (List T))) (t : Groups T J) → GivesBack g s r t → CutsBack s.remainder (option_map (λ x. x.now) r) t.remainder
+  pub back_part : (s : Groups T J) (r : Option (List T)) (t : Groups T J) → BackCall g s r t → CutsBack s.remainder r t.remainder
   back_part s None t h = (h.0, ap (λ u. u.remainder) h.1 ∙ h.0)
-  back_part s (Some x) t h = (some x.now h.nonempty, h.cut)
+  back_part s (Some x) t h = (some x h.nonempty, h.cut)
 
-  pub front_piece : (s : Groups T J) (r : Option (Bor (List T))) (t : Groups T J) (p : T → T → Bool) → GivesFront g s r t → IsSettled g s p → TakesFirst p s.remainder (option_map (λ x. x.now) r) t.remainder × IsSettled g t p
+  pub front_piece : (s : Groups T J) (r : Option (List T)) (t : Groups T J) (p : T → T → Bool) → FrontCall g s r t → IsSettled g s p → TakesFirst p s.remainder r t.remainder × IsSettled g t p
   front_piece s r t p h m = front_gives_piece g p s t r m h
 
-  pub back_piece : (s : Groups T J) (r : Option (Bor (List T))) (t : Groups T J) (p : T → T → Bool) → GivesBack g s r t → IsSettled g s p → TakesLast p s.remainder (option_map (λ x. x.now) r) t.remainder × IsSettled g t p
+  pub back_piece : (s : Groups T J) (r : Option (List T)) (t : Groups T J) (p : T → T → Bool) → BackCall g s r t → IsSettled g s p → TakesLast p s.remainder r t.remainder × IsSettled g t p
   back_piece s r t p h m = back_gives_piece g p s t r m h
 
   -- n questions were asked, and the pairs that remain are due
@@ -47,8 +45,8 @@ module _ {T J : Type 0} (g : Ghosts J T) where
   within : (s t : Groups T J) → AsksEachOnce g s t → AsksWithin asked due true s t
   within s t a = let n = count_asked g s t a in record { number = length a.questions; asks = (a.questions, a.run, refl); most = omega (arith, n); all = λ _. n }
 
-  pub front_asks : (s : Groups T J) (r : Option (Bor (List T))) (t : Groups T J) → GivesFront g s r t → AsksWithin asked due true s t
+  pub front_asks : (s : Groups T J) (r : Option (List T)) (t : Groups T J) → FrontCall g s r t → AsksWithin asked due true s t
   front_asks s r t h = within s t (front_asks_once g s t r h)
 
-  pub back_asks : (s : Groups T J) (r : Option (Bor (List T))) (t : Groups T J) → GivesBack g s r t → AsksWithin asked due true s t
+  pub back_asks : (s : Groups T J) (r : Option (List T)) (t : Groups T J) → BackCall g s r t → AsksWithin asked due true s t
   back_asks s r t h = within s t (back_asks_once g s t r h)

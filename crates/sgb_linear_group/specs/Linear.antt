@@ -1,5 +1,5 @@
 -- What the calls of an iterator over linear groups give.
-use Rattle.std.specs.Prelude.{◌≡◌, ◌<◌, Bool, List, [], ◌++◌, length, map, Option, MatchOption, IsPermutation}
+use Rattle.std.specs.Prelude.{◌≡◌, ◌<◌, Bool, List, [], ◌++◌, length, map, Option, MatchOption, IsPermutation, option_copied}
 use Rattle.std.specs.Borrow.{Bor}
 use Rattle.sgb_search.specs.declared.judge.Judge.{Ghosts}
 use Rattle.sgb_search.specs.Runs.{IsRun}
@@ -28,13 +28,20 @@ module _ {T J : Type 0} (g : Ghosts J T) where
     pub cut : s.remainder ≡ t.remainder ++ group
     pub asked : IsRun g.may_ask g.answers s.judge (back_questions s.remainder (length group)) t.judge
 
-  -- a call at the front gives the group there, or `None` exactly where nothing remains, and then nothing is asked and nothing changes
-  abbrev pub GivesFront : Groups T J → Option (Bor (List T)) → Groups T J → Type 0
-  GivesFront s r t = MatchOption r ((s.remainder ≡ []) × (t ≡ s)) (λ group. IsFrontGroup s group.now t)
+  -- a call at the front: it gives the group there, or `None` exactly where nothing remains, and then nothing is asked and nothing changes
+  abbrev pub FrontCall : Groups T J → Option (List T) → Groups T J → Type 0
+  FrontCall s group t = MatchOption group ((s.remainder ≡ []) × (t ≡ s)) (λ x. IsFrontGroup s x t)
 
   -- a call at the back
+  abbrev pub BackCall : Groups T J → Option (List T) → Groups T J → Type 0
+  BackCall s group t = MatchOption group ((s.remainder ≡ []) × (t ≡ s)) (λ x. IsBackGroup s x t)
+
+  -- what `next` gives for reading, and `next_back`
+  abbrev pub GivesFront : Groups T J → Option (Bor (List T)) → Groups T J → Type 0
+  GivesFront s group t = FrontCall s (option_copied group) t
+
   abbrev pub GivesBack : Groups T J → Option (Bor (List T)) → Groups T J → Type 0
-  GivesBack s r t = MatchOption r ((s.remainder ≡ []) × (t ≡ s)) (λ group. IsBackGroup s group.now t)
+  GivesBack s group t = BackCall s (option_copied group) t
 
   -- from s to t the judge was asked about the neighbouring pairs that are gone, about each once
   pub record AsksEachOnce (s t : Groups T J) : Type 0 where

@@ -1,5 +1,6 @@
 -- A chain of calls asks about each neighbouring pair that goes once.
 use Rattle.std.proofs.Common.{◌≡◌, ◌-◌, List, [], ◌∷◌, length, Option, ap, arith}
+use Rattle.std.specs.Prelude.{option_copied}
 use Rattle.std.specs.Borrow.{Bor}
 use Rattle.sgb_search.specs.declared.judge.Judge.{Ghosts}
 use Rattle.sgb_search.specs.Runs.{IsRunOf}
@@ -15,8 +16,8 @@ use Rattle.slice_group_by.specs.declared.queue.End.TheVariants.{Front, Back}
 
 module _ {T J : Type 0} (g : Ghosts J T) where
   asks_once : (e : End) (s : Groups T J) (o : Option (Bor (List T))) (t : Groups T J) → at_end (GivesFront g) (GivesBack g) e s o t → AsksEachOnce g s t
-  asks_once Front s o t h = front_asks_once g s t o h
-  asks_once Back s o t h = back_asks_once g s t o h
+  asks_once Front s o t h = front_asks_once g s t (option_copied o) h
+  asks_once Back s o t h = back_asks_once g s t (option_copied o) h
 
   pub chain_asks_once : (s t : Groups T J) (es : List End) (os : List (Option (Bor (List T)))) → IsChain (at_end (GivesFront g) (GivesBack g)) s es os t → AsksEachOnce g s t
   chain_asks_once s t [] [] c = asks_none g s t c

@@ -6,7 +6,7 @@ use sgb_search::judge::Judge;
 impl<'a, T, J: Judge<T> + Drop> GroupQueue for LinearGroups<'a, T, J> {
     type Item = &'a [T];
 
-    ghost use Rattle.std.specs.Prelude.{length, true};
+    ghost use Rattle.std.specs.Prelude.{length, true, option_copied};
     ghost use Rattle.sgb_search.specs.Neighbours.{neighbours};
     ghost use Rattle.sgb_search.specs.Runs.{IsRunOf};
     ghost use Rattle.sgb_linear_group.specs.Linear.{IsCallable, IsSettled, GivesFront, GivesBack};
@@ -41,15 +41,15 @@ impl<'a, T, J: Judge<T> + Drop> GroupQueue for LinearGroups<'a, T, J> {
         self.next_back()
     }
 
-    ghost part = { each_end _ (laws.front_part J.Judge) (laws.back_part J.Judge) };
+    ghost part = { each_end _ (λ s group t. laws.front_part J.Judge s (option_copied group) t) (λ s group t. laws.back_part J.Judge s (option_copied group) t) };
 
     ghost none = { each_end _ (λ _ _ h. h.1) (λ _ _ h. h.1) };
 
-    ghost piece = { each_end _ (laws.front_piece J.Judge) (laws.back_piece J.Judge) };
+    ghost piece = { each_end _ (λ s group t. laws.front_piece J.Judge s (option_copied group) t) (λ s group t. laws.back_piece J.Judge s (option_copied group) t) };
 
     ghost asked_none = { laws.asked_none J.Judge };
 
     ghost asked_more = { laws.asked_more J.Judge };
 
-    ghost asks = { each_end _ (laws.front_asks J.Judge) (laws.back_asks J.Judge) };
+    ghost asks = { each_end _ (λ s group t. laws.front_asks J.Judge s (option_copied group) t) (λ s group t. laws.back_asks J.Judge s (option_copied group) t) };
 }
