@@ -1,0 +1,122 @@
+-- The machine value of the tokens, and what giving up a slice reference leaves. Assumes `Logic`.
+use Rattle.std.proofs.Common.{◌≡◌, ℕ, List, [], ◌∷◌, ◌++◌, refl}
+use lib.ListN.{length}
+use seplogic.Ra.Ura.{Ura}
+use mir.Syntax.{Lifetime}
+use mir.Val.{Val, vstruct, vcons, vnil}
+use base.Logic.{SProp, ent, emp}
+use base.Fml.{Lft, Fml, fobs, fres}
+use base.Stored.{coded_list}
+use types.Logic.{Logic, sem}
+use types.Kit.{‵, ◌$◌, ◌∵◌, !, qed, by, drop, keep, rewrite, fsplit, fsplit3, feq_l, updating, now, done}
+use types.Tokens.{name_done}
+use denote.RattleType.{RattleType}
+use denote.Ref.{MutBor, NamedLft}
+use denote.Slice.{MutSlice}
+use denote.FollowSlice.{heres_id}
+use denote.Shadow.{makes_shadow}
+use denote.Struct.Struct.{Struct}
+use denote.Struct.Owning.{shape}
+use Rattle.std.proofs.Common.{Bool, true, false, sym, rules, append_assoc, append-nil}
+use base.Logic.{wand, all, all_e, apply∗, sep, id⊢}
+use base.Fml.{GName, feq, fex, fsep}
+use types.Kit.{◌⊛◌, use0, raw, move, join, use1, use2, use3, assume, each, fpick, fpack, fjoin, feq_i}
+use denote.Array.{Array}
+use denote.Follow.{follows_both, both_by}
+use Rattle.sgb_loans.specs.Links.{ended_as, within, cut_link, links, loan_owns}
+use Rattle.sgb_loans.specs.contracts.loans.Ended as end
+use Rattle.sgb_loans.specs.contracts.loans.Loans as loans
+
+abbrev pub token : Val
+token = vstruct (vcons (vstruct vnil) vnil)
+
+regroup : {X : Type 0} (a b c d : List X) → a ++ ((b ++ c) ++ d) ≡ (a ++ b) ++ (c ++ d)
+regroup a b c d = search (rules, append_assoc)
+
+module _ {M : Type 1} {𝓤 : Ura M} (𝓛 : Logic 𝓤) (R : RattleType) where
+  open 𝓛 use {H, A}
+
+  abbrev pub EndedData : NamedLft → Fml
+  EndedData a = (Struct (shape (end.the_type a R))).own_val (tt, tt) (token ∷ [])
+
+  pub ended_made : (a : NamedLft) → ent 𝓤 (emp 𝓤) (sem 𝓛 (EndedData a))
+  ended_made a = makes_shadow 𝓛 (EndedData a) (λ vss. (tt, ((λ uss. (tt, tt)), tt))) ((vstruct vnil ∷ [], tt), (refl, ((tt, (refl, tt)), tt)))
+
+  abbrev pub LoansData : Fml
+  LoansData = (Struct (shape (loans.the_type R))).own_val (tt, tt) (token ∷ [])
+
+  pub loans_made : ent 𝓤 (emp 𝓤) (sem 𝓛 LoansData)
+  loans_made = makes_shadow 𝓛 LoansData (λ vss. (tt, ((λ uss. (tt, tt)), tt))) ((vstruct vnil ∷ [], tt), (refl, ((tt, (refl, tt)), tt)))
+
+  pub gives_up : (ℓ : Lifetime) (κ : Lft) (r : MutBor (List R.Denot)) (vs : List Val)
+      → ent 𝓤 (sem 𝓛 ((MutSlice ℓ κ R).own_val r vs)) (H.⇛ (sem 𝓛 (ended_as R r.ghost_name r.now)))
+  gives_up ℓ κ r vs = qed 𝓛 (‵ ((MutSlice ℓ κ R).own_val r vs) ∷ []) ∵ updating ! $ fsplit3 ! $ fsplit ! $ feq_l ! (λ e. drop ! $
+      rewrite ! 0 (λ (l : List R.Denot). ‵ (fobs r.ghost_name ((coded_list R.coded).code l))) (heres_id R r.now) refl $ name_done ! tt $ now ! $ keep ! (0 ∷ []) $ done !)
+
+  abbrev Ends : GName → List R.Denot → List R.Denot → GName → List R.Denot → SProp 𝓤
+  Ends γ before after m w = wand 𝓤 (sem 𝓛 (ended_as R m w)) (sem 𝓛 (ended_as R γ (before ++ (w ++ after))))
+
+  pub closes : (γ δ : GName) (before after xs : List R.Denot)
+      → ent 𝓤 (sep 𝓤 (sem 𝓛 (loan_owns R γ before after [] δ)) (sem 𝓛 (ended_as R δ xs))) (sem 𝓛 (ended_as R γ (before ++ (xs ++ after))))
+  closes γ δ before after xs = qed 𝓛 (‵ (loan_owns R γ before after [] δ) ∷ ‵ (ended_as R δ xs) ∷ []) ∵ fpick ! (λ m. fsplit ! $ move ! (1 ∷ []) $ feq_l ! (λ e.
+      use1 𝓛 (raw (Ends γ before after m xs)) (all_e 𝓤 (Ends γ before after m) xs) $ move ! (1 ∷ []) $ rewrite ! 0 (λ (k : GName). ‵ (ended_as R k xs)) (sym e) refl $
+      by ! (apply∗ 𝓤 (sem 𝓛 (ended_as R m xs)) (sem 𝓛 (ended_as R γ (before ++ (xs ++ after)))))))
+
+  both : (γ γ₁ γ₂ : GName) (ys zs : List R.Denot)
+      → ent 𝓤 (sep 𝓤 (sep 𝓤 (sem 𝓛 (ended_as R γ₁ ys)) (sem 𝓛 (ended_as R γ₂ zs))) (sem 𝓛 (follows_both (Array R 0) (Array R 0) (Array R 0) γ γ₁ γ₂ ◌++◌))) (sem 𝓛 (ended_as R γ (ys ++ zs)))
+  unfolding both_by
+  both γ γ₁ γ₂ ys zs =
+      let P : List R.Denot × List R.Denot → SProp 𝓤 = λ w. wand 𝓤 (sep 𝓤 (sem 𝓛 (ended_as R γ₁ w.0)) (sem 𝓛 (ended_as R γ₂ w.1))) (sem 𝓛 (ended_as R γ (w.0 ++ w.1))) in
+      qed 𝓛 ((‵ (ended_as R γ₁ ys) ⊛ ‵ (ended_as R γ₂ zs)) ∷ ‵ (follows_both (Array R 0) (Array R 0) (Array R 0) γ γ₁ γ₂ ◌++◌) ∷ []) ∵ move ! (1 ∷ []) $
+      use1 𝓛 (raw (P (ys, zs))) (all_e 𝓤 P (ys, zs)) $ move ! (1 ∷ []) $ by ! (apply∗ 𝓤 (sep 𝓤 (sem 𝓛 (ended_as R γ₁ ys)) (sem 𝓛 (ended_as R γ₂ zs))) (sem 𝓛 (ended_as R γ (ys ++ zs))))
+
+  within_more : (γ m g δ : GName) (before after xs : List R.Denot)
+      → ent 𝓤 (sep 𝓤 (sem 𝓛 (within R γ before after m)) (sep 𝓤 (sem 𝓛 (ended_as R g xs)) (sem 𝓛 (cut_link R m true g δ)))) (sem 𝓛 (within R γ (before ++ xs) after δ))
+  within_more γ m g δ before after xs = qed 𝓛 (‵ (within R γ before after m) ∷ ‵ (ended_as R g xs) ∷ ‵ (cut_link R m true g δ) ∷ []) ∵ each ! (Ends γ (before ++ xs) after δ) (λ w. assume ! (‵ (ended_as R δ w)) $
+      -- [δ ended; within; g ended; the cut]
+      move ! (2 ∷ 0 ∷ []) $ join ! $ move ! (0 ∷ 2 ∷ []) $ use2 𝓛 (‵ (ended_as R m (xs ++ w))) (both m g δ xs w) $ move ! (1 ∷ []) $
+      use1 𝓛 (raw (Ends γ before after m (xs ++ w))) (all_e 𝓤 (Ends γ before after m) (xs ++ w)) $ move ! (1 ∷ []) $
+      use2 𝓛 (‵ (ended_as R γ (before ++ ((xs ++ w) ++ after)))) (apply∗ 𝓤 (sem 𝓛 (ended_as R m (xs ++ w))) (sem 𝓛 (ended_as R γ (before ++ ((xs ++ w) ++ after))))) $
+      rewrite ! 0 (λ (l : List R.Denot). ‵ (ended_as R γ l)) (regroup before xs w after) refl $ done !)
+
+  within_less : (γ m g δ : GName) (before after xs : List R.Denot)
+      → ent 𝓤 (sep 𝓤 (sem 𝓛 (within R γ before after m)) (sep 𝓤 (sem 𝓛 (ended_as R g xs)) (sem 𝓛 (cut_link R m false g δ)))) (sem 𝓛 (within R γ before (xs ++ after) δ))
+  within_less γ m g δ before after xs = qed 𝓛 (‵ (within R γ before after m) ∷ ‵ (ended_as R g xs) ∷ ‵ (cut_link R m false g δ) ∷ []) ∵ each ! (Ends γ before (xs ++ after) δ) (λ w. assume ! (‵ (ended_as R δ w)) $
+      -- [δ ended; within; g ended; the cut]
+      move ! (0 ∷ 2 ∷ []) $ join ! $ move ! (0 ∷ 2 ∷ []) $ use2 𝓛 (‵ (ended_as R m (w ++ xs))) (both m δ g w xs) $ move ! (1 ∷ []) $
+      use1 𝓛 (raw (Ends γ before after m (w ++ xs))) (all_e 𝓤 (Ends γ before after m) (w ++ xs)) $ move ! (1 ∷ []) $
+      use2 𝓛 (‵ (ended_as R γ (before ++ ((w ++ xs) ++ after)))) (apply∗ 𝓤 (sem 𝓛 (ended_as R m (w ++ xs))) (sem 𝓛 (ended_as R γ (before ++ ((w ++ xs) ++ after))))) $
+      rewrite ! 0 (λ (l : List R.Denot). ‵ (ended_as R γ (before ++ l))) (append_assoc w xs after) refl $ done !)
+
+  pub notes : (γ g δ : GName) (before after xs : List R.Denot) (cs : List (Bool × GName))
+      → ent 𝓤 (sep 𝓤 (sem 𝓛 (loan_owns R γ before after ((true, g) ∷ cs) δ)) (sem 𝓛 (ended_as R g xs))) (sem 𝓛 (loan_owns R γ (before ++ xs) after cs δ))
+  notes γ g δ before after xs cs = qed 𝓛 (‵ (loan_owns R γ before after ((true, g) ∷ cs) δ) ∷ ‵ (ended_as R g xs) ∷ []) ∵ fpick ! (λ m. fsplit ! $ move ! (1 ∷ []) $ fpick ! (λ k. fsplit ! $
+      move ! (2 ∷ 3 ∷ 0 ∷ []) $ use3 𝓛 (‵ (within R γ (before ++ xs) after k)) (within_more γ m g k before after xs) $ fjoin ! $
+      fpack ! GName (λ n. fsep (within R γ (before ++ xs) after n) (links R n cs δ)) k $ done !))
+
+  pub notes_back : (γ g δ : GName) (before after xs : List R.Denot) (cs : List (Bool × GName))
+      → ent 𝓤 (sep 𝓤 (sem 𝓛 (loan_owns R γ before after ((false, g) ∷ cs) δ)) (sem 𝓛 (ended_as R g xs))) (sem 𝓛 (loan_owns R γ before (xs ++ after) cs δ))
+  notes_back γ g δ before after xs cs = qed 𝓛 (‵ (loan_owns R γ before after ((false, g) ∷ cs) δ) ∷ ‵ (ended_as R g xs) ∷ []) ∵ fpick ! (λ m. fsplit ! $ move ! (1 ∷ []) $ fpick ! (λ k. fsplit ! $
+      move ! (2 ∷ 3 ∷ 0 ∷ []) $ use3 𝓛 (‵ (within R γ before (xs ++ after) k)) (within_less γ m g k before after xs) $ fjoin ! $
+      fpack ! GName (λ n. fsep (within R γ before (xs ++ after) n) (links R n cs δ)) k $ done !))
+
+  more_links : (m g δ ε : GName) (front : Bool) (cs : List (Bool × GName))
+      → ent 𝓤 (sep 𝓤 (sem 𝓛 (links R m cs δ)) (sem 𝓛 (cut_link R δ front g ε))) (sem 𝓛 (links R m (cs ++ (front, g) ∷ []) ε))
+  more_links m g δ ε front [] = qed 𝓛 (‵ (links R m [] δ) ∷ ‵ (cut_link R δ front g ε) ∷ []) ∵ feq_l ! (λ e. rewrite ! 0 (λ (j : GName). ‵ (cut_link R j front g ε)) (sym e) refl $
+      feq_i ! GName ε ε refl $ move ! (1 ∷ 0 ∷ []) $ fjoin ! $ fpack ! GName (λ n. fsep (cut_link R m front g n) (links R n [] ε)) ε $ done !)
+  more_links m g δ ε front (c ∷ cs) = qed 𝓛 (‵ (links R m (c ∷ cs) δ) ∷ ‵ (cut_link R δ front g ε) ∷ []) ∵ fpick ! (λ n. fsplit ! $ move ! (1 ∷ 2 ∷ []) $
+      use2 𝓛 (‵ (links R n (cs ++ (front, g) ∷ []) ε)) (more_links n g δ ε front cs) $ move ! (1 ∷ 0 ∷ []) $ fjoin ! $
+      fpack ! GName (λ k. fsep (cut_link R m c.0 c.1 k) (links R k (cs ++ (front, g) ∷ []) ε)) n $ done !)
+
+  pub cuts : (γ g δ ε : GName) (before after : List R.Denot) (front : Bool) (cs : List (Bool × GName))
+      → ent 𝓤 (sep 𝓤 (sem 𝓛 (loan_owns R γ before after cs δ)) (sem 𝓛 (cut_link R δ front g ε))) (sem 𝓛 (loan_owns R γ before after (cs ++ (front, g) ∷ []) ε))
+  cuts γ g δ ε before after front cs = qed 𝓛 (‵ (loan_owns R γ before after cs δ) ∷ ‵ (cut_link R δ front g ε) ∷ []) ∵ fpick ! (λ m. fsplit ! $ move ! (1 ∷ 2 ∷ []) $
+      use2 𝓛 (‵ (links R m (cs ++ (front, g) ∷ []) ε)) (more_links m g δ ε front cs) $ move ! (1 ∷ 0 ∷ []) $ fjoin ! $
+      fpack ! GName (λ n. fsep (within R γ before after n) (links R n (cs ++ (front, g) ∷ []) ε)) m $ done !)
+
+  begin : (γ : GName) → ent 𝓤 (emp 𝓤) (sem 𝓛 (within R γ [] [] γ))
+  begin γ = qed 𝓛 [] ∵ each ! (Ends γ [] [] γ) (λ w. assume ! (‵ (ended_as R γ w)) $ rewrite ! 0 (λ (l : List R.Denot). ‵ (ended_as R γ l)) (sym (append-nil w)) refl $ done !)
+
+  pub begins : (γ : GName) → ent 𝓤 (emp 𝓤) (sem 𝓛 (loan_owns R γ [] [] [] γ))
+  begins γ = qed 𝓛 [] ∵ use0 𝓛 (‵ (within R γ [] [] γ)) (begin γ) $ feq_i ! GName γ γ refl $ move ! (1 ∷ 0 ∷ []) $ fjoin ! $
+      fpack ! GName (λ n. fsep (within R γ [] [] n) (links R n [] γ)) γ $ done !
