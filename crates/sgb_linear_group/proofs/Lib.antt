@@ -2,3 +2,4 @@ pub mod Cuts
 pub mod Pieces
 pub mod PairsAsked
 pub mod Queue
+pub mod CutsMut

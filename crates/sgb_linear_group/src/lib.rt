@@ -2,6 +2,7 @@
 #![tactic(auto)]
 
 pub mod groups;
+pub mod groups_mut;
 pub mod linear_group;
 pub mod linear_group_by;
 pub mod linear_group_by_key;

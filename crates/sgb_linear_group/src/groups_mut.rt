@@ -1,0 +1,183 @@
+//! Linear groups for writing, over any judge.
+ghost use Rattle.std.specs.Prelude.{◌≡◌, ℕ, Bool, true, false, [], ◌∷◌, ◌++◌, drop, length, nat_eq, if◌then◌else◌, IfSome};
+ghost use Rattle.std.specs.Iterator.{UpTo};
+ghost use Rattle.std.specs.Iterator.SizeHint.{IsWithinCount};
+ghost use Rattle.sgb_loans.specs.GroupsMut.{GroupsMut, NothingOut, groups_mut_left};
+
+use crate::scan::{back_start, front_end};
+use sgb_loans::loans::{Ended, Loans};
+use sgb_search::judge::Judge;
+use std::iter::FusedIterator;
+use std::marker::Model;
+use std::mem;
+
+/// An iterator over the groups of a slice for writing, from both ends, that asks its judge about neighbouring elements.
+///
+/// It asks what `LinearGroups` asks, and gives the same groups. Contracts also see which parts of the input are out
+/// (`loans`): take note of each group in the order in which the groups came, by `note_front` and `note_back`, and then
+/// `finish` says what the whole input ends as.
+#[derive(Drop)]
+pub struct LinearGroupsMut<'a, T, J> {
+    slice: &'a mut [T],
+    judge: J,
+    loans: Loans<T>,
+}
+
+impl<'a, T, J> Model for LinearGroupsMut<'a, T, J> {
+    ghost use Rattle.std.specs.Prelude.{◌≡◌};
+    ghost use Rattle.sgb_loans.specs.GroupsMut.{GroupsMut};
+
+    ghost Value = { GroupsMut T J };
+
+    ghost view = { λ s. record { remainder = s.slice.now; judge = s.judge; loans = s.loans } };
+
+    ghost invariant = { λ s. s.loans.rest ≡ s.slice.ghost_name };
+}
+
+impl<'a, T, J> LinearGroupsMut<'a, T, J> {
+    // All groups of the slice are still to come.
+    #[inline]
+    pub(crate) fn over(slice: &'a mut [T], judge: J) -> Self
+        ensures remainder { result.remainder ≡ slice.old }
+        ensures judge { result.judge ≡ judge }
+        ensures loans { NothingOut slice.entry.ghost_name result.loans }
+    {
+        let (slice, loans) = Loans::open(slice);
+        LinearGroupsMut {
+            slice,
+            judge,
+            loans,
+        }
+    }
+}
+
+impl<'a, T, J: Judge<T>> LinearGroupsMut<'a, T, J> {
+    ghost use Rattle.sgb_linear_group.specs.LinearMut.{IsCallableMut, GivesFrontMut, GivesBackMut};
+
+    #[inline]
+    fn take_front(&mut self) -> Option<&'a mut [T]>
+        requires { IsCallableMut J.Judge self.old }
+        ensures gives { GivesFrontMut J.Judge self.old result self.new }
+        ensures callable { IsCallableMut J.Judge self.new }
+    {
+        let len = self.slice.len();
+        if len == 0 {
+            return None;
+        }
+        let all = mem::take(&mut self.slice);
+        let end = front_end(all, 0, len, &mut self.judge);
+        let (group, rest) = self.loans.cut_front(all, end);
+        self.slice = rest;
+        Some(group)
+    }
+
+    #[inline]
+    fn take_back(&mut self) -> Option<&'a mut [T]>
+        requires { IsCallableMut J.Judge self.old }
+        ensures gives { GivesBackMut J.Judge self.old result self.new }
+        ensures callable { IsCallableMut J.Judge self.new }
+    {
+        let len = self.slice.len();
+        if len == 0 {
+            return None;
+        }
+        let all = mem::take(&mut self.slice);
+        let start = back_start(all, 0, len, &mut self.judge);
+        let (rest, group) = self.loans.cut_back(all, start);
+        self.slice = rest;
+        Some(group)
+    }
+}
+
+impl<'a, T, J: Drop> LinearGroupsMut<'a, T, J> {
+    /// Takes note of how the oldest group that is out was left, which came off at the front.
+    #[inline]
+    pub fn note_front(&mut self, group: Ended<'_, T>)
+        requires { self.old.loans.cuts ≡ (true, group.name) ∷ drop 1 self.old.loans.cuts }
+        ensures remainder { self.new.remainder ≡ self.old.remainder }
+        ensures judge { self.new.judge ≡ self.old.judge }
+        ensures root { self.new.loans.root ≡ self.old.loans.root }
+        ensures before { self.new.loans.before ≡ self.old.loans.before ++ group.entry.value }
+        ensures after { self.new.loans.after ≡ self.old.loans.after }
+        ensures cuts { self.new.loans.cuts ≡ drop 1 self.old.loans.cuts }
+    {
+        self.loans.note_front(group);
+    }
+
+    /// Takes note of how the oldest group that is out was left, which came off at the back.
+    #[inline]
+    pub fn note_back(&mut self, group: Ended<'_, T>)
+        requires { self.old.loans.cuts ≡ (false, group.name) ∷ drop 1 self.old.loans.cuts }
+        ensures remainder { self.new.remainder ≡ self.old.remainder }
+        ensures judge { self.new.judge ≡ self.old.judge }
+        ensures root { self.new.loans.root ≡ self.old.loans.root }
+        ensures before { self.new.loans.before ≡ self.old.loans.before }
+        ensures after { self.new.loans.after ≡ group.entry.value ++ self.old.loans.after }
+        ensures cuts { self.new.loans.cuts ≡ drop 1 self.old.loans.cuts }
+    {
+        self.loans.note_back(group);
+    }
+
+    /// No group is out: what remains stays as it is, and so the whole input is known.
+    #[inline]
+    pub fn finish(self) -> Ended<'a, T>
+        requires { self.loans.cuts ≡ [] }
+        ensures name { result.name ≡ self.entry.loans.root }
+        ensures value { result.value ≡ self.entry.loans.before ++ (self.entry.remainder ++ self.entry.loans.after) }
+    {
+        let LinearGroupsMut {
+            slice,
+            judge: _,
+            loans,
+        } = self;
+        loans.close(Ended::of(slice))
+    }
+}
+
+impl<'a, T, J: Judge<T> + Drop> Iterator for LinearGroupsMut<'a, T, J> {
+    type Item = &'a mut [T];
+
+    ghost use Rattle.sgb_linear_group.specs.LinearMut.{IsCallableMut, GivesFrontMut};
+
+    ghost can_next = { IsCallableMut J.Judge };
+
+    ghost next_gives = { GivesFrontMut J.Judge };
+
+    ghost remaining = { groups_mut_left };
+
+    /// The first group of the remainder, or `None` where nothing remains.
+    #[inline]
+    fn next(&mut self) -> Option<&'a mut [T]> {
+        self.take_front()
+    }
+
+    /// No groups where nothing remains, and else at least one and at most as many as elements remain.
+    #[inline]
+    fn size_hint(&self) -> (usize, Option<usize>)
+        ensures value { result ≡ (if nat_eq (length self.now.remainder) 0 then (0, Some 0) else (1, Some (length self.now.remainder))) }
+        ensures lower { IsWithinCount result.0 (groups_mut_left self.now) }
+        ensures upper { IfSome result.1 (UpTo (groups_mut_left self.now)) }
+    {
+        let len = self.slice.len();
+        if len == 0 {
+            return (0, Some(0));
+        }
+        (1, Some(len))
+    }
+}
+
+impl<'a, T, J: Judge<T> + Drop> DoubleEndedIterator for LinearGroupsMut<'a, T, J> {
+    ghost use Rattle.sgb_linear_group.specs.LinearMut.{IsCallableMut, GivesBackMut};
+
+    ghost can_next_back = { IsCallableMut J.Judge };
+
+    ghost next_back_gives = { GivesBackMut J.Judge };
+
+    /// The last group of the remainder, or `None` where nothing remains.
+    #[inline]
+    fn next_back(&mut self) -> Option<&'a mut [T]> {
+        self.take_back()
+    }
+}
+
+impl<'a, T, J: Judge<T> + Drop> FusedIterator for LinearGroupsMut<'a, T, J> {}
