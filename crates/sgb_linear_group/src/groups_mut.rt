@@ -49,6 +49,20 @@ impl<'a, T, J> LinearGroupsMut<'a, T, J> {
             loans,
         }
     }
+
+    #[inline]
+    pub(crate) fn rest(&self) -> &[T]
+        ensures { result.now ≡ self.now.remainder }
+    {
+        self.slice
+    }
+
+    #[inline]
+    pub(crate) fn len(&self) -> usize
+        ensures { result ≡ length self.now.remainder }
+    {
+        self.slice.len()
+    }
 }
 
 impl<'a, T, J: Judge<T>> LinearGroupsMut<'a, T, J> {
@@ -118,6 +132,21 @@ impl<'a, T, J: Drop> LinearGroupsMut<'a, T, J> {
         self.loans.note_back(group);
     }
 
+    /// The elements that no call has handed out yet, for writing, with what is known of the input. The judge is given up.
+    #[inline]
+    pub fn into_parts(self) -> (&'a mut [T], Loans<T>)
+        ensures remainder { result.0.now ≡ self.entry.remainder }
+        ensures name { result.0.ghost_name ≡ self.entry.loans.rest }
+        ensures loans { result.1 ≡ self.entry.loans }
+    {
+        let LinearGroupsMut {
+            slice,
+            judge: _,
+            loans,
+        } = self;
+        (slice, loans)
+    }
+
     /// No group is out: what remains stays as it is, and so the whole input is known.
     #[inline]
     pub fn finish(self) -> Ended<'a, T>
@@ -181,3 +210,22 @@ impl<'a, T, J: Judge<T> + Drop> DoubleEndedIterator for LinearGroupsMut<'a, T, J
 }
 
 impl<'a, T, J: Judge<T> + Drop> FusedIterator for LinearGroupsMut<'a, T, J> {}
+
+impl<'a, T, J: Judge<T> + Drop> LinearGroupsMut<'a, T, J> {
+    ghost use Rattle.std.specs.Option.{option_copied_mut};
+    ghost use Rattle.sgb_search.specs.Groups.{Groups};
+    ghost use Rattle.sgb_linear_group.specs.Linear.{BackCall};
+    ghost use Rattle.sgb_linear_group.specs.LinearMut.{IsCallableMut, seen};
+
+    /// The last group of the remainder, or `None` where nothing remains: what `next_back` gives. The iterator is given up.
+    ///
+    /// What the input ends as cannot be known from it, since the loans are given up too: where that is wanted, call
+    /// `next_back`, take note of the group, and `finish`.
+    #[inline]
+    pub fn last(mut self) -> Option<&'a mut [T]>
+        requires { IsCallableMut J.Judge self }
+        ensures { (t : Groups T J) × BackCall J.Judge (seen self.entry) (option_copied_mut result) t }
+    {
+        self.next_back()
+    }
+}

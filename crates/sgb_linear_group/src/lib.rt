@@ -6,4 +6,7 @@ pub mod groups_mut;
 pub mod linear_group;
 pub mod linear_group_by;
 pub mod linear_group_by_key;
+pub mod linear_group_by_key_mut;
+pub mod linear_group_by_mut;
+pub mod linear_group_mut;
 mod scan;
