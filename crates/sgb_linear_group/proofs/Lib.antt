@@ -3,3 +3,4 @@ pub mod Pieces
 pub mod PairsAsked
 pub mod Queue
 pub mod CutsMut
+pub mod QueueMut

@@ -7,3 +7,6 @@ pub use Rattle.sgb_search.specs.Runs
 pub use Rattle.sgb_search.specs.Judges
 pub use Rattle.sgb_search.specs.Groups
 pub use Rattle.sgb_linear_group.specs.Linear
+pub use Rattle.sgb_linear_group.specs.LinearMut
+pub use Rattle.sgb_loans.specs.GroupsMut
+pub use Rattle.sgb_loans.specs.Links

@@ -14,6 +14,7 @@
 
 pub mod laws;
 mod linear;
+mod linear_mut;
 mod queue;
 #[cfg(test)]
 mod tests;
@@ -23,4 +24,8 @@ pub use queue::{End, GroupQueue, walk};
 pub use sgb_linear_group::linear_group::LinearGroup;
 pub use sgb_linear_group::linear_group_by::LinearGroupBy;
 pub use sgb_linear_group::linear_group_by_key::LinearGroupByKey;
+pub use sgb_linear_group::linear_group_by_key_mut::LinearGroupByKeyMut;
+pub use sgb_linear_group::linear_group_by_mut::LinearGroupByMut;
+pub use sgb_linear_group::linear_group_mut::LinearGroupMut;
+pub use sgb_loans as loans;
 pub use traits::GroupBy;
