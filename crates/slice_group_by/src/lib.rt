@@ -28,4 +28,4 @@ pub use sgb_linear_group::linear_group_by_key_mut::LinearGroupByKeyMut;
 pub use sgb_linear_group::linear_group_by_mut::LinearGroupByMut;
 pub use sgb_linear_group::linear_group_mut::LinearGroupMut;
 pub use sgb_loans as loans;
-pub use traits::GroupBy;
+pub use traits::{GroupBy, GroupByMut};

@@ -3,8 +3,13 @@ ghost use Rattle.std.specs.Prelude.{◌≡◌, Bool, List};
 ghost use Rattle.std.specs.Fn.{ComputesOnPairs, ComputesKey};
 ghost use Rattle.sgb_search.specs.Judges.{by_predicate, predicate_judge, by_key, key_judge, by_equality};
 ghost use Rattle.sgb_linear_group.specs.Linear.{IsCallable, IsSettled};
+ghost use Rattle.sgb_linear_group.specs.LinearMut.{IsCallableMut, IsSettledMut};
+ghost use Rattle.sgb_loans.specs.GroupsMut.{NothingOut};
 
-use crate::{LinearGroup, LinearGroupBy, LinearGroupByKey};
+use crate::{
+    LinearGroup, LinearGroupBy, LinearGroupByKey, LinearGroupByKeyMut, LinearGroupByMut,
+    LinearGroupMut,
+};
 
 /// Groups of neighbouring elements, for reading.
 ///
@@ -76,5 +81,84 @@ impl<T> GroupBy<T> for &[T] {
         T: PartialEq,
     {
         LinearGroup::new(*self)
+    }
+}
+
+/// Groups of neighbouring elements, for writing.
+///
+/// A method requires what `new` of its type requires, and gives what it gives on the whole slice. The groups live as long
+/// as the borrow of the variable; groups from `new` live as long as the slice. What the slice ends as can be known from
+/// groups that `new` made, and not from those of a method: the loan of the variable hides it.
+///
+/// ```
+/// let mut slice: &mut [i32] = &mut [1, 1, 2, 3, 3];
+/// for group in slice.linear_group_mut() {
+///     group.fill(0);
+/// }
+/// ```
+pub trait GroupByMut<T> {
+    // The elements that are grouped.
+    ghost elements: { Self → List T };
+
+    /// Groups by a key: neighbours whose keys are equal belong together.
+    fn linear_group_by_key_mut<F, K>(&mut self, func: F) -> LinearGroupByKeyMut<'_, T, F, K>
+    where
+        F: FnMut(&T) -> K,
+        K: PartialEq + Drop,
+        requires { IsCallable (by_key F.FnMut K.eq) (record { remainder = elements self.old; judge = key_judge func }) }
+        ensures remainder { result.remainder ≡ elements self.entry.now }
+        ensures judge { result.judge ≡ key_judge func }
+        ensures callable { IsCallableMut (by_key F.FnMut K.eq) result }
+        ensures settled { (key : T → K) → ComputesKey F.FnMut key func → IsSettledMut (by_key F.FnMut K.eq) result (λ x y. K.eq (key x) (key y)) }
+        ensures loans { NothingOut result.loans.root result.loans };
+
+    /// Groups by a predicate: neighbours of which it says yes, the left one first, belong together.
+    fn linear_group_by_mut<P>(&mut self, predicate: P) -> LinearGroupByMut<'_, T, P>
+    where
+        P: FnMut(&T, &T) -> bool,
+        requires { IsCallable (by_predicate P.FnMut) (record { remainder = elements self.old; judge = predicate_judge predicate }) }
+        ensures remainder { result.remainder ≡ elements self.entry.now }
+        ensures judge { result.judge ≡ predicate_judge predicate }
+        ensures callable { IsCallableMut (by_predicate P.FnMut) result }
+        ensures settled { (p : T → T → Bool) → ComputesOnPairs P.FnMut p predicate → IsSettledMut (by_predicate P.FnMut) result p }
+        ensures loans { NothingOut result.loans.root result.loans };
+
+    /// Groups of equal elements.
+    fn linear_group_mut(&mut self) -> LinearGroupMut<'_, T>
+    where
+        T: PartialEq,
+        ensures remainder { result.remainder ≡ elements self.entry.now }
+        ensures asked { result.judge.questions.asked ≡ 0 }
+        ensures callable { IsCallableMut (by_equality T.eq) result }
+        ensures settled { IsSettledMut (by_equality T.eq) result T.eq }
+        ensures loans { NothingOut result.loans.root result.loans };
+}
+
+impl<T> GroupByMut<T> for &mut [T] {
+    ghost elements = { λ slice. slice.now };
+
+    #[inline]
+    fn linear_group_by_key_mut<F, K>(&mut self, func: F) -> LinearGroupByKeyMut<'_, T, F, K>
+    where
+        F: FnMut(&T) -> K,
+        K: PartialEq + Drop,
+    {
+        LinearGroupByKeyMut::new(*self, func)
+    }
+
+    #[inline]
+    fn linear_group_by_mut<P>(&mut self, predicate: P) -> LinearGroupByMut<'_, T, P>
+    where
+        P: FnMut(&T, &T) -> bool,
+    {
+        LinearGroupByMut::new(*self, predicate)
+    }
+
+    #[inline]
+    fn linear_group_mut(&mut self) -> LinearGroupMut<'_, T>
+    where
+        T: PartialEq,
+    {
+        LinearGroupMut::new(*self)
     }
 }
