@@ -4,7 +4,7 @@ use Rattle.std.specs.Prelude.{option_map}
 use Rattle.std.specs.List.{AllByRecursion}
 use Rattle.std.proofs.lemmas.List.{append-nil, reverse-append}
 use Rattle.std.proofs.lemmas.Grind.{flat_map-append}
-use Rattle.sgb_search.specs.Ends.{first, last}
+use Rattle.sgb_search.specs.Ends.{first, last, without_first, without_last}
 use Rattle.sgb_search.specs.Split.{IsSplit, IsAccepted, split, joined}
 use Rattle.sgb_search.proofs.Splits.{split_is, split_only}
 use Rattle.slice_group_by.specs.declared.queue.End.{End}
@@ -29,6 +29,19 @@ last_accepted : {A : Type 0} (p : A → A → Bool) (x : List A) (ps : List (Lis
 last_accepted p x [] a e = cc e
 last_accepted p x (y ∷ []) a e = let same : y ≡ x = cc e in subst (IsAccepted p) same a.0
 last_accepted p x (y ∷ z ∷ zs) a e = last_accepted p x (z ∷ zs) a.1 e
+
+-- a list is its first item and the others, and the others and its last item
+pub first_and_others : {X : Type 0} (xs : List X) (x : X) (ys : List X) → Some x ≡ first xs → ys ≡ without_first xs → xs ≡ x ∷ ys
+first_and_others [] x ys e h = cc e
+first_and_others (z ∷ zs) x ys e h = cc (e, h)
+
+others_then_last : {X : Type 0} (xs : List X) (x : X) → Some x ≡ last xs → xs ≡ without_last xs ++ x ∷ []
+others_then_last [] x e = cc e
+others_then_last (y ∷ []) x e = cc e
+others_then_last (y ∷ z ∷ zs) x e = ap (λ l. y ∷ l) (others_then_last (z ∷ zs) x e)
+
+pub others_and_last : {X : Type 0} (xs : List X) (x : X) (ys : List X) → Some x ≡ last xs → ys ≡ without_last xs → xs ≡ ys ++ x ∷ []
+others_and_last xs x ys e h = others_then_last xs x e ∙ ap (λ l. l ++ x ∷ []) (sym h)
 
 -- and a piece is accepted inside
 pub piece_accepted : {A : Type 0} (e : End) (p : A → A → Bool) (xs group ys : List A) → TakesPiece e p xs (Some group) ys → IsAccepted p group

@@ -1,5 +1,6 @@
 pub mod Queue
 pub mod Walk
+pub mod Ranks
 pub use Rattle.sgb_search.specs.Split
 pub use Rattle.sgb_search.specs.Neighbours
 pub use Rattle.sgb_search.specs.Ends

@@ -37,6 +37,10 @@ pub fn calls_take_pieces<Q: GroupQueue>(_queue: &Q)
         → Q.gives Front q group t → Q.is_settled q p → split p (Q.remainder t) ≡ without_first (split p (Q.remainder q)) }
     ensures after_back { (p : Q.Element → Q.Element → Bool) (q t : Q) (group : Option Q.Item)
         → Q.gives Back q group t → Q.is_settled q p → split p (Q.remainder t) ≡ without_last (split p (Q.remainder q)) }
+    ensures next { (p : Q.Element → Q.Element → Bool) (q t : Q) (group : Q.Item)
+        → Q.gives Front q (Some group) t → Q.is_settled q p → split p (Q.remainder q) ≡ Q.shows group ∷ split p (Q.remainder t) }
+    ensures next_back { (p : Q.Element → Q.Element → Bool) (q t : Q) (group : Q.Item)
+        → Q.gives Back q (Some group) t → Q.is_settled q p → split p (Q.remainder q) ≡ split p (Q.remainder t) ++ Q.shows group ∷ [] }
     ensures settled { (p : Q.Element → Q.Element → Bool) (e : End) (q t : Q) (group : Option Q.Item)
         → Q.gives e q group t → Q.is_settled q p → Q.is_settled t p }
     ensures accepted { (p : Q.Element → Q.Element → Bool) (e : End) (q t : Q) (group : Q.Item)

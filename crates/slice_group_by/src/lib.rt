@@ -16,11 +16,13 @@ pub mod laws;
 mod linear;
 mod linear_mut;
 mod queue;
+mod ranks;
 #[cfg(test)]
 mod tests;
 mod traits;
 
 pub use queue::{End, GroupQueue, walk};
+pub use ranks::rank_groups;
 pub use sgb_linear_group::linear_group::LinearGroup;
 pub use sgb_linear_group::linear_group_by::LinearGroupBy;
 pub use sgb_linear_group::linear_group_by_key::LinearGroupByKey;
