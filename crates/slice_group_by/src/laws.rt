@@ -3,7 +3,7 @@
 //! A function whose contract rests on a law calls it, and then its proof may cite it. Where a law takes a queue, that only
 //! names the type, which may hold a closure: the law is over all of its states.
 ghost use Rattle.std.specs.Prelude.{◌≡◌, ◌≢◌, ℕ, ◌+◌, ◌-◌, ◌<◌, ◌≤◌, Bool, List, [], ◌∷◌, ◌++◌, length, Option, Some, map, option_map, reverse, count_by, is_some};
-ghost use Rattle.std.specs.Borrow.{Bor};
+ghost use Rattle.std.specs.Borrow.{Bor, MutBor};
 ghost use Rattle.std.specs.Iterator.{Yields, Drains};
 ghost use Rattle.std.specs.Iterator.Adapters.{rev_source, rev_steps};
 ghost use Rattle.std.specs.declared.iter.Rev.{Rev};
@@ -15,11 +15,15 @@ ghost use Rattle.sgb_search.specs.Groups.{Groups};
 ghost use Rattle.slice_group_by.specs.declared.queue.End.{End};
 ghost use Rattle.slice_group_by.specs.declared.queue.End.TheVariants.{Front, Back};
 ghost use Rattle.sgb_linear_group.specs.Linear.{GivesFront, GivesBack, AsksEachOnce};
+ghost use Rattle.sgb_linear_group.specs.LinearMut.{seen, GivesFrontMut, GivesBackMut};
+ghost use Rattle.sgb_loans.specs.GroupsMut.{GroupsMut};
 ghost use Rattle.slice_group_by.specs.Walk.{Partition, IsChain};
 ghost use Rattle.slice_group_by.specs.Queue.{at_end, answers, left};
 
 use crate::queue::GroupQueue;
+pub use crate::ranks::rank_groups;
 use sgb_linear_group::groups::LinearGroups;
+use sgb_linear_group::groups_mut::LinearGroupsMut;
 use sgb_search::judge::Judge;
 pub use sgb_search::laws::{
     always_callable, always_callable_key, equality_judges, one_split, question_count,
@@ -120,5 +124,15 @@ pub fn each_pair_asked_once<T, J: Judge<T>>(_groups: &LinearGroups<'_, T, J>)
         → IsChain (at_end (GivesFront J.Judge) (GivesBack J.Judge)) s ends out t → AsksEachOnce J.Judge s t }
     ensures whole { (s t : Groups T J) (ends : List End) (out : List (Option (Bor (List T))))
         → IsChain (at_end (GivesFront J.Judge) (GivesBack J.Judge)) s ends out t → t.remainder ≡ []
+        → IsRunOf J.may_ask J.answers (length s.remainder - 1) s.judge t.judge }
+{}
+
+/// The same of linear groups for writing.
+#[inline]
+pub fn each_pair_asked_once_mut<T, J: Judge<T>>(_groups: &LinearGroupsMut<'_, T, J>)
+    ensures pairs { (s t : GroupsMut T J) (ends : List End) (out : List (Option (MutBor (List T))))
+        → IsChain (at_end (GivesFrontMut J.Judge) (GivesBackMut J.Judge)) s ends out t → AsksEachOnce J.Judge (seen s) (seen t) }
+    ensures whole { (s t : GroupsMut T J) (ends : List End) (out : List (Option (MutBor (List T))))
+        → IsChain (at_end (GivesFrontMut J.Judge) (GivesBackMut J.Judge)) s ends out t → t.remainder ≡ []
         → IsRunOf J.may_ask J.answers (length s.remainder - 1) s.judge t.judge }
 {}

@@ -1,0 +1,11 @@
+use Rattle.slice_group_by.specs.Queue.{at_end}
+use Rattle.sgb_linear_group.specs.LinearMut.{seen, GivesFrontMut, GivesBackMut}
+use Rattle.slice_group_by.proofs.PairsAsked.{chain_asks_once, whole_asks, asks_once_mut}
+use Rattle.slice_group_by.proofs.laws.each_pair_asked_once_mut.Goals as goal
+
+pub returns-clause-pairs : goal.returns-clause-pairs
+returns-clause-pairs g c = chain_asks_once g.J.Judge (at_end (GivesFrontMut g.J.Judge) (GivesBackMut g.J.Judge)) seen (asks_once_mut g.J.Judge)
+
+pub returns-clause-whole : goal.returns-clause-whole
+returns-clause-whole g c s t es os h z =
+    whole_asks g.J.Judge (seen s) (seen t) (chain_asks_once g.J.Judge (at_end (GivesFrontMut g.J.Judge) (GivesBackMut g.J.Judge)) seen (asks_once_mut g.J.Judge) s t es os h) z
