@@ -6,3 +6,4 @@ mod linear_by;
 mod loops;
 mod users;
 mod walks;
+mod writers;
