@@ -3,6 +3,7 @@ mod closures;
 mod counted;
 mod linear;
 mod linear_by;
+mod linear_mut;
 mod loops;
 mod users;
 mod walks;

@@ -73,3 +73,17 @@ fn reverse_groups(slice: &mut [u8])
 {
     settle(slice, |part| reversed(part));
 }
+
+#[test]
+fn writers(rt: HostRuntime) {
+    let mut slice = [4, 4, 5, 6, 6];
+    clear_ends(&mut slice);
+    assert_eq!(rt; slice, [0, 0, 5, 0, 0]);
+    fill_with_first(&mut slice);
+    assert_eq!(rt; slice, [0, 0, 5, 0, 0]);
+    reverse_groups(&mut slice);
+    assert_eq!(rt; slice, [0, 0, 5, 0, 0]);
+    let mut one = [8, 8];
+    clear_ends(&mut one);
+    assert_eq!(rt; one, [0, 0]);
+}
