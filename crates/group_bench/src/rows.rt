@@ -1,7 +1,9 @@
 //! The rows: the calls of each, the answers that are wanted, and the questions that may be asked.
 ghost use Rattle.std.specs.Prelude.{◌<ℤ◌};
 
-use slice_group_by::{End, GroupBy, LinearGroup, LinearGroupBy, walk};
+use slice_group_by::{
+    End, GroupBy, LinearGroup, LinearGroupBy, LinearGroupByKeyMut, rank_groups, walk,
+};
 use std::cell::Cell;
 use std::io::{Error, Write};
 
@@ -14,6 +16,7 @@ pub fn run<W: Write>(out: &mut W) -> Result<bool, Error> {
     same &= row_2(out)?;
     same &= row_3(out)?;
     same &= row_13(out)?;
+    same &= row_14(out)?;
     same &= row_17(out)?;
     Ok(same)
 }
@@ -85,6 +88,44 @@ fn row_13<W: Write>(out: &mut W) -> Result<bool, Error> {
     write_groups(out, 13, &answers, &ROW_13, questions == 3)
 }
 
+const RANKS: [usize; 6] = [0, 0, 1, 1, 1, 2];
+const ROW_14: [Group; 5] = [
+    Some(&[1]),
+    Some(&[2, 4]),
+    Some(&[5, 7]),
+    Some(&[8, 8]),
+    None,
+];
+
+// The ranks of a slice, which are written group by group, and groups for writing by a key.
+fn row_14<W: Write>(out: &mut W) -> Result<bool, Error> {
+    let mut ranks = [5usize, 5, 7, 7, 7, 2];
+    rank_groups(&mut ranks);
+    let mut slice = [1, 2, 4, 5, 7, 8, 8];
+    let mut groups = LinearGroupByKeyMut::new(&mut slice, |i| i % 2);
+    let answers = [
+        read(groups.next()),
+        read(groups.next()),
+        read(groups.next()),
+        read(groups.next()),
+        read(groups.next()),
+    ];
+    if ranks != RANKS || answers != ROW_14 {
+        return differs(out, 14);
+    }
+    write!(out, "row 14: {ranks:?}")?;
+    write_answers(out, &answers)?;
+    Ok(true)
+}
+
+// A group for writing, to be read from now on.
+fn read(group: Option<&mut [i32]>) -> Option<&[i32]> {
+    match group {
+        Some(group) => Some(group),
+        None => None,
+    }
+}
+
 const ROW_17: [Group; 2] = [Some(&[1, 2, 3, 4, 5]), None];
 
 // A predicate that may be called only where the left element is below the right one, from the back.
@@ -113,18 +154,27 @@ fn write_groups<W: Write>(
     counted: bool,
 ) -> Result<bool, Error> {
     if answers != wanted || !counted {
-        writeln!(out, "row {row}: differs")?;
-        return Ok(false);
+        return differs(out, row);
     }
     write!(out, "row {row}:")?;
+    write_answers(out, answers)?;
+    Ok(true)
+}
+
+fn differs<W: Write>(out: &mut W, row: u32) -> Result<bool, Error> {
+    writeln!(out, "row {row}: differs")?;
+    Ok(false)
+}
+
+// Writes what the calls gave, and ends the line.
+fn write_answers<W: Write>(out: &mut W, answers: &[Option<&[i32]>]) -> Result<(), Error> {
     for answer in answers {
         match answer {
             Some(group) => write!(out, " {group:?}")?,
             None => write!(out, " None")?,
         }
     }
-    writeln!(out)?;
-    Ok(true)
+    writeln!(out)
 }
 
 #[cfg(test)]
@@ -135,11 +185,12 @@ mod tests {
 row 2: [1, 1, 1] [2, 2, 2] [3, 3] None None\n\
 row 3: [1, 2, 3] [2, 3] None\n\
 row 13: [7, 8] [9, 10] None\n\
+row 14: [0, 0, 1, 1, 1, 2] [1] [2, 4] [5, 7] [8, 8] None\n\
 row 17: [1, 2, 3, 4, 5] None\n";
 
     #[test]
     fn writes_the_lines(rt: HostRuntime) {
-        let mut bytes = [0u8; 169];
+        let mut bytes = [0u8; 226];
         assert_eq!(rt; bytes.len(), LINES.len());
         let mut rest: &mut [u8] = &mut bytes;
         assert!(rt; matches!(run(&mut rest), Ok(true)));
@@ -148,8 +199,8 @@ row 17: [1, 2, 3, 4, 5] None\n";
 
     #[test]
     fn ends_at_a_fault_of_the_writer(rt: HostRuntime) {
-        for room in 0..169 {
-            let mut bytes = [0u8; 169];
+        for room in 0..226 {
+            let mut bytes = [0u8; 226];
             let mut rest: &mut [u8] = &mut bytes[..room];
             assert!(rt; run(&mut rest).is_err(), "with room for {room} bytes");
         }
