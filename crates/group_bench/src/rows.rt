@@ -89,6 +89,7 @@ fn row_13<W: Write>(out: &mut W) -> Result<bool, Error> {
 }
 
 const RANKS: [usize; 6] = [0, 0, 1, 1, 1, 2];
+
 const ROW_14: [Group; 5] = [
     Some(&[1]),
     Some(&[2, 4]),

@@ -1,5 +1,5 @@
 -- A group cut off a remainder for writing: the judge may go on.
-use Rattle.std.proofs.Common.{◌≡◌, ℕ, [], ◌-◌, ◌≤◌, List, ◌++◌, length, take, arith, refl, sym, ap, ◌∙◌, subst, take_all}
+use Rattle.std.proofs.Common.{◌≡◌, ℕ, [], ◌-◌, List, ◌++◌, length, take, arith, refl, sym, ap, ◌∙◌, subst, take_all}
 use Rattle.std.specs.List.{slice_range}
 use Rattle.sgb_search.specs.declared.judge.Judge.{Ghosts}
 use Rattle.sgb_search.specs.Judges.{MayAskAlong}

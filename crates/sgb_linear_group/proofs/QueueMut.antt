@@ -1,5 +1,5 @@
 -- The laws of a queue for linear groups for writing: those of what they show.
-use Rattle.std.proofs.Common.{◌≡◌, ℕ, ◌+◌, Bool, true, List, length, Option}
+use Rattle.std.proofs.Common.{ℕ, ◌+◌, Bool, true, List, length, Option}
 use Rattle.std.specs.Option.{option_copied_mut}
 use Rattle.std.specs.Borrow.{MutBor}
 use Rattle.sgb_search.specs.declared.judge.Judge.{Ghosts}

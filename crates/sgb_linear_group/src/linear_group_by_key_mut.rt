@@ -84,3 +84,9 @@ impl<'a, T: fmt::Debug, F, K> fmt::Debug for LinearGroupsMut<'a, T, KeyJudge<F, 
         write!(f, "LinearGroupByKeyMut {{ remainder: {:?} }}", self.rest())
     }
 }
+
+// The loans and the key's type take no bytes.
+const _: () = prove!(
+    size_of::<LinearGroupByKeyMut<'static, u32, (u64, u8), [u8; 9]>>()
+        == size_of::<(&mut [u32], (u64, u8))>()
+);

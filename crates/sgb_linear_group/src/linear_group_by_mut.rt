@@ -46,3 +46,8 @@ impl<'a, T: fmt::Debug, P> fmt::Debug for LinearGroupsMut<'a, T, PredicateJudge<
         write!(f, "LinearGroupByMut {{ slice: {:?} }}", self.rest())
     }
 }
+
+// The loans take no bytes.
+const _: () = prove!(
+    size_of::<LinearGroupByMut<'static, u32, (u64, u8)>>() == size_of::<(&mut [u32], (u64, u8))>()
+);

@@ -32,3 +32,6 @@ impl<'a, T: PartialEq> LinearGroupsMut<'a, T, EqualityJudge> {
         LinearGroupsMut::over(slice, EqualityJudge::new())
     }
 }
+
+// The loans take no bytes, and neither does the judge.
+const _: () = prove!(size_of::<LinearGroupMut<'static, u32>>() == size_of::<&mut [u32]>());

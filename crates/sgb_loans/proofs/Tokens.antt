@@ -1,11 +1,10 @@
 -- The machine value of the tokens, and what giving up a slice reference leaves. Assumes `Logic`.
-use Rattle.std.proofs.Common.{◌≡◌, ℕ, List, [], ◌∷◌, ◌++◌, refl}
-use lib.ListN.{length}
+use Rattle.std.proofs.Common.{◌≡◌, List, [], ◌∷◌, ◌++◌, refl}
 use seplogic.Ra.Ura.{Ura}
 use mir.Syntax.{Lifetime}
 use mir.Val.{Val, vstruct, vcons, vnil}
 use base.Logic.{SProp, ent, emp}
-use base.Fml.{Lft, Fml, fobs, fres}
+use base.Fml.{Lft, Fml, fobs}
 use base.Stored.{coded_list}
 use types.Logic.{Logic, sem}
 use types.Kit.{‵, ◌$◌, ◌∵◌, !, qed, by, drop, keep, rewrite, fsplit, fsplit3, feq_l, updating, now, done}
@@ -18,8 +17,8 @@ use denote.Shadow.{makes_shadow}
 use denote.Struct.Struct.{Struct}
 use denote.Struct.Owning.{shape}
 use Rattle.std.proofs.Common.{Bool, true, false, sym, rules, append_assoc, append-nil}
-use base.Logic.{wand, all, all_e, apply∗, sep, id⊢}
-use base.Fml.{GName, feq, fex, fsep}
+use base.Logic.{wand, all_e, apply∗, sep}
+use base.Fml.{GName, fsep}
 use types.Kit.{◌⊛◌, use0, raw, move, join, use1, use2, use3, assume, each, fpick, fpack, fjoin, feq_i}
 use denote.Array.{Array}
 use denote.Follow.{follows_both, both_by}

@@ -1,5 +1,5 @@
 -- What a slice ends as, while parts of it are handed out to be written.
-use Rattle.std.specs.Prelude.{◌≡◌, ℕ, Bool, true, false, List, [], ◌∷◌, ◌++◌}
+use Rattle.std.specs.Prelude.{Bool, true, false, List, [], ◌∷◌, ◌++◌}
 use Rattle.std.specs.Borrow.{GName, Fml, RattleType, Array, follows_both, fsep}
 use base.Fml.{fex, feq, fres, fall, fwand}
 

@@ -1,6 +1,5 @@
 -- The rank of a place is the number of the piece that it is in.
-use Rattle.std.proofs.Common.{◌≡◌, ℕ, ◌+◌, ◌≤◌, Bool, true, false, cond, not, List, [], ◌∷◌, ◌++◌, length, map, replicate, nat_eq, refl, sym, ap, ◌∙◌, arith, append_assoc}
-use Rattle.std.proofs.lemmas.List.{length-append, length-replicate}
+use Rattle.std.proofs.Common.{◌≡◌, ℕ, ◌+◌, Bool, true, false, cond, not, List, [], ◌∷◌, ◌++◌, length, map, replicate, refl, sym, ap, ◌∙◌, arith, append_assoc}
 use Rattle.std.proofs.lemmas.Simd.{map-map}
 use Rattle.std.proofs.lemmas.List.Sums.{sum_by-cons}
 use Rattle.sgb_search.specs.Neighbours.{neighbours, on_pairs}
@@ -35,11 +34,11 @@ module _ {A : Type 0} (p : A → A → Bool) where
       let step : ℕ = cond {A = ℕ} (not (p x y)) 1 0 in
       let onward : List (List A) = [] ∷ beginnings ys in
       ap (λ (ks : List ℕ). 0 ∷ ks)
-        (map-map (refused_pairs p) (λ (zs : List A). x ∷ zs) (map (λ (zs : List A). y ∷ zs) onward)
-        ∙ map-map (λ (zs : List A). refused_pairs p (x ∷ zs)) (λ (zs : List A). y ∷ zs) onward
-        ∙ (λ i. map (λ (zs : List A). refused-next x y zs i) onward)
-        ∙ sym (map-map (λ (zs : List A). step + refused_pairs p zs) (λ (zs : List A). y ∷ zs) onward)
-        ∙ sym (map-map (λ (k : ℕ). step + k) (refused_pairs p) (map (λ (zs : List A). y ∷ zs) onward)))
+      (map-map (refused_pairs p) (λ (zs : List A). x ∷ zs) (map (λ (zs : List A). y ∷ zs) onward)
+      ∙ map-map (λ (zs : List A). refused_pairs p (x ∷ zs)) (λ (zs : List A). y ∷ zs) onward
+      ∙ (λ i. map (λ (zs : List A). refused-next x y zs i) onward)
+      ∙ sym (map-map (λ (zs : List A). step + refused_pairs p zs) (λ (zs : List A). y ∷ zs) onward)
+      ∙ sym (map-map (λ (k : ℕ). step + k) (refused_pairs p) (map (λ (zs : List A). y ∷ zs) onward)))
 
   numbered-split : (r : ℕ) (xs : List A) → numbered r (split p xs) ≡ map (λ k. r + k) (ranks p xs)
   numbered-split r [] = refl
@@ -49,9 +48,9 @@ module _ {A : Type 0} (p : A → A → Bool) where
       let later = ranks p (y ∷ ys) in
       numbered-put_before (p x y) x r (split p (y ∷ ys))
       ∙ ap (λ (ks : List ℕ). r ∷ ks)
-        (numbered-split (cond (p x y) r (r + 1)) (y ∷ ys)
-        ∙ (λ i. map (λ (k : ℕ). one_on (p x y) r k i) later)
-        ∙ sym (map-map (λ (k : ℕ). r + k) (λ (k : ℕ). step + k) later))
+      (numbered-split (cond (p x y) r (r + 1)) (y ∷ ys)
+      ∙ (λ i. map (λ (k : ℕ). one_on (p x y) r k i) later)
+      ∙ sym (map-map (λ (k : ℕ). r + k) (λ (k : ℕ). step + k) later))
       ∙ ap (λ (n : ℕ). n ∷ map (λ (k : ℕ). r + k) (map (λ (k : ℕ). step + k) later)) (omega arith)
       ∙ sym (ap (map (λ (k : ℕ). r + k)) (ranks-next x y ys))
 

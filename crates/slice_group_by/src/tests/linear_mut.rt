@@ -1,8 +1,6 @@
 //! Linear groups for writing, case by case.
 use crate::laws::rank_groups;
-use crate::{
-    End, GroupByMut, LinearGroupByKeyMut, LinearGroupByMut, LinearGroupMut, walk,
-};
+use crate::{End, GroupByMut, LinearGroupByKeyMut, LinearGroupByMut, LinearGroupMut, walk};
 use std::slice::from_mut;
 use std::test::Fail;
 

@@ -1,15 +1,14 @@
 -- What the token of f's answer says is what the slice ends as.
 use Rattle.std.proofs.Common.{◌≡◌, ℕ, List, [], ◌∷◌, ◌++◌, length, refl, sym, subst}
 use Rattle.std.specs.Prelude.{None}
-use mir.Syntax.{named, a_type, dcons, dnil, tnil, impl, method, no_args}
+use mir.Syntax.{named, a_type, dcons, dnil, tnil, impl}
 use mir.MapTy.{inst_fn}
 use mir.Val.{Val, vnil}
-use base.Logic.{SProp, ent, emp, sep, id⊢}
-use base.Fml.{GName, Fml, ftrue, fsep, flft, fres}
+use base.Logic.{SProp, ent, emp, id⊢}
+use base.Fml.{GName, ftrue, fsep, flft, fres}
 use prog.Wp.{WpFn}
-use types.Logic.{sem}
 use types.Match.{live}
-use types.Kit.{‵, raw, ◌⊛◌, some, later, ◌$◌, ◌∵◌, !, qed, by, move, keep, drop, split, join, fsplit, fsplit3, fjoin, fpack, suffices, use0, use1, use2, rewrite, await, pick}
+use types.Kit.{‵, raw, ◌⊛◌, some, later, ◌$◌, ◌∵◌, !, qed, by, move, keep, drop, split, join, fsplit, fsplit3, fjoin, fpack, suffices, use0, use1, rewrite, await, pick}
 use types.Part.{whole, sub, agg}
 use types.Run.{addr, from, fld, hop, stop, lit, of_opd, and_then, no_more, returns, enter}
 use types.ByLocal.{alloc_all, pass_all, free_all, look_at, look_in_at, get, get_in, sets, lands_as}
@@ -31,7 +30,7 @@ use denote.Signature.{types_at, type_at, plain, mut_slice_of, named_lft}
 use denote.Steps.{nothing, heard, peeks}
 use denote.Triple.Call.{calls_at}
 use denote.Triple.Carry.{insides}
-use denote.Triple.Clauses.{Ended, lasts, Lasts, closing}
+use denote.Triple.Clauses.{lasts, Lasts, closing}
 use denote.Triple.Spec.{triple_of}
 use denote.Triple.Statement.{Contract}
 use denote.Triple.Table.{framed}
@@ -86,11 +85,11 @@ settled_spec 𝓤 𝓛 𝓜 𝓡 wired T F LT LF g d d' met _ =
     sets ! (agg ! (and_then ! (get ! refl) (and_then ! (get_in ! (fld ! refl (stop !)) (sub ! 1 refl (whole !))) (no_more !)))) refl (tt, (tt, (record { fits = fn' }, tt))) $
     nothing ! $ move ! (1 ∷ 0 ∷ []) $ fjoin ! $ move ! (1 ∷ 0 ∷ []) $ fjoin ! $
     move ! (2 ∷ []) $ fsplit3 ! $ move ! (0 ∷ 2 ∷ []) $ fjoin ! $ move ! (1 ∷ 0 ∷ []) $ fjoin ! $ move ! (2 ∷ 0 ∷ []) $ join ! $ join ! $
-    use0 𝓛 (raw (fact 𝓤 Ok)) (fact_i 𝓤 Ok (emp 𝓤) ok) $     use0 𝓛 (raw (fact 𝓤 Inside)) (fact_i 𝓤 Inside (emp 𝓤) inside) $ join ! $ use0 𝓛 (raw (fact 𝓤 InsideF)) (fact_i 𝓤 InsideF (emp 𝓤) insideF) $ join ! $ move ! (1 ∷ 0 ∷ []) $ join ! $
+    use0 𝓛 (raw (fact 𝓤 Ok)) (fact_i 𝓤 Ok (emp 𝓤) ok) $ use0 𝓛 (raw (fact 𝓤 Inside)) (fact_i 𝓤 Inside (emp 𝓤) inside) $ join ! $ use0 𝓛 (raw (fact 𝓤 InsideF)) (fact_i 𝓤 InsideF (emp 𝓤) insideF) $ join ! $ move ! (1 ∷ 0 ∷ []) $ join ! $
     use1 𝓛 (raw (G.pre z')) (id⊢ 𝓤 (G.pre z')) $
     calls_at ! (framed 𝓤 H 𝓜 𝓣) G met.1 z' (and_then ! (get ! refl) (and_then ! (get ! refl) (no_more !))) (λ v.
     use1 𝓛 (later (some (λ (y : Out.Denot). ((‵ (flft κs.0 qs.0) ⊛ ‵ (fsep (flft κs.1.1.0 qs.1.1.0) (fsep (flft κs.1.0 qs.1.0) ftrue))) ⊛ ‵ (Out.own_val y (v ∷ []))) ⊛ some (λ (ws : Lasts E κ' (h, (all, tt))). ‵ (lasts E κ' (h, (all, tt)) ws)
-        ⊛ raw (fact 𝓤 (g.post h (all, tt) y)))))) (id⊢ 𝓤 (G.post z' v)) $
+    ⊛ raw (fact 𝓤 (g.post h (all, tt) y)))))) (id⊢ 𝓤 (G.post z' v)) $
     await ! tt $ pick ! (λ y. split ! $ move ! (1 ∷ []) $ pick ! (λ ws. split ! $ drop ! $ heard ! (g.post h (all, tt) y) (λ gave.
     split ! $ move ! (1 ∷ []) $ peeks ! Out (Is Out) (shows 𝓛 Out) y (v ∷ []) (λ told. let good = (((ended_laws.the_row_laws a R LR).lawful 𝓛).typed y (v ∷ []) told).0 in
     lands_as ! refl refl good $

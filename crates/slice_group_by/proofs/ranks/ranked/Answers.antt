@@ -1,4 +1,4 @@
-use Rattle.std.proofs.Common.{◌≡◌, ◌≤◌, ℕ, ◌+◌, ◌++◌, ◌∷◌, [], Bool, true, drop, List, length, nat_eq, replicate, ap, ◌∙◌, sym, arith, refl, Some}
+use Rattle.std.proofs.Common.{◌≡◌, ℕ, ◌+◌, ◌++◌, ◌∷◌, [], true, drop, List, length, nat_eq, replicate, ap, ◌∙◌, sym, arith, refl, Some}
 use Rattle.std.proofs.lemmas.List.{length-append, length-replicate}
 use Rattle.sgb_search.specs.Split.{split}
 use Rattle.slice_group_by.specs.declared.queue.End.TheVariants.{Front}
@@ -27,15 +27,15 @@ loop-group-preserved c =
     let before_it = c.loop-group.groups in
     let after_it = c.next.new.self in
     let cut : split nat_eq before_it.remainder ≡ group ∷ split nat_eq after_it.remainder =
-        c.calls_take_pieces.ensures.next nat_eq before_it after_it c.in-Some.group steps i.settled in
+    c.calls_take_pieces.ensures.next nat_eq before_it after_it c.in-Some.group steps i.settled in
     let stays = c.calls_take_pieces.ensures.settled nat_eq Front before_it after_it (Some c.in-Some.group) steps i.settled in
     let filled : c.of.result.value ≡ replicate (length group) c.loop-group.rank = c.of.ensures.value ∙ c.fill.ensures.after (λ _ h. h) in
     let before : c.note_front.new.self.loans.before ≡ c.loop-group.groups.loans.before ++ c.of.result.value =
-        note.before ∙ ap (λ (l : List ℕ). l ++ c.of.result.value) steps.1.before in
+    note.before ∙ ap (λ (l : List ℕ). l ++ c.of.result.value) steps.1.before in
     let longer : length c.note_front.new.self.loans.before ≡ length c.loop-group.groups.loans.before + length group =
-        ap length before ∙ length-append c.loop-group.groups.loans.before c.of.result.value ∙ ap (λ n. length c.loop-group.groups.loans.before + n) (ap length filled ∙ length-replicate (length group) c.loop-group.rank) in
+    ap length before ∙ length-append c.loop-group.groups.loans.before c.of.result.value ∙ ap (λ n. length c.loop-group.groups.loans.before + n) (ap length filled ∙ length-replicate (length group) c.loop-group.rank) in
     let shorter : length c.loop-group.groups.remainder ≡ length group + length c.note_front.new.self.remainder =
-        ap length steps.0.cut ∙ length-append group c.next.new.self.remainder ∙ ap (λ (l : List ℕ). length group + length l) (sym note.remainder) in
+    ap length steps.0.cut ∙ length-append group c.next.new.self.remainder ∙ ap (λ (l : List ℕ). length group + length l) (sym note.remainder) in
     record {
       settled = rw (note.remainder, note.judge) stays;
       root = note.root ∙ steps.1.root ∙ i.root;

@@ -1,13 +1,11 @@
 -- The reference is given up, and the token keeps what that says.
 use Rattle.std.proofs.Common.{◌≡◌, ℕ, List, [], ◌∷◌, ◌++◌, refl, sym, subst}
-use lib.ListN.{length}
 use mir.Syntax.{a_type, named}
 use mir.Val.{Val}
 use mir.MapTy.{inst_fn}
 use base.Logic.{SProp, ent, emp, id⊢}
-use base.Fml.{Fml, ftrue, fsep, flft}
+use base.Fml.{ftrue, fsep, flft}
 use prog.Wp.{WpFn}
-use types.Logic.{sem}
 use types.Kit.{‵, raw, ◌⊛◌, later, ◌$◌, ◌∵◌, !, qed, by, move, keep, split, join, fsplit, fjoin, suffices, use0, use1, await}
 use types.Run.{no_more, and_then, returns, enter}
 use types.ByLocal.{alloc_all, pass_all, free_all, look_at, get, sets}
@@ -16,7 +14,6 @@ use contract.Monad.{fact, fact_i}
 use contract.Running.{tables}
 use denote.Exit.{no}
 use denote.RattleType.{RattleType, owns}
-use denote.Ref.{MutBor}
 use denote.Slice.{mut_slice_vals}
 use denote.Signature.{types_at, plain, mut_slice_of, named_lft}
 use denote.Steps.{nothing}

@@ -1,12 +1,11 @@
 -- The slice is split, and the link between its name and the parts' is kept.
-use Rattle.std.proofs.Common.{◌≡◌, ℕ, ◌≤◌, List, [], ◌∷◌, ◌++◌, length, refl, sym, subst, Bool, true, false}
+use Rattle.std.proofs.Common.{◌≡◌, ℕ, ◌≤◌, List, [], ◌∷◌, ◌++◌, length, refl, sym, subst, false}
 use mir.Syntax.{a_type, named, w64}
 use mir.Val.{Val, vptr, vint}
 use mir.MapTy.{inst_fn}
 use base.Logic.{SProp, ent, emp, id⊢}
-use base.Fml.{GName, Fml, ftrue, fsep, flft}
+use base.Fml.{GName, ftrue, fsep, flft}
 use prog.Wp.{WpFn}
-use types.Logic.{sem}
 use types.Kit.{‵, raw, ◌⊛◌, some, later, ◌$◌, ◌∵◌, !, qed, by, move, keep, drop, split, join, fsplit, fsplit3, fjoin, feq_i, suffices, use0, use1, use2, rewrite, await, pick}
 use types.Part.{whole, sub, agg}
 use types.Run.{addr, from, fld, hop, stop, and_then, no_more, returns, enter}
@@ -24,7 +23,7 @@ use denote.RattleType.{RattleType, owns}
 use denote.Slice.{MutSlice, mut_slice_vals, slice_val}
 use denote.Signature.{types_at, type_at, plain, mut_slice_of, named_lft}
 use denote.Steps.{nothing, heard, opens, closes, owned, peeks}
-use denote.Param.{param, layout, layouts}
+use denote.Param.{param, layouts}
 use denote.Param.Laws.{param_laws, of_field, row_shared}
 use denote.Param.Shared.{mut_slice_shared}
 use denote.Struct.Field.{mut_slice_field}
@@ -37,7 +36,7 @@ use denote.Triple.Table.{framed}
 use denote.Triple.Walked.{Stays, walk_of, stay_dropped, Goes-dropped, Goes-spent_slice, stay_ref, Goes-ref}
 use Rattle.std.proofs.raw_atomic.Walks.{proved_at, leaves}
 use Rattle.sgb_loans.proofs.Tokens.{cuts}
-use Rattle.sgb_loans.specs.Links.{ended_as, loan_owns, cut_link}
+use Rattle.sgb_loans.specs.Links.{loan_owns, cut_link}
 use Rattle.sgb_loans.specs.contracts.loans.Loans as loans
 use Rattle.sgb_loans.specs.contracts.loans.split as g
 use Rattle.sgb_loans.proofs.loans.split.Met as callee
@@ -75,7 +74,7 @@ cut_back_spec 𝓤 𝓛 𝓜 𝓡 wired T L =
     use2 𝓛 (raw (G.pre z')) (id⊢ 𝓤 _) $
     calls_at ! (framed 𝓤 H 𝓜 𝓣) G met z' (and_then ! (get ! refl) (and_then ! (get ! refl) (no_more !))) (λ v.
     use1 𝓛 (later (some (λ (y : Out.Denot). ((‵ (flft κs.1.0 qs.1.0) ⊛ ‵ (fsep (flft κs.1.1.0 qs.1.1.0) ftrue)) ⊛ ‵ (Out.own_val y (v ∷ []))) ⊛ some (λ (ws : Lasts (g.ended T) (κs.1.0, (κs.1.1.0, tt)) (all, (mid, tt))). ‵ (lasts (g.ended T) (κs.1.0, (κs.1.1.0, tt)) (all, (mid, tt)) ws)
-        ⊛ (‵ (follows_both (Array R 0) (Array R 0) (Array R 0) all.ghost_name y.0.ghost_name y.1.ghost_name ◌++◌) ⊛ raw (fact 𝓤 ((all.now ≡ y.0.now ++ y.1.now) × (length y.0.now ≡ mid)))))))) (id⊢ 𝓤 _) $
+    ⊛ (‵ (follows_both (Array R 0) (Array R 0) (Array R 0) all.ghost_name y.0.ghost_name y.1.ghost_name ◌++◌) ⊛ raw (fact 𝓤 ((all.now ≡ y.0.now ++ y.1.now) × (length y.0.now ≡ mid)))))))) (id⊢ 𝓤 _) $
     await ! tt $ pick ! (λ y. split ! $ move ! (1 ∷ []) $ pick ! (λ ws. split ! $ drop ! $ split ! $ move ! (1 ∷ []) $ heard ! ((all.now ≡ y.0.now ++ y.1.now) × (length y.0.now ≡ mid)) (λ parts.
     move ! (1 ∷ []) $ split ! $ move ! (1 ∷ []) $ peeks ! Out (Is Out) (shows 𝓛 Out) y (v ∷ []) (λ told. let good = ((two_laws.lawful 𝓛).typed y (v ∷ []) told).0 in
     -- [the parts; the tokens of all; the link; the loans' borrow and its token]

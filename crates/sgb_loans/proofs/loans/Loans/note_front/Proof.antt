@@ -1,12 +1,11 @@
 -- The one part that is out ended as the token says.
 use Rattle.std.proofs.Common.{◌≡◌, ℕ, List, [], ◌∷◌, ◌++◌, refl, sym, subst, Bool, true, drop}
-use mir.Syntax.{a_type, named}
+use mir.Syntax.{a_type}
 use mir.Val.{Val, vptr, vunit}
 use mir.MapTy.{inst_fn}
 use base.Logic.{SProp, ent, emp, id⊢}
-use base.Fml.{GName, Fml, ftrue, fsep, flft}
+use base.Fml.{GName, ftrue, fsep, flft}
 use prog.Wp.{WpFn}
-use types.Logic.{sem}
 use types.Kit.{‵, raw, ◌⊛◌, ◌$◌, ◌∵◌, !, qed, by, move, keep, split, join, fsplit, fsplit3, fjoin, feq_i, suffices, use0, use2, rewrite}
 use types.Run.{of_opd, unit_lit, returns, enter}
 use types.ByLocal.{alloc_all, pass_all, free_all, look_at, sets}
@@ -24,7 +23,7 @@ use Rattle.std.proofs.cell.Inside.{one}
 use Rattle.std.proofs.raw_atomic.Walks.{proved_at, leaves}
 use Rattle.sgb_loans.proofs.Tokens.{notes}
 use Rattle.sgb_loans.proofs.loans.Ended.TheLaws as ended_laws
-use Rattle.sgb_loans.specs.Links.{ended_as, loan_owns}
+use Rattle.sgb_loans.specs.Links.{loan_owns}
 use Rattle.sgb_loans.specs.contracts.loans.Ended as end
 use Rattle.sgb_loans.specs.contracts.loans.Loans as loans
 use Rattle.sgb_loans.specs.contracts.loans.Loans.note_front.{ended, clauses}

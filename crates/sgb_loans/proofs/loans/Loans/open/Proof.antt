@@ -1,12 +1,11 @@
 -- The slice follows itself.
-use Rattle.std.proofs.Common.{◌≡◌, ℕ, List, [], ◌∷◌, ◌++◌, length, refl, sym, subst, Bool}
+use Rattle.std.proofs.Common.{◌≡◌, ℕ, List, [], ◌∷◌, ◌++◌, length, refl, sym, subst}
 use mir.Syntax.{a_type, named}
 use mir.Val.{Val, vstruct, vcons, vnil}
 use mir.MapTy.{inst_fn}
 use base.Logic.{SProp, ent, emp, id⊢}
-use base.Fml.{GName, Fml, ftrue, fsep, flft}
+use base.Fml.{ftrue, fsep, flft}
 use prog.Wp.{WpFn}
-use types.Logic.{sem}
 use types.Kit.{‵, raw, ◌⊛◌, ◌$◌, ◌∵◌, !, qed, by, move, keep, split, join, fsplit, fjoin, fpack, feq_i, suffices, use0, rewrite}
 use types.Part.{whole, sub, agg}
 use types.Run.{addr, from, fld, hop, stop, and_then, no_more, returns, enter}

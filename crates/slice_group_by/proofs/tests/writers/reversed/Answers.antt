@@ -1,4 +1,4 @@
-use Rattle.std.proofs.Common.{◌≡◌, ◌++◌, ◌∷◌, [], true, drop, List, ℕ, map, reverse, nat_eq, ap, ◌∙◌, Some, append_assoc, sym, arith}
+use Rattle.std.proofs.Common.{◌≡◌, ◌++◌, ◌∷◌, List, ℕ, map, reverse, nat_eq, ap, ◌∙◌, Some, append_assoc, sym, arith}
 use Rattle.std.proofs.lemmas.Grind.{common_steps}
 use Rattle.slice_group_by.specs.Split.{joined, split}
 use Rattle.slice_group_by.specs.declared.queue.End.TheVariants.{Front}
@@ -10,7 +10,7 @@ loop-group-preserved c =
     let note = c.note_front.ensures in
     let steps = c.in-Some.ensures.steps in
     let cut : split nat_eq c.loop-group.groups.remainder ≡ c.in-Some.group.now ∷ split nat_eq c.next.new.self.remainder =
-        c.calls_take_pieces.ensures.next nat_eq c.loop-group.groups c.next.new.self c.in-Some.group steps i.settled in
+    c.calls_take_pieces.ensures.next nat_eq c.loop-group.groups c.next.new.self c.in-Some.group steps i.settled in
     let stays = c.calls_take_pieces.ensures.settled nat_eq Front c.loop-group.groups c.next.new.self (Some c.in-Some.group) steps i.settled in
     let value : c.of.result.value ≡ reverse c.in-Some.group.now = c.of.ensures.value ∙ c.reverse.ensures.after in
     record {
