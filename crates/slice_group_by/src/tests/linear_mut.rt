@@ -231,3 +231,50 @@ fn every_order_of_four_calls(rt: HostRuntime) {
         }
     }
 }
+
+#[test]
+fn documentation_examples(rt: HostRuntime) {
+    let mut array = [1, 1, 2, 3, 3];
+    let mut groups = LinearGroupMut::new(&mut array);
+    if let Some(group) = groups.next() {
+        group.fill(7);
+    }
+    assert_eq!(rt; array, [7, 7, 2, 3, 3]);
+
+    let mut array = [1, 2, 3, 2, 3];
+    let mut groups = LinearGroupByMut::new(&mut array, |a, b| a < b);
+    if let Some(group) = groups.next_back() {
+        group.fill(0);
+    }
+    assert_eq!(rt; array, [1, 2, 3, 0, 0]);
+
+    let mut array = [10, 11, 20, 21, 22];
+    let mut groups = LinearGroupByKeyMut::new(&mut array, |x| *x / 10);
+    if let Some(group) = groups.next() {
+        group.fill(0);
+    }
+    assert_eq!(rt; array, [0, 0, 20, 21, 22]);
+
+    let mut array = [1, 1, 2, 3, 3];
+    let mut slice: &mut [i32] = &mut array;
+    for group in slice.linear_group_mut() {
+        group.fill(0);
+    }
+    assert_eq!(rt; array, [0, 0, 0, 0, 0]);
+
+    let mut array = [1, 1, 2, 3, 3];
+    let mut groups = LinearGroupMut::new(&mut array);
+    let first = groups.next();
+    let last = groups.next_back();
+    if let Some(group) = first {
+        group.fill(7);
+    }
+    if let Some(group) = last {
+        group.fill(9);
+    }
+    assert_eq!(rt; array, [7, 7, 2, 9, 9]);
+
+    let mut slice = [3, 3, 5, 3, 7, 7];
+    rank_groups(&mut slice);
+    assert_eq!(rt; slice, [0, 0, 1, 2, 3, 3]);
+}
