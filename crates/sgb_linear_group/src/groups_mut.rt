@@ -15,7 +15,7 @@ use std::mem;
 ///
 /// It asks what `LinearGroups` asks, and gives the same groups. Contracts also see which parts of the input are out
 /// (`loans`): take note of each group in the order in which the groups came, by `note_front` and `note_back`, and then
-/// `finish` says what the whole input ends as.
+/// `finish` says what the whole input ends as. These calls ask nothing and run no code but moves.
 #[derive(Drop)]
 pub struct LinearGroupsMut<'a, T, J> {
     slice: &'a mut [T],
@@ -174,7 +174,8 @@ impl<'a, T, J: Judge<T> + Drop> Iterator for LinearGroupsMut<'a, T, J> {
 
     ghost remaining = { groups_mut_left };
 
-    /// The first group of the remainder, or `None` where nothing remains.
+    /// The first group of the remainder, or `None` where nothing remains. For a group of g elements it asks g questions, or
+    /// g - 1 where nothing remains after it.
     #[inline]
     fn next(&mut self) -> Option<&'a mut [T]> {
         self.take_front()
@@ -202,7 +203,8 @@ impl<'a, T, J: Judge<T> + Drop> DoubleEndedIterator for LinearGroupsMut<'a, T, J
 
     ghost next_back_gives = { GivesBackMut J.Judge };
 
-    /// The last group of the remainder, or `None` where nothing remains.
+    /// The last group of the remainder, or `None` where nothing remains. For a group of g elements it asks g questions, or
+    /// g - 1 where nothing remains before it.
     #[inline]
     fn next_back(&mut self) -> Option<&'a mut [T]> {
         self.take_back()
@@ -212,19 +214,18 @@ impl<'a, T, J: Judge<T> + Drop> DoubleEndedIterator for LinearGroupsMut<'a, T, J
 impl<'a, T, J: Judge<T> + Drop> FusedIterator for LinearGroupsMut<'a, T, J> {}
 
 impl<'a, T, J: Judge<T> + Drop> LinearGroupsMut<'a, T, J> {
-    ghost use Rattle.std.specs.Option.{option_copied_mut};
-    ghost use Rattle.sgb_search.specs.Groups.{Groups};
-    ghost use Rattle.sgb_linear_group.specs.Linear.{BackCall};
-    ghost use Rattle.sgb_linear_group.specs.LinearMut.{IsCallableMut, seen};
+    ghost use Rattle.sgb_loans.specs.GroupsMut.{GroupsMut};
+    ghost use Rattle.sgb_linear_group.specs.LinearMut.{IsCallableMut, GivesBackMut};
 
-    /// The last group of the remainder, or `None` where nothing remains: what `next_back` gives. The iterator is given up.
+    /// The last group of the remainder, or `None` where nothing remains: what `next_back` gives, by its questions. The
+    /// iterator is given up. `Iterator::last` walks all groups from the front.
     ///
     /// What the input ends as cannot be known from it, since the loans are given up too: where that is wanted, call
     /// `next_back`, take note of the group, and `finish`.
     #[inline]
     pub fn last(mut self) -> Option<&'a mut [T]>
         requires { IsCallableMut J.Judge self }
-        ensures { (t : Groups T J) × BackCall J.Judge (seen self.entry) (option_copied_mut result) t }
+        ensures { (t : GroupsMut T J) × GivesBackMut J.Judge self.entry result t }
     {
         self.next_back()
     }

@@ -14,7 +14,7 @@ pub record GroupsMut (T J : Type 0) : Type 0 where
 abbrev pub groups_mut_left : {T J : Type 0} → GroupsMut T J → Count
 groups_mut_left s = at_most (length s.remainder)
 
--- the part named g came off, true at the front, and is out with those that were out before
+-- the part named g came off, true at the front, and is out with those that were out before; the rest has a new name
 pub record HandsOut {T : Type 0} (front : Bool) (l : Loans T) (g : GName) (m : Loans T) : Type 0 where
   pub root : m.root ≡ l.root
   pub before : m.before ≡ l.before

@@ -76,7 +76,7 @@ impl<T> Loans<T> {
         (slice, loans)
     }
 
-    /// Cuts the rest in two, of which the first is out then, and the second is the rest.
+    /// Cuts the rest `all` in two at `mid`, of which the first is out then, and the second is the rest.
     #[inline]
     pub fn cut_front<'a>(&mut self, all: &'a mut [T], mid: usize) -> (&'a mut [T], &'a mut [T])
         requires within { mid ≤ length all.old }
@@ -92,7 +92,7 @@ impl<T> Loans<T> {
         split(all, mid)
     }
 
-    /// Cuts the rest in two, of which the second is out then, and the first is the rest.
+    /// Cuts the rest `all` in two at `mid`, of which the second is out then, and the first is the rest.
     #[inline]
     pub fn cut_back<'a>(&mut self, all: &'a mut [T], mid: usize) -> (&'a mut [T], &'a mut [T])
         requires within { mid ≤ length all.old }
@@ -149,3 +149,6 @@ impl<T> Loans<T> {
         }
     }
 }
+
+const _: () = prove!(size_of::<Ended<'static, u32>>() == 0);
+const _: () = prove!(size_of::<Loans<u32>>() == 0);

@@ -16,7 +16,7 @@ fn settled<T, F: FnOnce(&mut [T]) -> Ended<'_, T>>(slice: &mut [T], f: F) -> Opt
     None
 }
 
-/// Lends `f` the slice. The slice is then what the token says that `f` answers.
+/// Lends `f` the slice. The slice is then what the token says that `f` answers, which has to be a token of what `f` was lent.
 ///
 /// ```
 /// pub fn rank_groups(slice: &mut [usize]) {

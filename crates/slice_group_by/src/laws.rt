@@ -1,4 +1,5 @@
-//! Laws for the proofs of callers. Each is a function that does nothing: its contract is the law.
+//! Laws for the proofs of callers. Each is a function that does nothing: its contract is the law. `rank_groups`, which is
+//! proved from them, stands here too.
 //!
 //! A function whose contract rests on a law calls it, and then its proof may cite it. Where a law takes a queue, that only
 //! names the type, which may hold a closure: the law is over all of its states.

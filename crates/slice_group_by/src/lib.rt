@@ -15,6 +15,7 @@
 pub mod laws;
 mod linear;
 mod linear_mut;
+pub mod loans;
 mod queue;
 mod ranks;
 #[cfg(test)]
@@ -29,5 +30,4 @@ pub use sgb_linear_group::linear_group_by_key::LinearGroupByKey;
 pub use sgb_linear_group::linear_group_by_key_mut::LinearGroupByKeyMut;
 pub use sgb_linear_group::linear_group_by_mut::LinearGroupByMut;
 pub use sgb_linear_group::linear_group_mut::LinearGroupMut;
-pub use sgb_loans as loans;
 pub use traits::{GroupBy, GroupByMut};

@@ -3,9 +3,8 @@ ghost use Rattle.std.specs.Prelude.{◌≡◌, nat_eq};
 ghost use Rattle.slice_group_by.specs.Ranks.{ranks};
 
 use crate::laws::calls_take_pieces;
+use crate::loans::{Ended, settle};
 use sgb_linear_group::linear_group_mut::LinearGroupMut;
-use sgb_loans::loans::Ended;
-use sgb_loans::settle::settle;
 
 fn ranked(slice: &mut [usize]) -> Ended<'_, usize>
     ensures name { result.name ≡ slice.entry.ghost_name }
@@ -22,9 +21,11 @@ fn ranked(slice: &mut [usize]) -> Ended<'_, usize>
     groups.finish()
 }
 
-/// Writes the rank of each place over its element: how many groups of equal elements end before it, from 0 on.
+/// Writes the rank of each place over its element: how many unequal neighbouring pairs there are up to it, which is how many
+/// groups of equal elements end before its own.
 ///
-/// It walks the groups for writing, and knows what the slice ends as from what it takes note of.
+/// It walks the groups for writing, and knows what the slice ends as from what it takes note of. For n > 0 elements it
+/// makes n - 1 comparisons, and writes each place once.
 ///
 /// ```
 /// let mut slice = [3, 3, 5, 3, 7, 7];

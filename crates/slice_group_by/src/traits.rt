@@ -87,8 +87,8 @@ impl<T> GroupBy<T> for &[T] {
 /// Groups of neighbouring elements, for writing.
 ///
 /// A method requires what `new` of its type requires, and gives what it gives on the whole slice. The groups live as long
-/// as the borrow of the variable; groups from `new` live as long as the slice. What the slice ends as can be known from
-/// groups that `new` made, and not from those of a method: the loan of the variable hides it.
+/// as the borrow of the variable; groups from `new` live as long as the slice. No contract of a method says
+/// which slice the variable holds after that borrow, nor what the slice is then: where that is wanted, call `new`.
 ///
 /// ```
 /// let mut slice: &mut [i32] = &mut [1, 1, 2, 3, 3];

@@ -123,6 +123,22 @@ fn size_hint_and_last(rt: HostRuntime) {
     assert!(rt; groups.last().is_none());
 }
 
+// No contract says so: `last` leaves the elements before its group, and a method of the trait leaves the variable's slice.
+#[test]
+fn leaves_the_other_elements(rt: HostRuntime) {
+    let mut array = [1, 2, 2, 3, 3];
+    let groups = LinearGroupMut::new(&mut array);
+    if let Some(group) = groups.last() {
+        group.fill(9);
+    }
+    assert_eq!(rt; array, [1, 2, 2, 9, 9]);
+    let mut slice: &mut [i32] = &mut array;
+    let _ = slice.linear_group_mut().next();
+    let _ = slice.linear_group_by_mut(|a, b| a < b).next_back();
+    let _ = slice.linear_group_by_key_mut(|x| *x).last();
+    assert_eq!(rt; &*slice, [1, 2, 2, 9, 9].as_slice());
+}
+
 #[test]
 fn debug_texts(rt: HostRuntime) -> Result<(), Fail> {
     let mut slice = [1, 2];
@@ -260,6 +276,7 @@ fn documentation_examples(rt: HostRuntime) {
     for group in slice.linear_group_mut() {
         group.fill(0);
     }
+    assert_eq!(rt; &*slice, [0, 0, 0, 0, 0].as_slice());
     assert_eq!(rt; array, [0, 0, 0, 0, 0]);
 
     let mut array = [1, 1, 2, 3, 3];

@@ -4,8 +4,7 @@ ghost use Rattle.slice_group_by.specs.Split.{joined, split};
 
 use crate::LinearGroupMut;
 use crate::laws::calls_take_pieces;
-use crate::loans::loans::Ended;
-use crate::loans::settle::settle;
+use crate::loans::{Ended, settle};
 
 // Writes the first element of each group over the whole group.
 fn filled(slice: &mut [u8]) -> Ended<'_, u8>
