@@ -151,4 +151,5 @@ impl<T> Loans<T> {
 }
 
 const _: () = prove!(size_of::<Ended<'static, u32>>() == 0);
+
 const _: () = prove!(size_of::<Loans<u32>>() == 0);

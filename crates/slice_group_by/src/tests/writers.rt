@@ -1,5 +1,5 @@
 //! Users' functions that write through groups, proved from the public contracts.
-ghost use Rattle.std.specs.Prelude.{◌≡◌, ℕ, List, ◌++◌, replicate, length, map, reverse, nat_eq};
+ghost use Rattle.std.specs.Prelude.{◌≡◌, ℕ, [], List, ◌++◌, replicate, length, map, reverse, nat_eq};
 ghost use Rattle.slice_group_by.specs.Split.{joined, split};
 
 use crate::LinearGroupMut;
@@ -29,7 +29,8 @@ fn fill_with_first(slice: &mut [u8])
 // Holds the first and the last group at once, and clears both: what stands between them stays.
 fn ends_cleared(slice: &mut [u8]) -> Ended<'_, u8>
     ensures name { result.name ≡ slice.entry.ghost_name }
-    ensures value { (a b c : List ℕ) × (slice.old ≡ a ++ (b ++ c)) × (result.value ≡ replicate (length a) 0 ++ (b ++ replicate (length c) 0)) }
+    ensures value { (a b c : List ℕ) × (slice.old ≡ a ++ (b ++ c)) × (result.value ≡ replicate (length a) 0 ++ (b ++ replicate (length c) 0))
+        × (a ≡ [] → b ≡ []) × (c ≡ [] → b ≡ []) }
 {
     let mut groups = LinearGroupMut::new(slice);
     let Some(first) = groups.next() else {
@@ -48,9 +49,29 @@ fn ends_cleared(slice: &mut [u8]) -> Ended<'_, u8>
 }
 
 fn clear_ends(slice: &mut [u8])
-    ensures { (a b c : List ℕ) × (slice.old ≡ a ++ (b ++ c)) × (slice.new ≡ replicate (length a) 0 ++ (b ++ replicate (length c) 0)) }
+    ensures { (a b c : List ℕ) × (slice.old ≡ a ++ (b ++ c)) × (slice.new ≡ replicate (length a) 0 ++ (b ++ replicate (length c) 0))
+        × (a ≡ [] → b ≡ []) × (c ≡ [] → b ≡ []) }
 {
     settle(slice, |part| ends_cleared(part));
+}
+
+// Clears each group, from the back.
+fn all_cleared(slice: &mut [u8]) -> Ended<'_, u8>
+    ensures name { result.name ≡ slice.entry.ghost_name }
+    ensures value { result.value ≡ replicate (length slice.old) 0 }
+{
+    let mut groups = LinearGroupMut::new(slice);
+    while let Some(group) = groups.next_back() {
+        group.fill(0);
+        groups.note_back(Ended::of(group));
+    }
+    groups.finish()
+}
+
+fn clear_all(slice: &mut [u8])
+    ensures { slice.new ≡ replicate (length slice.old) 0 }
+{
+    settle(slice, |part| all_cleared(part));
 }
 
 // Reverses each group in place.
@@ -82,6 +103,8 @@ fn writers(rt: HostRuntime) {
     assert_eq!(rt; slice, [0, 0, 5, 0, 0]);
     reverse_groups(&mut slice);
     assert_eq!(rt; slice, [0, 0, 5, 0, 0]);
+    clear_all(&mut slice);
+    assert_eq!(rt; slice, [0, 0, 0, 0, 0]);
     let mut one = [8, 8];
     clear_ends(&mut one);
     assert_eq!(rt; one, [0, 0]);
