@@ -3,7 +3,6 @@ ghost use Rattle.std.specs.Prelude.{◌≡◌, ℕ, [], List, ◌++◌, replicat
 ghost use Rattle.slice_group_by.specs.Split.{joined, split};
 
 use crate::LinearGroupMut;
-use crate::laws::calls_take_pieces;
 use crate::loans::{Ended, settle};
 
 // Writes the first element of each group over the whole group.
@@ -75,12 +74,12 @@ fn clear_all(slice: &mut [u8])
 }
 
 // Reverses each group in place.
+#[tactic(auto, using(std::proofs::lemmas::Grind::common_steps, crate::proofs::EqualPieces::equal_piece))]
 fn reversed(slice: &mut [u8]) -> Ended<'_, u8>
     ensures name { result.name ≡ slice.entry.ghost_name }
     ensures value { result.value ≡ joined (map reverse (split nat_eq slice.old)) }
 {
     let mut groups = LinearGroupMut::new(slice);
-    calls_take_pieces(&groups);
     while let Some(group) = groups.next() {
         group.reverse();
         groups.note_front(Ended::of(group));

@@ -1,12 +1,9 @@
 use Rattle.std.proofs.Common.{length, map, reverse, nat_eq, ◌≡◌, ◌++◌, []}
 use Rattle.slice_group_by.specs.Split.{joined, split}
-use Rattle.slice_group_by.specs.Judges.{by_equality}
-use Rattle.slice_group_by.specs.LinearMut.{IsSettledMut}
 use Rattle.slice_group_by.proofs.tests.writers.reversed.Given as goal
 
 abbrev pub invariant-loop-group : goal.invariant-loop-group
 invariant-loop-group l = record {
-  settled : IsSettledMut (by_equality nat_eq) l.groups nat_eq;
   root : l.groups.loans.root ≡ l.initial.groups.loans.root;
   cuts : l.groups.loans.cuts ≡ [];
   after : l.groups.loans.after ≡ [];
