@@ -62,7 +62,7 @@ impl<'a, T, F, K> LinearGroupsMut<'a, T, KeyJudge<F, K>> {
     pub fn is_empty(&self) -> bool
         ensures { result ≡ nat_eq (length self.now.remainder) 0 }
     {
-        self.len() == 0
+        self.remainder_len() == 0
     }
 }
 
