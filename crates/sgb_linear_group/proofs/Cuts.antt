@@ -9,7 +9,7 @@ use Rattle.sgb_search.specs.Groups.{Groups}
 use Rattle.sgb_search.proofs.Runs.{may_after}
 use Rattle.sgb_search.proofs.Pairs.{neighbours_of_first, neighbours_of_rest}
 use Rattle.sgb_search.proofs.Ranges.{length-range, range_cut}
-use Rattle.sgb_linear_group.specs.Linear.{IsFrontGroup, IsBackGroup}
+use Rattle.sgb_search.specs.LinearCalls.{IsFrontGroup, IsBackGroup}
 
 module _ {T J : Type 0} (g : Ghosts J T) (xs : List T) (low high : ℕ) (within : high ≤ length xs) (j k : J) where
   pub front_cut : (end : ℕ) → low < end → end ≤ high → IsRun g.may_ask g.answers j (front_questions (slice_range xs low high) (end - low)) k

@@ -1,6 +1,3 @@
 pub mod Cuts
-pub mod Pieces
-pub mod PairsAsked
-pub mod Queue
 pub mod CutsMut
 pub mod QueueMut

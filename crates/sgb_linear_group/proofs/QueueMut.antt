@@ -10,7 +10,7 @@ use Rattle.sgb_search.specs.Split.{TakesFirst, TakesLast}
 use Rattle.sgb_search.proofs.Runs.{run_of_none, run_of_more}
 use Rattle.sgb_loans.specs.GroupsMut.{GroupsMut}
 use Rattle.sgb_linear_group.specs.LinearMut.{IsSettledMut, GivesFrontMut, GivesBackMut, seen}
-use Rattle.sgb_linear_group.proofs.Queue as shown
+use Rattle.sgb_search.proofs.LinearQueue as shown
 
 module _ {T J : Type 0} (g : Ghosts J T) where
   pub front_part : (s : GroupsMut T J) (r : Option (MutBor (List T))) (t : GroupsMut T J) → GivesFrontMut g s r t → CutsFront s.remainder (option_copied_mut r) t.remainder

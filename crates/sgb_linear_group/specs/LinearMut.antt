@@ -5,7 +5,7 @@ use Rattle.std.specs.Borrow.{MutBor}
 use Rattle.sgb_search.specs.declared.judge.Judge.{Ghosts}
 use Rattle.sgb_search.specs.Groups.{Groups}
 use Rattle.sgb_loans.specs.GroupsMut.{GroupsMut, HandsOut}
-use Rattle.sgb_linear_group.specs.Linear.{IsCallable, IsSettled, FrontCall, BackCall}
+use Rattle.sgb_search.specs.LinearCalls.{IsCallable, IsSettled, FrontCall, BackCall}
 
 -- what an iterator for reading shows of the same
 abbrev pub seen : {T J : Type 0} → GroupsMut T J → Groups T J

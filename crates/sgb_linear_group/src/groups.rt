@@ -67,7 +67,8 @@ impl<'a, T, J> LinearGroups<'a, T, J> {
 }
 
 impl<'a, T, J: Judge<T>> LinearGroups<'a, T, J> {
-    ghost use Rattle.sgb_linear_group.specs.Linear.{IsCallable, GivesFront, GivesBack};
+    ghost use Rattle.sgb_search.specs.LinearCalls.{IsCallable};
+    ghost use Rattle.sgb_linear_group.specs.Linear.{GivesFront, GivesBack};
 
     #[inline]
     fn take_front(&mut self) -> Option<&'a [T]>
@@ -103,7 +104,8 @@ impl<'a, T, J: Judge<T>> LinearGroups<'a, T, J> {
 impl<'a, T, J: Judge<T> + Drop> Iterator for LinearGroups<'a, T, J> {
     type Item = &'a [T];
 
-    ghost use Rattle.sgb_linear_group.specs.Linear.{IsCallable, GivesFront};
+    ghost use Rattle.sgb_search.specs.LinearCalls.{IsCallable};
+    ghost use Rattle.sgb_linear_group.specs.Linear.{GivesFront};
 
     ghost can_next = { IsCallable J.Judge };
 
@@ -133,7 +135,8 @@ impl<'a, T, J: Judge<T> + Drop> Iterator for LinearGroups<'a, T, J> {
 }
 
 impl<'a, T, J: Judge<T> + Drop> DoubleEndedIterator for LinearGroups<'a, T, J> {
-    ghost use Rattle.sgb_linear_group.specs.Linear.{IsCallable, GivesBack};
+    ghost use Rattle.sgb_search.specs.LinearCalls.{IsCallable};
+    ghost use Rattle.sgb_linear_group.specs.Linear.{GivesBack};
 
     ghost can_next_back = { IsCallable J.Judge };
 
@@ -149,7 +152,8 @@ impl<'a, T, J: Judge<T> + Drop> DoubleEndedIterator for LinearGroups<'a, T, J> {
 impl<'a, T, J: Judge<T> + Drop> FusedIterator for LinearGroups<'a, T, J> {}
 
 impl<'a, T, J: Judge<T> + Drop> LinearGroups<'a, T, J> {
-    ghost use Rattle.sgb_linear_group.specs.Linear.{IsCallable, GivesBack};
+    ghost use Rattle.sgb_search.specs.LinearCalls.{IsCallable};
+    ghost use Rattle.sgb_linear_group.specs.Linear.{GivesBack};
 
     /// The last group of the remainder, or `None` where nothing remains: what `next_back` gives. The iterator is given up.
     ///

@@ -17,7 +17,7 @@ use sgb_search::judge::EqualityJudge;
 pub type LinearGroup<'a, T> = LinearGroups<'a, T, EqualityJudge>;
 
 impl<'a, T: PartialEq> LinearGroups<'a, T, EqualityJudge> {
-    ghost use Rattle.sgb_linear_group.specs.Linear.{IsCallable, IsSettled};
+    ghost use Rattle.sgb_search.specs.LinearCalls.{IsCallable, IsSettled};
 
     /// All groups of equal elements of the slice, which are still to come. Nothing is asked yet.
     #[inline]

@@ -18,7 +18,7 @@ use std::fmt;
 pub type LinearGroupBy<'a, T, P> = LinearGroups<'a, T, PredicateJudge<P>>;
 
 impl<'a, T, P: FnMut(&T, &T) -> bool> LinearGroups<'a, T, PredicateJudge<P>> {
-    ghost use Rattle.sgb_linear_group.specs.Linear.{IsCallable, IsSettled};
+    ghost use Rattle.sgb_search.specs.LinearCalls.{IsCallable, IsSettled};
 
     /// All groups of the slice by the predicate, which are still to come. Nothing is asked yet.
     ///

@@ -20,7 +20,7 @@ use std::marker::PhantomData;
 pub type LinearGroupByKey<'a, T, F, K> = LinearGroups<'a, T, KeyJudge<F, K>>;
 
 impl<'a, T, K: PartialEq + Drop, F: FnMut(&T) -> K> LinearGroups<'a, T, KeyJudge<F, K>> {
-    ghost use Rattle.sgb_linear_group.specs.Linear.{IsCallable, IsSettled};
+    ghost use Rattle.sgb_search.specs.LinearCalls.{IsCallable, IsSettled};
 
     /// All groups of the slice by the key, which are still to come. Nothing is asked yet.
     ///

@@ -23,7 +23,7 @@ pub type LinearGroupByKeyMut<'a, T, F, K> = LinearGroupsMut<'a, T, KeyJudge<F, K
 
 impl<'a, T, K: PartialEq + Drop, F: FnMut(&T) -> K> LinearGroupsMut<'a, T, KeyJudge<F, K>> {
     ghost use Rattle.sgb_search.specs.Groups.{Groups};
-    ghost use Rattle.sgb_linear_group.specs.Linear.{IsCallable};
+    ghost use Rattle.sgb_search.specs.LinearCalls.{IsCallable};
     ghost use Rattle.sgb_linear_group.specs.LinearMut.{IsCallableMut, IsSettledMut};
 
     /// All groups of the slice by the key, which are still to come. Nothing is asked yet, and nothing is out.

@@ -22,7 +22,7 @@ pub type LinearGroupByMut<'a, T, P> = LinearGroupsMut<'a, T, PredicateJudge<P>>;
 
 impl<'a, T, P: FnMut(&T, &T) -> bool> LinearGroupsMut<'a, T, PredicateJudge<P>> {
     ghost use Rattle.sgb_search.specs.Groups.{Groups};
-    ghost use Rattle.sgb_linear_group.specs.Linear.{IsCallable};
+    ghost use Rattle.sgb_search.specs.LinearCalls.{IsCallable};
     ghost use Rattle.sgb_linear_group.specs.LinearMut.{IsCallableMut, IsSettledMut};
 
     /// All groups of the slice by the predicate, which are still to come. Nothing is asked yet, and nothing is out.

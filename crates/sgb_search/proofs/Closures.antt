@@ -1,20 +1,45 @@
 -- Judges over a closure: when they may be asked, and for which test they are settled.
-use Rattle.std.specs.Prelude.{◌≡◌, Bool, List, [], ◌∷◌}
+use Rattle.std.specs.Prelude.{◌≡◌, ℕ, Bool, List, [], ◌∷◌}
 use Rattle.std.proofs.Common.{refl, ap, ◌∙◌}
 use Rattle.std.specs.Borrow.{Bor}
-use Rattle.std.specs.Fn.{Mut, ComputesOnPairs, ComputesKey, CalledAt, CalledAtTwo}
+use Rattle.std.specs.Fn.{Mut, Takes, TakesAt, Called, CalledAt, CalledAtTwo, ComputesOnPairs, ComputesKey}
 use denote.Param.Always.{always_mut, mut_next}
-use Rattle.sgb_search.specs.Judges.{MayAskAlong, AnswersAlong, by_predicate, predicate_judge, by_key, key_judge, ComparesKeys}
+use Rattle.sgb_search.specs.Judges.{MayAskAlong, AnswersAlong, by_predicate, predicate_judge, by_key, key_judge, MayCompareKeys, ComparesKeys, by_char_predicate, char_predicate_judge, by_char_key, char_key_judge, CalledAtChar, ComputesOnChars, ComputesCharKey}
 use Rattle.sgb_search.specs.Neighbours.{AreNeighbours, on_pairs}
 use Rattle.sgb_search.proofs.Runs.{may_ask_by, answers_by}
+
+-- a closure that may always be called may be called now, and may always be called after that
+module _ {F X R : Type 0} (g : Mut F X R) where
+  taken : (f : F) (a : X) → always_mut g f → Takes g f a
+  taken f a i = (i.at (a ∷ [])).0
+
+  always_next : (f : F) (a : X) (r : R) (f' : F) → Called g f a r f' → always_mut g f → always_mut g f'
+  always_next f a r f' c i = mut_next g f a r f' f' c refl i
+
+-- two calls for keys
+module _ {F T K : Type 0} (takes : F → T → Type 0) (calls : F → T → K → F → Type 0) where
+  module _ (I : F → Type 0) (next : (f : F) (x : T) (k : K) (f' : F) → calls f x k f' → I f → I f') where
+    may_compare : ((f : F) (x : T) → I f → takes f x) → (f : F) (q : T × T) → I f → MayCompareKeys takes calls f q
+    may_compare take f q i = (take f q.0 i, λ k f' c. take f' q.1 (next f q.0 k f' c i))
+
+    compared_next : (eq : K → K → Bool) (f : F) (x y : T) (b : Bool) (f' : F) → ComparesKeys calls eq f x y b f' → I f → I f'
+    compared_next eq f x y b f' c i = next c.between y c.right_key f' c.second (next f x c.left_key c.between c.first i)
+
+  -- of a function that computes key
+  module _ (key : T → K) (I : F → Type 0) (computes : (f : F) (x : T) (k : K) (f' : F) → I f → calls f x k f' → (k ≡ key x) × I f') where
+    keys_next : (eq : K → K → Bool) (f : F) (x y : T) (b : Bool) (f' : F) → I f → ComparesKeys calls eq f x y b f' → (b ≡ eq (key x) (key y)) × I f'
+    keys_next eq f x y b f' h c =
+        let l = computes f x c.left_key c.between h c.first in
+        let r = computes c.between y c.right_key f' l.1 c.second in
+        (c.compared ∙ rw (l.0, r.0) refl, r.1)
 
 module _ {P T : Type 0} (g : Mut P (Bor T × (Bor T × Unit {0})) Bool) where
   -- a predicate that may always be called
   pub predicate_callable : (xs : List T) (f : P) → always_mut g f → MayAskAlong (by_predicate g) xs (predicate_judge f)
   predicate_callable xs f h =
       may_ask_by _ _ (AreNeighbours xs) (λ j. always_mut g j.predicate)
-      (λ j q i ok v w e d. (i.at ((v, (w, tt)) ∷ [])).0)
-      (λ j q b k i ok c. mut_next g j.predicate (c.first, (c.second, tt)) b k.predicate k.predicate c.called refl i)
+      (λ j q i ok v w e d. taken g j.predicate (v, (w, tt)) i)
+      (λ j q b k i ok c. always_next g j.predicate (c.first, (c.second, tt)) b k.predicate c.called i)
       (predicate_judge f) h
 
   -- a predicate that computes p
@@ -30,12 +55,15 @@ module _ {P T : Type 0} (g : Mut P (Bor T × (Bor T × Unit {0})) Bool) where
         answers_by _ _ (AreNeighbours xs) (on_pairs p) (λ j. ComputesOnPairs g p j.predicate) (λ j q b k i c. computes_next j.predicate q.0 q.1 b k.predicate i c) (predicate_judge f) h
 
 module _ {F T K : Type 0} (g : Mut F (Bor T × Unit {0}) K) (eq : K → K → Bool) where
+  key_called : (f : F) (x : T) (k : K) (f' : F) → CalledAt g f x k f' → always_mut g f → always_mut g f'
+  key_called f x k f' c i = always_next g f (c.shown, tt) k f' c.called i
+
   -- a key function that may always be called
   pub key_callable : (xs : List T) (f : F) → always_mut g f → MayAskAlong (by_key g eq) xs (key_judge f)
   key_callable xs f h =
       may_ask_by _ _ (AreNeighbours xs) (λ j. always_mut g j.func)
-      (λ j q i ok. (λ v e. (i.at ((v, tt) ∷ [])).0, λ k f' c v e. ((mut_next g j.func (c.shown, tt) k f' f' c.called refl i).at ((v, tt) ∷ [])).0))
-      (λ j q b k i ok c. mut_next g c.between (c.second.shown, tt) c.right_key k.func k.func c.second.called refl (mut_next g j.func (c.first.shown, tt) c.left_key c.between c.between c.first.called refl i))
+      (λ j q i ok. may_compare (TakesAt g) (CalledAt g) (always_mut g) key_called (λ f x i v e. taken g f (v, tt) i) j.func q i)
+      (λ j q b k i ok c. compared_next (TakesAt g) (CalledAt g) (always_mut g) key_called eq j.func q.0 q.1 b k.func c i)
       (key_judge f) h
 
   -- a key function that computes key
@@ -43,12 +71,47 @@ module _ {F T K : Type 0} (g : Mut F (Bor T × Unit {0}) K) (eq : K → K → Bo
     key_next : (f : F) (x : T) (k : K) (f' : F) → ComputesKey g key f → CalledAt g f x k f' → (k ≡ key x) × ComputesKey g key f'
     key_next f x k f' h c = ((h.at ((c.shown, tt) ∷ []) k f' c.called).0 ∙ ap key c.shows, record { at = λ xs. (h.at ((c.shown, tt) ∷ xs) k f' c.called).1 })
 
-    keys_next : (f : F) (x y : T) (b : Bool) (f' : F) → ComputesKey g key f → ComparesKeys g eq f x y b f' → (b ≡ eq (key x) (key y)) × ComputesKey g key f'
-    keys_next f x y b f' h c =
-        let l = key_next f x c.left_key c.between h c.first in
-        let r = key_next c.between y c.right_key f' l.1 c.second in
-        (c.compared ∙ rw (l.0, r.0) refl, r.1)
-
     pub key_settled : (xs : List T) (f : F) → ComputesKey g key f → AnswersAlong (by_key g eq) xs (λ x y. eq (key x) (key y)) (key_judge f)
     key_settled xs f h =
-        answers_by _ _ (AreNeighbours xs) (on_pairs (λ x y. eq (key x) (key y))) (λ j. ComputesKey g key j.func) (λ j q b k i c. keys_next j.func q.0 q.1 b k.func i c) (key_judge f) h
+        answers_by _ _ (AreNeighbours xs) (on_pairs (λ x y. eq (key x) (key y))) (λ j. ComputesKey g key j.func)
+        (λ j q b k i c. keys_next (TakesAt g) (CalledAt g) key (ComputesKey g key) key_next eq j.func q.0 q.1 b k.func i c)
+        (key_judge f) h
+
+-- closures of characters, by value
+module _ {P : Type 0} (g : Mut P (ℕ × (ℕ × Unit {0})) Bool) where
+  pub char_predicate_callable : (cs : List ℕ) (f : P) → always_mut g f → MayAskAlong (by_char_predicate g) cs (char_predicate_judge f)
+  char_predicate_callable cs f h =
+      may_ask_by _ _ (AreNeighbours cs) (λ j. always_mut g j.predicate)
+      (λ j q i ok. taken g j.predicate (q.0, (q.1, tt)) i)
+      (λ j q b k i ok c. always_next g j.predicate (q.0, (q.1, tt)) b k.predicate c i)
+      (char_predicate_judge f) h
+
+  pub char_predicate_settled : (p : ℕ → ℕ → Bool) (cs : List ℕ) (f : P) → ComputesOnChars g p f → AnswersAlong (by_char_predicate g) cs p (char_predicate_judge f)
+  char_predicate_settled p cs f h =
+      answers_by _ _ (AreNeighbours cs) (on_pairs p) (λ j. ComputesOnChars g p j.predicate)
+      (λ j q b k i c. ((i.at ((q.0, (q.1, tt)) ∷ []) b k.predicate c).0, record { at = λ xs. (i.at ((q.0, (q.1, tt)) ∷ xs) b k.predicate c).1 }))
+      (char_predicate_judge f) h
+
+module _ {F K : Type 0} (g : Mut F (ℕ × Unit {0}) K) (eq : K → K → Bool) where
+  abbrev takes_char : F → ℕ → Type 0
+  takes_char f c = Takes g f (c, tt)
+
+  char_key_called : (f : F) (c : ℕ) (k : K) (f' : F) → CalledAtChar g f c k f' → always_mut g f → always_mut g f'
+  char_key_called f c k f' d i = always_next g f (c, tt) k f' d i
+
+  pub char_key_callable : (cs : List ℕ) (f : F) → always_mut g f → MayAskAlong (by_char_key g eq) cs (char_key_judge f)
+  char_key_callable cs f h =
+      may_ask_by _ _ (AreNeighbours cs) (λ j. always_mut g j.func)
+      (λ j q i ok. may_compare takes_char (CalledAtChar g) (always_mut g) char_key_called (λ f c i. taken g f (c, tt) i) j.func q i)
+      (λ j q b k i ok c. compared_next takes_char (CalledAtChar g) (always_mut g) char_key_called eq j.func q.0 q.1 b k.func c i)
+      (char_key_judge f) h
+
+  module _ (key : ℕ → K) where
+    char_key_next : (f : F) (c : ℕ) (k : K) (f' : F) → ComputesCharKey g key f → CalledAtChar g f c k f' → (k ≡ key c) × ComputesCharKey g key f'
+    char_key_next f c k f' h d = ((h.at ((c, tt) ∷ []) k f' d).0, record { at = λ xs. (h.at ((c, tt) ∷ xs) k f' d).1 })
+
+    pub char_key_settled : (cs : List ℕ) (f : F) → ComputesCharKey g key f → AnswersAlong (by_char_key g eq) cs (λ x y. eq (key x) (key y)) (char_key_judge f)
+    char_key_settled cs f h =
+        answers_by _ _ (AreNeighbours cs) (on_pairs (λ x y. eq (key x) (key y))) (λ j. ComputesCharKey g key j.func)
+        (λ j q b k i c. keys_next takes_char (CalledAtChar g) key (ComputesCharKey g key) char_key_next eq j.func q.0 q.1 b k.func i c)
+        (char_key_judge f) h

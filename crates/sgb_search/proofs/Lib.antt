@@ -6,3 +6,6 @@ pub mod Ranges
 pub mod Scanning
 pub mod Equality
 pub mod Closures
+pub mod LinearPieces
+pub mod LinearPairs
+pub mod LinearQueue

@@ -2,8 +2,8 @@
 use Rattle.std.proofs.Common.{◌≡◌, ℕ, zero, suc, ◌+◌, ◌-◌, ◌<◌, Bool, true, false, List, [], ◌∷◌, ◌++◌, length, take, drop, get_or, refl, sym, ap, ◌∙◌, arith, append_assoc, inl, inr, length-drop, min}
 use Rattle.std.specs.Prelude.{reverse}
 use Rattle.std.specs.List.{AllByRecursion}
-use Rattle.std.proofs.lemmas.List.{reverse-append, length-append, length-take, length-reverse, length-map, get_or-reverse}
-use Rattle.std.proofs.Math.Seq.{take-append_seam, drop-append_seam}
+use Rattle.std.proofs.lemmas.List.{reverse-append, length-append, length-take, length-reverse, length-map, get_or-reverse, get_or-append-add}
+use Rattle.std.proofs.Math.Seq.{take-append_seam, drop-append_seam, get_or-append_seam}
 use Rattle.sgb_search.specs.Neighbours.{neighbours, IsOneOf, AreNeighbours, all_answered, questions_along, front_questions, back_questions, on_pairs}
 use Rattle.sgb_search.specs.Split.{IsAccepted, IsRefusedAcross}
 use Rattle.sgb_search.proofs.Each.{all_append, all_of_first, all_of_rest, all_each, all_take, all_drop, all_reverse, all_of_reverse, all_map, all_of_map}
@@ -95,6 +95,12 @@ module _ {A : Type 0} where
       at (x ∷ []) k l e f = absurd (omega arith)
       at (x ∷ y ∷ ys) zero l e f = rw (← e, ← f) refl
       at (x ∷ y ∷ ys) (suc k) l e f = at (y ∷ ys) k (omega arith) e f
+
+  pub pair_between : (xs seen rest : List A) (a b : A) → xs ≡ seen ++ a ∷ b ∷ rest → PairAt (neighbours xs) (length seen) (a, b)
+  pair_between xs seen rest a b e =
+      neighbours_at xs (length seen) a b (omega (arith, ap length e, length-append seen (a ∷ b ∷ rest)))
+      (sym (ap (λ l. get_or l (length seen) a) e ∙ get_or-append_seam seen a (b ∷ rest) a))
+      (sym (ap (λ l. get_or l (suc (length seen)) b) e ∙ ap (λ (n : ℕ). get_or (seen ++ a ∷ b ∷ rest) n b) {x = suc (length seen)} {y = length seen + 1} (omega arith) ∙ get_or-append-add seen (a ∷ b ∷ rest) 1 b))
 
   pub at_reverse : (qs : List (A × A)) (k j : ℕ) (q : A × A) → PairAt qs k q → k + j + 1 ≡ length qs → PairAt (reverse qs) j q
   at_reverse qs k j q h e = record {

@@ -1,12 +1,14 @@
 -- What judges may be asked, and what they answer. A question is a pair, the left element first.
-use Rattle.std.specs.Prelude.{◌≡◌, ◌+◌, Bool, List}
+use Rattle.std.specs.Prelude.{◌≡◌, ℕ, ◌+◌, Bool, List}
 use Rattle.std.specs.Borrow.{Bor}
-use Rattle.std.specs.Fn.{TakesAt, TakesAtTwo, CalledAt, CalledAtTwo, Mut}
+use Rattle.std.specs.Fn.{Takes, TakesAt, TakesAtTwo, Called, CalledAt, CalledAtTwo, AlwaysReturns, Mut}
 use Rattle.sgb_search.specs.Runs.{MayAskAll, AnswersBy}
 use Rattle.sgb_search.specs.Neighbours.{AreNeighbours, on_pairs}
 use Rattle.sgb_search.specs.declared.judge.Judge.{Ghosts}
 use Rattle.sgb_search.specs.declared.judge.PredicateJudge.{PredicateJudge}
 use Rattle.sgb_search.specs.declared.judge.KeyJudge.{KeyJudge}
+use Rattle.sgb_search.specs.declared.judge.CharPredicateJudge.{CharPredicateJudge}
+use Rattle.sgb_search.specs.declared.judge.CharKeyJudge.{CharKeyJudge}
 use Rattle.sgb_search.specs.declared.judge.EqualityJudge.{EqualityJudge}
 
 module _ {J T : Type 0} (g : Ghosts J T) where
@@ -28,20 +30,26 @@ by_predicate g = record {
 abbrev pub predicate_judge : {P : Type 0} → P → PredicateJudge P
 predicate_judge predicate = record { predicate = predicate }
 
+-- takes f x: the key function may be called at x; calls f x k f': that call may give k, and leaves f'
+module _ {F T K : Type 0} (takes : F → T → Type 0) (calls : F → T → K → F → Type 0) where
+  -- the two calls for the keys may be made, the second wherever the first leads
+  abbrev pub MayCompareKeys : F → T × T → Type 0
+  MayCompareKeys f q = takes f q.0 × ((k : K) (f' : F) → calls f q.0 k f' → takes f' q.1)
+
 -- a call for the key of the left element, then one for that of the right, and b is what eq says of the keys
-pub record ComparesKeys {F T K : Type 0} (g : Mut F (Bor T × Unit {0}) K) (eq : K → K → Bool) (f : F) (left right : T) (b : Bool) (f' : F) : Type 0 where
+pub record ComparesKeys {F T K : Type 0} (calls : F → T → K → F → Type 0) (eq : K → K → Bool) (f : F) (left right : T) (b : Bool) (f' : F) : Type 0 where
   pub between : F
   pub left_key : K
   pub right_key : K
-  pub first : CalledAt g f left left_key between
-  pub second : CalledAt g between right right_key f'
+  pub first : calls f left left_key between
+  pub second : calls between right right_key f'
   pub compared : b ≡ eq left_key right_key
 
--- by key: the two calls may be made, the second wherever the first leads
+-- by key: two calls, and the keys compared
 abbrev pub by_key : {F K T : Type 0} → Mut F (Bor T × Unit {0}) K → (K → K → Bool) → Ghosts (KeyJudge F K) T
-by_key {F} {K} g eq = record {
-  may_ask = λ j q. TakesAt g j.func q.0 × ((k : K) (f : F) → CalledAt g j.func q.0 k f → TakesAt g f q.1);
-  answers = λ j q b k. ComparesKeys g eq j.func q.0 q.1 b k.func;
+by_key g eq = record {
+  may_ask = λ j q. MayCompareKeys (TakesAt g) (CalledAt g) j.func q;
+  answers = λ j q b k. ComparesKeys (CalledAt g) eq j.func q.0 q.1 b k.func;
 }
 
 abbrev pub key_judge : {F K : Type 0} → F → KeyJudge F K
@@ -53,3 +61,37 @@ by_equality eq = record {
   may_ask = λ _ _. Unit {0};
   answers = λ j q b k. (b ≡ eq q.0 q.1) × (k.questions.asked ≡ j.questions.asked + 1);
 }
+
+-- Closures that take characters by value: a character is its code.
+
+-- a call at the character c
+abbrev pub CalledAtChar : {F K : Type 0} → Mut F (ℕ × Unit {0}) K → F → ℕ → K → F → Type 0
+CalledAtChar g f c k f' = Called g f (c, tt) k f'
+
+-- by predicate of two characters: one call
+abbrev pub by_char_predicate : {P : Type 0} → Mut P (ℕ × (ℕ × Unit {0})) Bool → Ghosts (CharPredicateJudge P) ℕ
+by_char_predicate g = record {
+  may_ask = λ j q. Takes g j.predicate (q.0, (q.1, tt));
+  answers = λ j q b k. Called g j.predicate (q.0, (q.1, tt)) b k.predicate;
+}
+
+abbrev pub char_predicate_judge : {P : Type 0} → P → CharPredicateJudge P
+char_predicate_judge predicate = record { predicate = predicate }
+
+-- by key of a character: two calls, and the keys compared
+abbrev pub by_char_key : {F K : Type 0} → Mut F (ℕ × Unit {0}) K → (K → K → Bool) → Ghosts (CharKeyJudge F K) ℕ
+by_char_key g eq = record {
+  may_ask = λ j q. MayCompareKeys (λ f c. Takes g f (c, tt)) (CalledAtChar g) j.func q;
+  answers = λ j q b k. ComparesKeys (CalledAtChar g) eq j.func q.0 q.1 b k.func;
+}
+
+abbrev pub char_key_judge : {F K : Type 0} → F → CharKeyJudge F K
+char_key_judge func = record { func = func; key = record {} }
+
+-- each call from f on, at two characters, answers what p gives
+abbrev pub ComputesOnChars : {P : Type 0} → Mut P (ℕ × (ℕ × Unit {0})) Bool → (ℕ → ℕ → Bool) → P → Type 0
+ComputesOnChars g p = AlwaysReturns g (λ a r. r ≡ p a.0 a.1.0)
+
+-- each call from f on, at a character, answers what key gives
+abbrev pub ComputesCharKey : {F K : Type 0} → Mut F (ℕ × Unit {0}) K → (ℕ → K) → F → Type 0
+ComputesCharKey g key = AlwaysReturns g (λ a r. r ≡ key a.0)

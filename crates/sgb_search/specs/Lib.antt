@@ -4,3 +4,4 @@ pub mod Ends
 pub mod Runs
 pub mod Judges
 pub mod Groups
+pub mod LinearCalls

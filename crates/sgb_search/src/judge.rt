@@ -61,6 +61,48 @@ impl<T, K: PartialEq + Drop, F: FnMut(&T) -> K> Judge<T> for KeyJudge<F, K> {
     }
 }
 
+/// Asks a predicate of two characters, by value: one call a question, on the left character and the right one.
+#[derive(Drop)]
+pub struct CharPredicateJudge<P> {
+    pub predicate: P,
+}
+
+impl<P: FnMut(char, char) -> bool> Judge<char> for CharPredicateJudge<P> {
+    ghost use Rattle.sgb_search.specs.Judges.{by_char_predicate};
+
+    ghost may_ask = { (by_char_predicate P.FnMut).may_ask };
+
+    ghost answers = { (by_char_predicate P.FnMut).answers };
+
+    #[inline]
+    fn ask(&mut self, left: &char, right: &char) -> bool {
+        (self.predicate)(*left, *right)
+    }
+}
+
+/// Asks for the keys of characters, by value: a call of the key function on the left character, then one on the right, then
+/// `==` of the two keys.
+#[derive(Drop)]
+pub struct CharKeyJudge<F, K> {
+    pub func: F,
+    pub key: PhantomData<K>,
+}
+
+impl<K: PartialEq + Drop, F: FnMut(char) -> K> Judge<char> for CharKeyJudge<F, K> {
+    ghost use Rattle.sgb_search.specs.Judges.{by_char_key};
+
+    ghost may_ask = { (by_char_key F.FnMut K.eq).may_ask };
+
+    ghost answers = { (by_char_key F.FnMut K.eq).answers };
+
+    #[inline]
+    fn ask(&mut self, left: &char, right: &char) -> bool {
+        let left_key = (self.func)(*left);
+        let right_key = (self.func)(*right);
+        left_key == right_key
+    }
+}
+
 /// Asks `==` of the elements. It may always be asked.
 ///
 /// It counts its questions for contracts alone, and takes no bytes. That a question is one `==`, and that no other is made,

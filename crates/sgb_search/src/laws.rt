@@ -3,7 +3,7 @@ ghost use Rattle.std.specs.Prelude.{◌≡◌, ℕ, ◌+◌, ◌-◌, ◌<◌, B
 ghost use Rattle.sgb_search.specs.Split.{IsSplit, split, refused_pairs};
 ghost use Rattle.sgb_search.specs.Neighbours.{neighbours, front_questions, back_questions};
 ghost use Rattle.sgb_search.specs.Runs.{IsRunOf};
-ghost use Rattle.sgb_search.specs.Judges.{MayAskAlong, AnswersAlong, by_predicate, predicate_judge, by_key, key_judge, by_equality};
+ghost use Rattle.sgb_search.specs.Judges.{MayAskAlong, AnswersAlong, by_predicate, predicate_judge, by_key, key_judge, by_char_predicate, char_predicate_judge, by_char_key, char_key_judge, by_equality};
 ghost use Rattle.sgb_search.specs.declared.judge.EqualityJudge.{EqualityJudge};
 
 /// Each list has exactly one split for a test. It has one piece more than the test refuses pairs, and none if it is
@@ -36,6 +36,18 @@ pub fn always_callable<T, P: FnMut(&T, &T) -> bool>()
 #[inline]
 pub fn always_callable_key<T, F: FnMut(&T) -> K, K: PartialEq + Drop>()
     ensures { (xs : List T) (func : F) → F.IsAlwaysCallable func → MayAskAlong (by_key F.FnMut K.eq) xs (key_judge func) }
+{}
+
+/// A predicate of characters that may always be called may be asked about the neighbouring characters of every text.
+#[inline]
+pub fn always_callable_chars<P: FnMut(char, char) -> bool>()
+    ensures { (cs : List ℕ) (predicate : P) → P.IsAlwaysCallable predicate → MayAskAlong (by_char_predicate P.FnMut) cs (char_predicate_judge predicate) }
+{}
+
+/// A key function of characters that may always be called may be asked about the neighbouring characters of every text.
+#[inline]
+pub fn always_callable_char_key<F: FnMut(char) -> K, K: PartialEq + Drop>()
+    ensures { (cs : List ℕ) (func : F) → F.IsAlwaysCallable func → MayAskAlong (by_char_key F.FnMut K.eq) cs (char_key_judge func) }
 {}
 
 /// Equality may be asked about every slice, answers what `==` says, and counts: in every state of its judge.

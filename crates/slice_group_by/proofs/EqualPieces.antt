@@ -4,8 +4,8 @@ use Rattle.sgb_search.specs.declared.judge.EqualityJudge.{EqualityJudge}
 use Rattle.sgb_search.specs.Judges.{by_equality}
 use Rattle.sgb_search.specs.Split.{split}
 use Rattle.sgb_search.proofs.Equality.{equality_settled}
-use Rattle.sgb_linear_group.specs.Linear.{IsFrontGroup, IsBackGroup}
-use Rattle.sgb_linear_group.proofs.Queue.{front_piece, back_piece}
+use Rattle.sgb_search.specs.LinearCalls.{IsFrontGroup, IsBackGroup}
+use Rattle.sgb_search.proofs.LinearQueue.{front_piece, back_piece}
 use Rattle.slice_group_by.proofs.Chains.{first_and_others, others_and_last}
 
 -- a group from the front is the first piece of the split, and the split of the rest is the others

@@ -8,10 +8,11 @@ use Rattle.sgb_search.specs.Runs.{IsRunOf}
 use Rattle.sgb_search.specs.Neighbours.{neighbours}
 use Rattle.sgb_search.specs.Groups.{Groups}
 use Rattle.sgb_search.proofs.Pairs.{length-neighbours}
-use Rattle.sgb_linear_group.specs.Linear.{GivesFront, GivesBack, AsksEachOnce}
+use Rattle.sgb_search.specs.LinearCalls.{AsksEachOnce}
+use Rattle.sgb_linear_group.specs.Linear.{GivesFront, GivesBack}
 use Rattle.sgb_linear_group.specs.LinearMut.{seen, GivesFrontMut, GivesBackMut}
 use Rattle.sgb_loans.specs.GroupsMut.{GroupsMut}
-use Rattle.sgb_linear_group.proofs.PairsAsked.{asks_none, asks_more, count_asked, front_asks_once, back_asks_once}
+use Rattle.sgb_search.proofs.LinearPairs.{asks_none, asks_more, count_asked, front_asks_once, back_asks_once}
 use Rattle.slice_group_by.specs.declared.queue.End.{End}
 use Rattle.slice_group_by.specs.Walk.{IsChain}
 use Rattle.slice_group_by.specs.Queue.{at_end}

@@ -7,7 +7,10 @@ pub use Rattle.sgb_search.specs.Ends
 pub use Rattle.sgb_search.specs.Runs
 pub use Rattle.sgb_search.specs.Judges
 pub use Rattle.sgb_search.specs.Groups
+pub use Rattle.sgb_search.specs.LinearCalls
 pub use Rattle.sgb_linear_group.specs.Linear
 pub use Rattle.sgb_linear_group.specs.LinearMut
+pub use Rattle.sgb_linear_str_group.specs.Texts
+pub use Rattle.sgb_linear_str_group.specs.TextsMut
 pub use Rattle.sgb_loans.specs.GroupsMut
 pub use Rattle.sgb_loans.specs.Links

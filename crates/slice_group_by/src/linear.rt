@@ -9,8 +9,9 @@ impl<'a, T, J: Judge<T> + Drop> GroupQueue for LinearGroups<'a, T, J> {
     ghost use Rattle.std.specs.Prelude.{length, true, option_copied};
     ghost use Rattle.sgb_search.specs.Neighbours.{neighbours};
     ghost use Rattle.sgb_search.specs.Runs.{IsRunOf};
-    ghost use Rattle.sgb_linear_group.specs.Linear.{IsCallable, IsSettled, GivesFront, GivesBack};
-    ghost use Rattle.sgb_linear_group.proofs.Queue as laws;
+    ghost use Rattle.sgb_search.specs.LinearCalls.{IsCallable, IsSettled};
+    ghost use Rattle.sgb_linear_group.specs.Linear.{GivesFront, GivesBack};
+    ghost use Rattle.sgb_search.proofs.LinearQueue as laws;
     ghost use Rattle.slice_group_by.specs.Queue.{at_end, each_end};
 
     ghost Element = { T };

@@ -2,7 +2,7 @@
 ghost use Rattle.std.specs.Prelude.{◌≡◌, Bool, List};
 ghost use Rattle.std.specs.Fn.{ComputesOnPairs, ComputesKey};
 ghost use Rattle.sgb_search.specs.Judges.{by_predicate, predicate_judge, by_key, key_judge, by_equality};
-ghost use Rattle.sgb_linear_group.specs.Linear.{IsCallable, IsSettled};
+ghost use Rattle.sgb_search.specs.LinearCalls.{IsCallable, IsSettled};
 ghost use Rattle.sgb_linear_group.specs.LinearMut.{IsCallableMut, IsSettledMut};
 ghost use Rattle.sgb_loans.specs.GroupsMut.{NothingOut};
 

@@ -7,7 +7,7 @@ use Rattle.sgb_search.specs.Groups.{Groups}
 use Rattle.sgb_search.proofs.Runs.{answers_after}
 use Rattle.sgb_search.proofs.Pairs.{front_about, back_about, front_says, back_says, neighbours_of_first, neighbours_of_rest}
 use Rattle.sgb_search.proofs.Splits.{takes_first, takes_last}
-use Rattle.sgb_linear_group.specs.Linear.{IsSettled, IsFrontGroup, IsBackGroup, FrontCall, BackCall}
+use Rattle.sgb_search.specs.LinearCalls.{IsSettled, IsFrontGroup, IsBackGroup, FrontCall, BackCall}
 
 module _ {T J : Type 0} (g : Ghosts J T) (p : T → T → Bool) where
   first_taken : (s : Groups T J) (group : List T) (t : Groups T J) → IsSettled g s p → IsFrontGroup g s group t → TakesFirst p s.remainder (Some group) t.remainder

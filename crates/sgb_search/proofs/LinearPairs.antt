@@ -9,7 +9,7 @@ use Rattle.sgb_search.specs.Neighbours.{neighbours, all_answered, questions_alon
 use Rattle.sgb_search.specs.Groups.{Groups}
 use Rattle.sgb_search.proofs.Runs.{run_append}
 use Rattle.sgb_search.proofs.Pairs.{across, neighbours-append, length-neighbours}
-use Rattle.sgb_linear_group.specs.Linear.{FrontCall, BackCall, AsksEachOnce}
+use Rattle.sgb_search.specs.LinearCalls.{FrontCall, BackCall, AsksEachOnce}
 
 module _ {A : Type 0} where
   -- what was asked about

@@ -7,9 +7,9 @@ use Rattle.sgb_search.specs.Ends.{CutsFront, CutsBack}
 use Rattle.sgb_search.specs.Split.{TakesFirst, TakesLast}
 use Rattle.sgb_search.specs.Groups.{Groups}
 use Rattle.sgb_search.proofs.Runs.{run_of_none, run_of_more}
-use Rattle.sgb_linear_group.specs.Linear.{IsSettled, FrontCall, BackCall, AsksEachOnce}
-use Rattle.sgb_linear_group.proofs.Pieces.{front_gives_piece, back_gives_piece}
-use Rattle.sgb_linear_group.proofs.PairsAsked.{front_asks_once, back_asks_once, count_asked}
+use Rattle.sgb_search.specs.LinearCalls.{IsSettled, FrontCall, BackCall, AsksEachOnce}
+use Rattle.sgb_search.proofs.LinearPieces.{front_gives_piece, back_gives_piece}
+use Rattle.sgb_search.proofs.LinearPairs.{front_asks_once, back_asks_once, count_asked}
 
 module _ {T J : Type 0} (g : Ghosts J T) where
   some : (xs : List T) → 0 < length xs → xs ≡ [] → ⊥

@@ -1,0 +1,4 @@
+pub mod Characters
+pub mod Scanned
+pub mod Cuts
+pub mod Queue

@@ -1,0 +1,227 @@
+//! Linear groups of a text's bytes for writing, over any judge of characters.
+ghost use Rattle.std.specs.Prelude.{◌≡◌, ℕ, Bool, true, false, [], ◌∷◌, ◌++◌, drop, length, nat_eq};
+ghost use Rattle.std.specs.Str.{IsUtf8};
+ghost use Rattle.sgb_loans.specs.GroupsMut.{NothingOut};
+ghost use Rattle.sgb_linear_str_group.specs.TextsMut.{TextGroupsMut, text_groups_mut_left};
+
+use crate::scan::{back_start, front_end};
+use sgb_loans::loans::{Ended, Loans};
+use sgb_search::judge::Judge;
+use std::iter::FusedIterator;
+use std::marker::Model;
+use std::mem;
+
+/// An iterator over the groups of a text's bytes for writing, from both ends, that asks its judge about neighbouring
+/// characters.
+///
+/// It asks what `LinearStrGroups` asks, and gives the bytes of the same groups. A group is UTF-8 when it is handed out; any
+/// bytes may be written into it then, and what remains is UTF-8 all the same.
+///
+/// Contracts also see which parts of the input are out (`loans`): take note of each group in the order in which the groups
+/// came, by `note_front` and `note_back`, and then `finish` says what the whole input ends as. These calls ask nothing and
+/// run no code but moves.
+#[derive(Drop)]
+pub struct LinearStrGroupsMut<'a, J> {
+    bytes: &'a mut [u8],
+    judge: J,
+    loans: Loans<u8>,
+}
+
+impl<'a, J> Model for LinearStrGroupsMut<'a, J> {
+    ghost use Rattle.std.specs.Prelude.{◌≡◌};
+    ghost use Rattle.std.specs.Str.{IsUtf8};
+    ghost use Rattle.sgb_linear_str_group.specs.TextsMut.{TextGroupsMut};
+
+    ghost Value = { TextGroupsMut J };
+
+    ghost view = { λ s. record { text = s.bytes.now; judge = s.judge; loans = s.loans } };
+
+    ghost invariant = { λ s. record { utf8 : IsUtf8 s.bytes.now; rest : s.loans.rest ≡ s.bytes.ghost_name } };
+}
+
+// Bytes that are known to be UTF-8, as a text.
+#[inline]
+fn text_of(bytes: &[u8]) -> &str
+    requires { IsUtf8 bytes.now }
+    ensures { result.now ≡ bytes.now }
+{
+    // `from_utf8` would read all that remains at each call, and so a walk would take quadratic time. The condition of
+    // `from_utf8_unchecked` is this function's own, which each of its callers is proved to meet.
+    unsafe { std::str::from_utf8_unchecked(bytes) }
+}
+
+impl<'a, J> LinearStrGroupsMut<'a, J> {
+    // All groups of the bytes are still to come.
+    #[inline]
+    pub(crate) fn over(bytes: &'a mut [u8], judge: J) -> Self
+        requires { IsUtf8 bytes.old }
+        ensures text { result.text ≡ bytes.old }
+        ensures judge { result.judge ≡ judge }
+        ensures loans { NothingOut bytes.entry.ghost_name result.loans }
+    {
+        let (bytes, loans) = Loans::open(bytes);
+        LinearStrGroupsMut {
+            bytes,
+            judge,
+            loans,
+        }
+    }
+
+    /// The characters that no call has handed out yet.
+    #[inline]
+    pub fn as_str(&self) -> &str
+        ensures { result.now ≡ self.now.text }
+    {
+        text_of(self.bytes)
+    }
+
+    /// How many bytes no call has handed out yet.
+    #[inline]
+    pub fn remainder_len(&self) -> usize
+        ensures { result ≡ length self.now.text }
+    {
+        self.bytes.len()
+    }
+
+    /// Whether all characters are handed out.
+    #[inline]
+    pub fn is_empty(&self) -> bool
+        ensures { result ≡ nat_eq (length self.now.text) 0 }
+    {
+        self.remainder_len() == 0
+    }
+}
+
+impl<'a, J: Judge<char>> LinearStrGroupsMut<'a, J> {
+    ghost use Rattle.sgb_linear_str_group.specs.TextsMut.{IsCallableTextMut, GivesFrontTextMut, GivesBackTextMut};
+
+    #[inline]
+    fn take_front(&mut self) -> Option<&'a mut [u8]>
+        requires { IsCallableTextMut J.Judge self.old }
+        ensures gives { GivesFrontTextMut J.Judge self.old result self.new }
+        ensures callable { IsCallableTextMut J.Judge self.new }
+    {
+        if self.bytes.len() == 0 {
+            return None;
+        }
+        let all = mem::take(&mut self.bytes);
+        let end = front_end(text_of(all), &mut self.judge);
+        let (group, rest) = self.loans.cut_front(all, end);
+        self.bytes = rest;
+        Some(group)
+    }
+
+    #[inline]
+    fn take_back(&mut self) -> Option<&'a mut [u8]>
+        requires { IsCallableTextMut J.Judge self.old }
+        ensures gives { GivesBackTextMut J.Judge self.old result self.new }
+        ensures callable { IsCallableTextMut J.Judge self.new }
+    {
+        if self.bytes.len() == 0 {
+            return None;
+        }
+        let all = mem::take(&mut self.bytes);
+        let start = back_start(text_of(all), &mut self.judge);
+        let (rest, group) = self.loans.cut_back(all, start);
+        self.bytes = rest;
+        Some(group)
+    }
+}
+
+impl<'a, J: Drop> LinearStrGroupsMut<'a, J> {
+    /// Takes note of how the oldest group that is out was left, which came off at the front.
+    #[inline]
+    pub fn note_front(&mut self, group: Ended<'_, u8>)
+        requires { self.old.loans.cuts ≡ (true, group.name) ∷ drop 1 self.old.loans.cuts }
+        ensures text { self.new.text ≡ self.old.text }
+        ensures judge { self.new.judge ≡ self.old.judge }
+        ensures root { self.new.loans.root ≡ self.old.loans.root }
+        ensures before { self.new.loans.before ≡ self.old.loans.before ++ group.entry.value }
+        ensures after { self.new.loans.after ≡ self.old.loans.after }
+        ensures cuts { self.new.loans.cuts ≡ drop 1 self.old.loans.cuts }
+    {
+        self.loans.note_front(group);
+    }
+
+    /// Takes note of how the oldest group that is out was left, which came off at the back.
+    #[inline]
+    pub fn note_back(&mut self, group: Ended<'_, u8>)
+        requires { self.old.loans.cuts ≡ (false, group.name) ∷ drop 1 self.old.loans.cuts }
+        ensures text { self.new.text ≡ self.old.text }
+        ensures judge { self.new.judge ≡ self.old.judge }
+        ensures root { self.new.loans.root ≡ self.old.loans.root }
+        ensures before { self.new.loans.before ≡ self.old.loans.before }
+        ensures after { self.new.loans.after ≡ group.entry.value ++ self.old.loans.after }
+        ensures cuts { self.new.loans.cuts ≡ drop 1 self.old.loans.cuts }
+    {
+        self.loans.note_back(group);
+    }
+
+    /// No group is out: what remains stays as it is, and so the whole input is known.
+    #[inline]
+    pub fn finish(self) -> Ended<'a, u8>
+        requires { self.loans.cuts ≡ [] }
+        ensures name { result.name ≡ self.entry.loans.root }
+        ensures value { result.value ≡ self.entry.loans.before ++ (self.entry.text ++ self.entry.loans.after) }
+    {
+        let LinearStrGroupsMut {
+            bytes,
+            judge: _,
+            loans,
+        } = self;
+        loans.close(Ended::of(bytes))
+    }
+}
+
+impl<'a, J: Judge<char> + Drop> Iterator for LinearStrGroupsMut<'a, J> {
+    type Item = &'a mut [u8];
+
+    ghost use Rattle.sgb_linear_str_group.specs.TextsMut.{IsCallableTextMut, GivesFrontTextMut};
+
+    ghost can_next = { IsCallableTextMut J.Judge };
+
+    ghost next_gives = { GivesFrontTextMut J.Judge };
+
+    ghost remaining = { text_groups_mut_left };
+
+    /// The bytes of the first group of the remainder, or `None` where nothing remains. For a group of g characters it asks g
+    /// questions, or g - 1 where nothing remains after it.
+    #[inline]
+    fn next(&mut self) -> Option<&'a mut [u8]> {
+        self.take_front()
+    }
+}
+
+impl<'a, J: Judge<char> + Drop> DoubleEndedIterator for LinearStrGroupsMut<'a, J> {
+    ghost use Rattle.sgb_linear_str_group.specs.TextsMut.{IsCallableTextMut, GivesBackTextMut};
+
+    ghost can_next_back = { IsCallableTextMut J.Judge };
+
+    ghost next_back_gives = { GivesBackTextMut J.Judge };
+
+    /// The bytes of the last group of the remainder, or `None` where nothing remains. For a group of g characters it asks g
+    /// questions, or g - 1 where nothing remains before it.
+    #[inline]
+    fn next_back(&mut self) -> Option<&'a mut [u8]> {
+        self.take_back()
+    }
+}
+
+impl<'a, J: Judge<char> + Drop> FusedIterator for LinearStrGroupsMut<'a, J> {}
+
+impl<'a, J: Judge<char> + Drop> LinearStrGroupsMut<'a, J> {
+    ghost use Rattle.sgb_linear_str_group.specs.TextsMut.{IsCallableTextMut, GivesBackTextMut};
+
+    /// The bytes of the last group of the remainder, or `None` where nothing remains: what `next_back` gives, by its
+    /// questions. The iterator is given up. `Iterator::last` walks all groups from the front.
+    ///
+    /// What the input ends as cannot be known from it, since the loans are given up too: where that is wanted, call
+    /// `next_back`, take note of the group, and `finish`.
+    #[inline]
+    pub fn last(mut self) -> Option<&'a mut [u8]>
+        requires { IsCallableTextMut J.Judge self }
+        ensures { (t : TextGroupsMut J) × GivesBackTextMut J.Judge self.entry result t }
+    {
+        self.next_back()
+    }
+}

@@ -1,0 +1,55 @@
+//! Linear groups of a text by a key, as bytes for writing.
+ghost use Rattle.std.specs.Prelude.{◌≡◌, ℕ};
+ghost use Rattle.std.specs.Str.{IsUtf8};
+ghost use Rattle.sgb_search.specs.Judges.{by_char_key, char_key_judge, ComputesCharKey};
+ghost use Rattle.sgb_loans.specs.GroupsMut.{NothingOut};
+
+use crate::groups_mut::LinearStrGroupsMut;
+use sgb_search::judge::CharKeyJudge;
+use std::marker::PhantomData;
+
+/// An iterator over the groups of a text's bytes by a key for writing: a question is a call of the key function on the left
+/// character, then one on the right, then `==` of the keys, of the characters as they are when the call is made.
+///
+/// ```
+/// let mut bytes = *b"ab12";
+/// let mut groups = LinearStrGroupByKeyMut::new(&mut bytes, |c| c.is_ascii_digit());
+/// if let Some(group) = groups.next() {
+///     group.make_ascii_uppercase(); // bytes is b"AB12"
+/// }
+/// ```
+pub type LinearStrGroupByKeyMut<'a, F, K> = LinearStrGroupsMut<'a, CharKeyJudge<F, K>>;
+
+impl<'a, K: PartialEq + Drop, F: FnMut(char) -> K> LinearStrGroupsMut<'a, CharKeyJudge<F, K>> {
+    ghost use Rattle.sgb_linear_str_group.specs.Texts.{IsCallableText};
+    ghost use Rattle.sgb_linear_str_group.specs.TextsMut.{IsCallableTextMut, IsSettledTextMut};
+
+    /// All groups of the bytes by the key, which are still to come. Nothing is asked yet, and nothing is out.
+    ///
+    /// The bytes have to be UTF-8, which `std::str::from_utf8` tests; the bytes of a literal or of a text are. It requires of
+    /// the key function what `LinearStrGroupByKey::new` requires, of the characters as they are now.
+    #[inline]
+    pub fn new(bytes: &'a mut [u8], func: F) -> Self
+        requires utf8 { IsUtf8 bytes.old }
+        requires callable { IsCallableText (by_char_key F.FnMut K.eq) (record { text = bytes.old; judge = char_key_judge func }) }
+        ensures text { result.text ≡ bytes.old }
+        ensures judge { result.judge ≡ char_key_judge func }
+        ensures callable { IsCallableTextMut (by_char_key F.FnMut K.eq) result }
+        ensures settled { (key : ℕ → K) → ComputesCharKey F.FnMut key func → IsSettledTextMut (by_char_key F.FnMut K.eq) result (λ x y. K.eq (key x) (key y)) }
+        ensures loans { NothingOut bytes.entry.ghost_name result.loans }
+    {
+        LinearStrGroupsMut::over(
+            bytes,
+            CharKeyJudge {
+                func,
+                key: PhantomData,
+            },
+        )
+    }
+}
+
+// The loans and the key's type take no bytes.
+const _: () = prove!(
+    size_of::<LinearStrGroupByKeyMut<'static, (u64, u8), [u8; 9]>>()
+        == size_of::<(&mut [u8], (u64, u8))>()
+);

@@ -1,0 +1,41 @@
+//! Linear groups of equal characters, as bytes for writing.
+ghost use Rattle.std.specs.Prelude.{◌≡◌, nat_eq};
+ghost use Rattle.std.specs.Str.{IsUtf8};
+ghost use Rattle.sgb_search.specs.Judges.{by_equality};
+ghost use Rattle.sgb_loans.specs.GroupsMut.{NothingOut};
+
+use crate::groups_mut::LinearStrGroupsMut;
+use sgb_search::judge::EqualityJudge;
+
+/// An iterator over the groups of equal characters of a text's bytes for writing, by `==` of neighbours.
+///
+/// ```
+/// let mut bytes = *b"aab";
+/// let mut groups = LinearStrGroupMut::new(&mut bytes);
+/// if let Some(group) = groups.next() {
+///     group.fill(b'-'); // bytes is b"--b"
+/// }
+/// ```
+pub type LinearStrGroupMut<'a> = LinearStrGroupsMut<'a, EqualityJudge>;
+
+impl<'a> LinearStrGroupsMut<'a, EqualityJudge> {
+    ghost use Rattle.sgb_linear_str_group.specs.TextsMut.{IsCallableTextMut, IsSettledTextMut};
+
+    /// All groups of equal characters of the bytes, which are still to come. Nothing is asked yet, and nothing is out.
+    ///
+    /// The bytes have to be UTF-8, which `std::str::from_utf8` tests; the bytes of a literal or of a text are.
+    #[inline]
+    pub fn new(bytes: &'a mut [u8]) -> Self
+        requires { IsUtf8 bytes.old }
+        ensures text { result.text ≡ bytes.old }
+        ensures asked { result.judge.questions.asked ≡ 0 }
+        ensures callable { IsCallableTextMut (by_equality nat_eq) result }
+        ensures settled { IsSettledTextMut (by_equality nat_eq) result nat_eq }
+        ensures loans { NothingOut bytes.entry.ghost_name result.loans }
+    {
+        LinearStrGroupsMut::over(bytes, EqualityJudge::new())
+    }
+}
+
+// The loans take no bytes, and neither does the judge.
+const _: () = prove!(size_of::<LinearStrGroupMut<'static>>() == size_of::<&mut [u8]>());
