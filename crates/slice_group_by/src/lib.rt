@@ -20,6 +20,7 @@ mod linear_str_mut;
 pub mod loans;
 mod queue;
 mod ranks;
+mod str_traits;
 #[cfg(test)]
 mod tests;
 mod traits;
@@ -38,4 +39,5 @@ pub use sgb_linear_str_group::linear_str_group_by_key::LinearStrGroupByKey;
 pub use sgb_linear_str_group::linear_str_group_by_key_mut::LinearStrGroupByKeyMut;
 pub use sgb_linear_str_group::linear_str_group_by_mut::LinearStrGroupByMut;
 pub use sgb_linear_str_group::linear_str_group_mut::LinearStrGroupMut;
+pub use str_traits::{StrGroupBy, StrGroupByMut};
 pub use traits::{GroupBy, GroupByMut};

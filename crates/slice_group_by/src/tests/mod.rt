@@ -5,6 +5,7 @@ mod linear;
 mod linear_by;
 mod linear_mut;
 mod loops;
+mod strs;
 mod users;
 mod walks;
 mod writers;
