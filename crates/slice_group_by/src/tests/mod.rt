@@ -6,6 +6,7 @@ mod linear_by;
 mod linear_mut;
 mod loops;
 mod strs;
+mod strs_mut;
 mod users;
 mod walks;
 mod writers;

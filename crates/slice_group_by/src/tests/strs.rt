@@ -176,3 +176,37 @@ fn questions_of_a_walk(rt: HostRuntime) {
     assert_eq!(rt; out[4], None);
     assert_eq!(rt; questions, 14);
 }
+
+fn call<'a>(groups: &mut LinearStrGroup<'a>, back: bool) -> Option<&'a str> {
+    if back {
+        groups.next_back()
+    } else {
+        groups.next()
+    }
+}
+
+// Characters of one, two, three and four bytes.
+#[test]
+fn every_order_of_four_calls(rt: HostRuntime) {
+    let orders = [
+        ([false, false, false], ["a", "éé", "饰", "𝄞𝄞"]),
+        ([true, false, false], ["𝄞𝄞", "a", "éé", "饰"]),
+        ([false, true, false], ["a", "𝄞𝄞", "éé", "饰"]),
+        ([true, true, false], ["𝄞𝄞", "饰", "a", "éé"]),
+        ([false, false, true], ["a", "éé", "𝄞𝄞", "饰"]),
+        ([true, false, true], ["𝄞𝄞", "a", "饰", "éé"]),
+        ([false, true, true], ["a", "𝄞𝄞", "饰", "éé"]),
+        ([true, true, true], ["𝄞𝄞", "饰", "éé", "a"]),
+    ];
+    for ([back_1, back_2, back_3], wanted) in orders {
+        // The fourth call takes what is left, from either end.
+        for back_4 in [false, true] {
+            let mut groups = LinearStrGroup::new("aéé饰𝄞𝄞");
+            assert_eq!(rt; call(&mut groups, back_1), Some(wanted[0]));
+            assert_eq!(rt; call(&mut groups, back_2), Some(wanted[1]));
+            assert_eq!(rt; call(&mut groups, back_3), Some(wanted[2]));
+            assert_eq!(rt; call(&mut groups, back_4), Some(wanted[3]));
+            assert_eq!(rt; groups.next(), None);
+        }
+    }
+}

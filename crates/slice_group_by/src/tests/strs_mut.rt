@@ -1,0 +1,257 @@
+//! Groups of a text's bytes for writing, case by case.
+use crate::{End, LinearStrGroupByKeyMut, LinearStrGroupByMut, LinearStrGroupMut, StrGroupByMut, walk};
+use std::slice::from_mut;
+use std::test::Fail;
+
+fn holds(group: Option<&mut [u8]>, wanted: &str) -> bool {
+    match group {
+        Some(group) => *group == *wanted.as_bytes(),
+        None => false,
+    }
+}
+
+#[test]
+fn str_mut_easy(rt: HostRuntime) {
+    let mut bytes = *b"aaaabbbbbaacccc";
+    let mut groups = LinearStrGroupMut::new(&mut bytes);
+    assert!(rt; holds(groups.next(), "aaaa"));
+    assert!(rt; holds(groups.next(), "bbbbb"));
+    assert!(rt; holds(groups.next(), "aa"));
+    assert!(rt; holds(groups.next(), "cccc"));
+    assert!(rt; groups.next().is_none());
+}
+
+#[test]
+fn str_mut_rev_easy(rt: HostRuntime) {
+    let mut bytes = *b"aaaabbbbbaacccc";
+    let mut groups = LinearStrGroupMut::new(&mut bytes);
+    assert!(rt; holds(groups.next_back(), "cccc"));
+    assert!(rt; holds(groups.next_back(), "aa"));
+    assert!(rt; holds(groups.next_back(), "bbbbb"));
+    assert!(rt; holds(groups.next_back(), "aaaa"));
+    assert!(rt; groups.next_back().is_none());
+}
+
+#[test]
+fn remainder_stays_text(rt: HostRuntime) -> Result<(), Fail> {
+    let mut bytes = [0x61, 0xC3, 0xA9, 0xC3, 0xA9];
+    std::str::from_utf8(&bytes)?;
+    let mut groups = LinearStrGroupMut::new(&mut bytes);
+    let first = groups.next();
+    assert_eq!(rt; groups.as_str(), "éé");
+    assert_eq!(rt; groups.remainder_len(), 4);
+    if let Some(first) = first {
+        assert_eq!(rt; &*first, b"a".as_slice());
+        first[0] = 0xFF;
+    }
+    assert!(rt; holds(groups.next(), "éé"));
+    assert!(rt; groups.next().is_none());
+    assert_eq!(rt; bytes, [0xFF, 0xC3, 0xA9, 0xC3, 0xA9]);
+    Ok(())
+}
+
+#[test]
+fn by_key_from_both_ends(rt: HostRuntime) -> Result<(), Fail> {
+    let mut array = [0x61, 0x62, 0x31, 0x32, 0xC3, 0xA9];
+    std::str::from_utf8(&array)?;
+    let mut bytes: &mut [u8] = &mut array;
+    let mut groups = bytes.linear_group_by_key_mut(|c| c >= '0' && c <= '9');
+    assert!(rt; holds(groups.next(), "ab"));
+    assert_eq!(rt; groups.as_str(), "12é");
+    assert_eq!(rt; groups.remainder_len(), 4);
+    assert!(rt; holds(groups.next_back(), "é"));
+    assert!(rt; holds(groups.next(), "12"));
+    assert!(rt; groups.next_back().is_none());
+    assert!(rt; groups.is_empty());
+    Ok(())
+}
+
+// A test that is not symmetric has the same groups from both ends.
+#[test]
+fn ascending_from_both_ends(rt: HostRuntime) {
+    let mut bytes = *b"abcab";
+    let mut groups = LinearStrGroupByMut::new(&mut bytes, |a, b| a < b);
+    assert!(rt; holds(groups.next(), "abc"));
+    assert!(rt; holds(groups.next(), "ab"));
+    assert!(rt; groups.next().is_none());
+    let mut array = *b"abcab";
+    let mut bytes: &mut [u8] = &mut array;
+    let mut groups = bytes.linear_group_by_mut(|a, b| a < b);
+    assert!(rt; holds(groups.next_back(), "ab"));
+    assert!(rt; holds(groups.next_back(), "abc"));
+    assert!(rt; groups.next_back().is_none());
+}
+
+#[test]
+fn any_bytes_may_be_written(rt: HostRuntime) -> Result<(), Fail> {
+    let mut bytes = [0xC3, 0xA9, 0x61, 0xC3, 0xA9];
+    std::str::from_utf8(&bytes)?;
+    let mut groups = LinearStrGroupMut::new(&mut bytes);
+    let first = groups.next();
+    let last = groups.next_back();
+    if let Some(first) = first {
+        assert_eq!(rt; &*first, [0xC3, 0xA9].as_slice());
+        first.fill(0x80);
+    }
+    if let Some(last) = last {
+        assert_eq!(rt; &*last, [0xC3, 0xA9].as_slice());
+        last.fill(0x80);
+    }
+    assert_eq!(rt; groups.as_str(), "a");
+    assert_eq!(rt; groups.remainder_len(), 1);
+    assert!(rt; holds(groups.next(), "a"));
+    assert!(rt; groups.next().is_none());
+    assert_eq!(rt; bytes, [0x80, 0x80, 0x61, 0x80, 0x80]);
+    Ok(())
+}
+
+#[test]
+fn size_hint_and_last(rt: HostRuntime) {
+    let mut array = *b"aab";
+    let mut bytes: &mut [u8] = &mut array;
+    let groups = StrGroupByMut::linear_group_mut(&mut bytes);
+    assert_eq!(rt; groups.size_hint(), (0, None));
+    assert!(rt; holds(groups.last(), "b"));
+    let mut none: [u8; 0] = [];
+    assert!(rt; LinearStrGroupMut::new(&mut none).last().is_none());
+}
+
+// A predicate that refuses its second question alone, which no function of two characters does.
+#[test]
+fn walks_with_a_changing_predicate(rt: HostRuntime) {
+    let mut bytes = *b"wxyz";
+    let mut questions = 0usize;
+    let mut groups = LinearStrGroupByMut::new(&mut bytes, |_a, _b| {
+        questions = questions.wrapping_add(1);
+        questions != 2
+    });
+    let mut last: Option<&mut [u8]> = None;
+    let mut first: Option<&mut [u8]> = None;
+    let mut none: Option<&mut [u8]> = None;
+    walk(&mut groups, &[End::Back], from_mut(&mut last));
+    walk(&mut groups, &[End::Front], from_mut(&mut first));
+    walk(&mut groups, &[End::Back], from_mut(&mut none));
+    assert!(rt; holds(last, "yz"));
+    assert!(rt; holds(first, "wx"));
+    assert!(rt; none.is_none());
+    assert_eq!(rt; questions, 3);
+}
+
+// Bytes from outside are tested before groups of them are made: by `match`, and by `is_ok`.
+fn first_len(bytes: &mut [u8]) -> Option<usize> {
+    match std::str::from_utf8(bytes) {
+        Ok(_) => {
+            let mut groups = LinearStrGroupMut::new(bytes);
+            let first = groups.next()?;
+            Some(first.len())
+        }
+        Err(_) => None,
+    }
+}
+
+fn last_len(bytes: &mut [u8]) -> usize {
+    if std::str::from_utf8(bytes).is_ok() {
+        let groups = LinearStrGroupByKeyMut::new(bytes, |c| c);
+        if let Some(last) = groups.last() {
+            return last.len();
+        }
+    }
+    0
+}
+
+// The bytes of a text that the caller holds are its own.
+fn first_len_of(text: String) -> usize {
+    if text.as_str().is_empty() {
+        return 0;
+    }
+    let mut bytes = text.into_bytes();
+    let mut groups = LinearStrGroupMut::new(&mut bytes);
+    match groups.next() {
+        Some(first) => first.len(),
+        None => 0,
+    }
+}
+
+fn first_len_in(text: &str, buffer: &mut [u8]) -> usize {
+    let text = text.as_bytes();
+    if buffer.len() != text.len() {
+        return 0;
+    }
+    buffer.copy_from_slice(text);
+    let mut groups = LinearStrGroupMut::new(buffer);
+    match groups.next() {
+        Some(first) => first.len(),
+        None => 0,
+    }
+}
+
+#[test]
+fn tested_bytes(rt: HostRuntime) -> Result<(), Fail> {
+    assert_eq!(rt; first_len(&mut [0xC3, 0xA9, 0x61]), Some(2));
+    assert_eq!(rt; first_len(&mut [0xC3, 0x61]), None);
+    assert_eq!(rt; first_len(&mut []), None);
+    assert_eq!(rt; last_len(&mut [0x61, 0xC3, 0xA9]), 2);
+    assert_eq!(rt; last_len(&mut [0xA9]), 0);
+    let mut buffer = [0u8; 3];
+    assert_eq!(rt; first_len_in("aab", &mut buffer), 2);
+    let text = format!(in rt.alloc(); "aab")?;
+    assert_eq!(rt; first_len_of(text), 2);
+    Ok(())
+}
+
+fn call<'a>(groups: &mut LinearStrGroupMut<'a>, back: bool) -> Option<&'a mut [u8]> {
+    if back {
+        groups.next_back()
+    } else {
+        groups.next()
+    }
+}
+
+fn fill(group: Option<&mut [u8]>, with: u8) {
+    if let Some(group) = group {
+        group.fill(with);
+    }
+}
+
+// Characters of one, two, three and four bytes: makes four calls, keeps all the groups, and then fills each with the number
+// of its call.
+fn filled_in_order(backs: [bool; 4]) -> [u8; 16] {
+    let mut bytes = *b"a\xC3\xA9\xC3\xA9\xE9\xA5\xB0\xF0\x9D\x84\x9E\xF0\x9D\x84\x9E";
+    if std::str::from_utf8(&bytes).is_err() {
+        return bytes;
+    }
+    let mut groups = LinearStrGroupMut::new(&mut bytes);
+    let [back_1, back_2, back_3, back_4] = backs;
+    let first = call(&mut groups, back_1);
+    let second = call(&mut groups, back_2);
+    let third = call(&mut groups, back_3);
+    let fourth = call(&mut groups, back_4);
+    fill(fourth, 4);
+    fill(second, 2);
+    fill(third, 3);
+    fill(first, 1);
+    bytes
+}
+
+#[test]
+fn every_order_of_four_calls(rt: HostRuntime) {
+    let orders = [
+        ([false, false, false], [1, 2, 3, 4]),
+        ([true, false, false], [2, 3, 4, 1]),
+        ([false, true, false], [1, 3, 4, 2]),
+        ([true, true, false], [3, 4, 2, 1]),
+        ([false, false, true], [1, 2, 4, 3]),
+        ([true, false, true], [2, 4, 3, 1]),
+        ([false, true, true], [1, 4, 3, 2]),
+        ([true, true, true], [4, 3, 2, 1]),
+    ];
+    for ([back_1, back_2, back_3], [a, b, c, d]) in orders {
+        // The fourth call takes what is left, from either end.
+        for back_4 in [false, true] {
+            assert_eq!(rt;
+                filled_in_order([back_1, back_2, back_3, back_4]),
+                [a, b, b, b, b, c, c, c, d, d, d, d, d, d, d, d]
+            );
+        }
+    }
+}
