@@ -1,5 +1,5 @@
 -- The laws of a queue for groups of a text, at each end: those of what it shows by characters.
-use Rattle.std.proofs.Common.{◌≡◌, ℕ, Bool, true, List, length, Option, None, Some, refl, ap, ◌∙◌, subst}
+use Rattle.std.proofs.Common.{◌≡◌, ℕ, Bool, true, List, length, Option, None, Some, refl, ap, ◌∙◌, subst, arith}
 use Rattle.std.specs.Prelude.{option_map}
 use Rattle.std.specs.Str.{chars}
 use Rattle.std.proofs.lemmas.Str.{chars-nil}
@@ -44,6 +44,15 @@ module _ {J : Type 0} (g : Ghosts J ℕ) where
     back_part s r t h =
         subst (λ o. CutsBack (chars (seen s).text) o (chars (seen t).text)) (shown r)
         (list.back_part g (in_characters (seen s)) (option_map chars (option_map bytes r)) (in_characters (seen t)) (back_call (seen s) (seen t) (option_map bytes r) h))
+
+    -- and by bytes
+    pub front_bytes : (s : Q) (r : Option I) (t : Q) → FrontTextCall g (seen s) (option_map bytes r) (seen t) → CutsFront (seen s).text (option_map bytes r) (seen t).text
+    front_bytes s None t h = (h.0, ap (λ u. u.text) h.1 ∙ h.0)
+    front_bytes s (Some x) t h = (λ e. omega (arith, h.nonempty, ap length e), h.cut)
+
+    pub back_bytes : (s : Q) (r : Option I) (t : Q) → BackTextCall g (seen s) (option_map bytes r) (seen t) → CutsBack (seen s).text (option_map bytes r) (seen t).text
+    back_bytes s None t h = (h.0, ap (λ u. u.text) h.1 ∙ h.0)
+    back_bytes s (Some x) t h = (λ e. omega (arith, h.nonempty, ap length e), h.cut)
 
     pub front_piece : (s : Q) (r : Option I) (t : Q) (p : ℕ → ℕ → Bool) → FrontTextCall g (seen s) (option_map bytes r) (seen t) → IsSettledText g (seen s) p
         → TakesFirst p (chars (seen s).text) (option_map (λ x. chars (bytes x)) r) (chars (seen t).text) × IsSettledText g (seen t) p

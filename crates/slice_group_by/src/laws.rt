@@ -9,6 +9,7 @@ ghost use Rattle.std.specs.Iterator.{Yields, Drains};
 ghost use Rattle.std.specs.Iterator.Adapters.{rev_source, rev_steps};
 ghost use Rattle.std.specs.declared.iter.Rev.{Rev};
 ghost use Rattle.std.proofs.lemmas.Iterator.{YieldsList};
+ghost use Rattle.std.specs.Str.{chars};
 ghost use Rattle.sgb_search.specs.Ends.{first, last, without_first, without_last};
 ghost use Rattle.sgb_search.specs.Split.{joined, IsAccepted, split};
 ghost use Rattle.sgb_search.specs.Runs.{IsRunOf, AsksWithin};
@@ -19,6 +20,8 @@ ghost use Rattle.sgb_search.specs.LinearCalls.{AsksEachOnce};
 ghost use Rattle.sgb_linear_group.specs.Linear.{GivesFront, GivesBack};
 ghost use Rattle.sgb_linear_group.specs.LinearMut.{seen, GivesFrontMut, GivesBackMut};
 ghost use Rattle.sgb_loans.specs.GroupsMut.{GroupsMut};
+ghost use Rattle.sgb_linear_str_group.specs.Texts.{TextGroups, in_characters, GivesFrontText, GivesBackText};
+ghost use Rattle.sgb_linear_str_group.specs.TextsMut.{TextGroupsMut, seen_text, GivesFrontTextMut, GivesBackTextMut};
 ghost use Rattle.slice_group_by.specs.Walk.{Partition, IsChain};
 ghost use Rattle.slice_group_by.specs.Queue.{at_end, answers, left};
 
@@ -26,9 +29,12 @@ use crate::queue::GroupQueue;
 pub use crate::ranks::rank_groups;
 use sgb_linear_group::groups::LinearGroups;
 use sgb_linear_group::groups_mut::LinearGroupsMut;
+use sgb_linear_str_group::groups::LinearStrGroups;
+use sgb_linear_str_group::groups_mut::LinearStrGroupsMut;
 use sgb_search::judge::Judge;
 pub use sgb_search::laws::{
-    always_callable, always_callable_key, equality_judges, one_split, question_count,
+    always_callable, always_callable_char_key, always_callable_chars, always_callable_key,
+    equality_judges, one_split, question_count,
 };
 
 /// One call on a queue that is settled for a test: it gives the outermost piece of the split of what remained, or `None`
@@ -137,4 +143,58 @@ pub fn each_pair_asked_once_mut<T, J: Judge<T>>(_groups: &LinearGroupsMut<'_, T,
     ensures whole { (s t : GroupsMut T J) (ends : List End) (out : List (Option (MutBor (List T))))
         → IsChain (at_end (GivesFrontMut J.Judge) (GivesBackMut J.Judge)) s ends out t → t.remainder ≡ []
         → IsRunOf J.may_ask J.answers (length s.remainder - 1) s.judge t.judge }
+{}
+
+/// The bytes of the groups of a text, joined, are what goes: of a list of calls at both ends, and of calls at one end, until nothing
+/// remains or not. What `groups_join` and `walk` say of characters, this says of bytes.
+#[inline]
+pub fn texts_join<J: Judge<char>>(_groups: &LinearStrGroups<'_, J>)
+    ensures calls { (s t : TextGroups J) (ends : List End) (out : List (Option (Bor (List ℕ))))
+        → IsChain (at_end (GivesFrontText J.Judge) (GivesBackText J.Judge)) s ends out t
+        → Partition ends (map (option_map (λ group. group.now)) out) t.text s.text }
+    ensures front { (s t : TextGroups J) (groups : List (Bor (List ℕ))) → Yields (GivesFrontText J.Judge) s groups t
+        → joined (map (λ group. group.now) groups) ++ t.text ≡ s.text }
+    ensures back { (s t : TextGroups J) (groups : List (Bor (List ℕ))) → Yields (GivesBackText J.Judge) s groups t
+        → t.text ++ joined (reverse (map (λ group. group.now) groups)) ≡ s.text }
+    ensures whole_front { (s : TextGroups J) (groups : List (Bor (List ℕ))) → Drains (GivesFrontText J.Judge) s groups
+        → joined (map (λ group. group.now) groups) ≡ s.text }
+    ensures whole_back { (s : TextGroups J) (groups : List (Bor (List ℕ))) → Drains (GivesBackText J.Judge) s groups
+        → joined (reverse (map (λ group. group.now) groups)) ≡ s.text }
+{}
+
+/// The same of the bytes of a text for writing.
+#[inline]
+pub fn texts_join_mut<J: Judge<char>>(_groups: &LinearStrGroupsMut<'_, J>)
+    ensures calls { (s t : TextGroupsMut J) (ends : List End) (out : List (Option (MutBor (List ℕ))))
+        → IsChain (at_end (GivesFrontTextMut J.Judge) (GivesBackTextMut J.Judge)) s ends out t
+        → Partition ends (map (option_map (λ group. group.now)) out) t.text s.text }
+    ensures front { (s t : TextGroupsMut J) (groups : List (MutBor (List ℕ))) → Yields (GivesFrontTextMut J.Judge) s groups t
+        → joined (map (λ group. group.now) groups) ++ t.text ≡ s.text }
+    ensures back { (s t : TextGroupsMut J) (groups : List (MutBor (List ℕ))) → Yields (GivesBackTextMut J.Judge) s groups t
+        → t.text ++ joined (reverse (map (λ group. group.now) groups)) ≡ s.text }
+    ensures whole_front { (s : TextGroupsMut J) (groups : List (MutBor (List ℕ))) → Drains (GivesFrontTextMut J.Judge) s groups
+        → joined (map (λ group. group.now) groups) ≡ s.text }
+    ensures whole_back { (s : TextGroupsMut J) (groups : List (MutBor (List ℕ))) → Drains (GivesBackTextMut J.Judge) s groups
+        → joined (reverse (map (λ group. group.now) groups)) ≡ s.text }
+{}
+
+/// A list of calls on a text asks about each pair of neighbouring characters that goes once, however the ends are mixed, and
+/// about no other.
+#[inline]
+pub fn each_char_pair_asked_once<J: Judge<char>>(_groups: &LinearStrGroups<'_, J>)
+    ensures pairs { (s t : TextGroups J) (ends : List End) (out : List (Option (Bor (List ℕ))))
+        → IsChain (at_end (GivesFrontText J.Judge) (GivesBackText J.Judge)) s ends out t → AsksEachOnce J.Judge (in_characters s) (in_characters t) }
+    ensures whole { (s t : TextGroups J) (ends : List End) (out : List (Option (Bor (List ℕ))))
+        → IsChain (at_end (GivesFrontText J.Judge) (GivesBackText J.Judge)) s ends out t → t.text ≡ []
+        → IsRunOf J.may_ask J.answers (length (chars s.text) - 1) s.judge t.judge }
+{}
+
+/// The same of the bytes of a text for writing.
+#[inline]
+pub fn each_char_pair_asked_once_mut<J: Judge<char>>(_groups: &LinearStrGroupsMut<'_, J>)
+    ensures pairs { (s t : TextGroupsMut J) (ends : List End) (out : List (Option (MutBor (List ℕ))))
+        → IsChain (at_end (GivesFrontTextMut J.Judge) (GivesBackTextMut J.Judge)) s ends out t → AsksEachOnce J.Judge (in_characters (seen_text s)) (in_characters (seen_text t)) }
+    ensures whole { (s t : TextGroupsMut J) (ends : List End) (out : List (Option (MutBor (List ℕ))))
+        → IsChain (at_end (GivesFrontTextMut J.Judge) (GivesBackTextMut J.Judge)) s ends out t → t.text ≡ []
+        → IsRunOf J.may_ask J.answers (length (chars s.text) - 1) s.judge t.judge }
 {}
