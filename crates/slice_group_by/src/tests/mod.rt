@@ -7,6 +7,7 @@ mod linear_mut;
 mod loops;
 mod strs;
 mod strs_mut;
+mod tokens;
 mod users;
 mod walks;
 mod writers;
