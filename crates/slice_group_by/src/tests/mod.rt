@@ -1,4 +1,5 @@
 //! What no contract says, and users' functions over the public contracts.
+mod capitals;
 mod closures;
 mod counted;
 mod linear;
