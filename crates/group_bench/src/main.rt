@@ -3,7 +3,9 @@
 //! It takes no arguments and reads nothing. The status is 0 exactly if every row gave what is wanted.
 #![tactic(auto)]
 
+mod lines;
 mod rows;
+mod texts;
 
 use std::process::ExitCode;
 

@@ -1,6 +1,9 @@
-//! The rows: the calls of each, the answers that are wanted, and the questions that may be asked.
+//! The rows: the calls of each, the answers that are wanted, and the questions that may be asked. Those over texts stand in
+//! `texts`.
 ghost use Rattle.std.specs.Prelude.{◌<ℤ◌};
 
+use crate::lines::{differs, write_answers, write_groups};
+use crate::texts::{row_9, row_10, row_16};
 use slice_group_by::{
     End, GroupBy, LinearGroup, LinearGroupBy, LinearGroupByKeyMut, rank_groups, walk,
 };
@@ -15,8 +18,11 @@ pub fn run<W: Write>(out: &mut W) -> Result<bool, Error> {
     same &= row_1(out)?;
     same &= row_2(out)?;
     same &= row_3(out)?;
+    same &= row_9(out)?;
+    same &= row_10(out)?;
     same &= row_13(out)?;
     same &= row_14(out)?;
+    same &= row_16(out)?;
     same &= row_17(out)?;
     Ok(same)
 }
@@ -146,78 +152,35 @@ fn row_17<W: Write>(out: &mut W) -> Result<bool, Error> {
     write_groups(out, 17, &answers, &ROW_17, questions == 4)
 }
 
-// Writes the line of a row whose answers are groups; `counted` says whether it asked as often as is wanted.
-fn write_groups<W: Write>(
-    out: &mut W,
-    row: u32,
-    answers: &[Option<&[i32]>],
-    wanted: &[Option<&[i32]>],
-    counted: bool,
-) -> Result<bool, Error> {
-    if answers != wanted || !counted {
-        return differs(out, row);
-    }
-    write!(out, "row {row}:")?;
-    write_answers(out, answers)?;
-    Ok(true)
-}
-
-fn differs<W: Write>(out: &mut W, row: u32) -> Result<bool, Error> {
-    writeln!(out, "row {row}: differs")?;
-    Ok(false)
-}
-
-// Writes what the calls gave, and ends the line.
-fn write_answers<W: Write>(out: &mut W, answers: &[Option<&[i32]>]) -> Result<(), Error> {
-    for answer in answers {
-        match answer {
-            Some(group) => write!(out, " {group:?}")?,
-            None => write!(out, " None")?,
-        }
-    }
-    writeln!(out)
-}
-
 #[cfg(test)]
 mod tests {
     use super::*;
 
-    const LINES: &[u8] = b"row 1: [1, 1, 1] [3, 3] [2, 2, 2] None\n\
+    const LINES: &str = "row 1: [1, 1, 1] [3, 3] [2, 2, 2] None\n\
 row 2: [1, 1, 1] [2, 2, 2] [3, 3] None None\n\
 row 3: [1, 2, 3] [2, 3] None\n\
+row 9: aaaa bbbbb 饰饰 cccc None\n\
+row 10: ab\n\
 row 13: [7, 8] [9, 10] None\n\
 row 14: [0, 0, 1, 1, 1, 2] [1] [2, 4] [5, 7] [8, 8] None\n\
+row 16: [97] éé 4 [195, 169, 195, 169] None\n\
 row 17: [1, 2, 3, 4, 5] None\n";
 
     #[test]
     fn writes_the_lines(rt: HostRuntime) {
-        let mut bytes = [0u8; 226];
+        let mut bytes = [0u8; 318];
         assert_eq!(rt; bytes.len(), LINES.len());
         let mut rest: &mut [u8] = &mut bytes;
         assert!(rt; matches!(run(&mut rest), Ok(true)));
-        assert_eq!(rt; bytes.as_slice(), LINES);
+        assert_eq!(rt; bytes.as_slice(), LINES.as_bytes());
     }
 
     #[test]
     fn ends_at_a_fault_of_the_writer(rt: HostRuntime) {
-        for room in 0..226 {
-            let mut bytes = [0u8; 226];
+        for room in 0..318 {
+            let mut bytes = [0u8; 318];
             let mut rest: &mut [u8] = &mut bytes[..room];
             assert!(rt; run(&mut rest).is_err(), "with room for {room} bytes");
         }
-    }
-
-    #[test]
-    fn says_which_row_differs(rt: HostRuntime) {
-        let mut bytes = [0u8; 41];
-        let mut rest: &mut [u8] = &mut bytes;
-        let group: [Group; 1] = [Some(&[1])];
-        assert!(rt; matches!(write_groups(&mut rest, 7, &[None], &group, true), Ok(false)));
-        assert!(rt; matches!(write_groups(&mut rest, 8, &group, &group, false), Ok(false)));
-        assert!(rt; matches!(write_groups(&mut rest, 9, &group, &group, true), Ok(true)));
-        assert_eq!(rt;
-            bytes.as_slice(),
-            b"row 7: differs\nrow 8: differs\nrow 9: [1]\n".as_slice()
-        );
     }
 }

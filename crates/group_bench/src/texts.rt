@@ -1,0 +1,66 @@
+//! The rows over texts.
+use crate::lines::{differs, write_texts};
+use slice_group_by::{LinearStrGroupBy, LinearStrGroupMut, StrGroupBy};
+use std::cell::Cell;
+use std::io::{Error, Write};
+
+type Text = Option<&'static str>;
+
+const ROW_9: [Text; 5] = [Some("aaaa"), Some("bbbbb"), Some("饰饰"), Some("cccc"), None];
+
+// Groups of a text by a predicate, with the bytes that remain before each call and after the last.
+pub(crate) fn row_9<W: Write>(out: &mut W) -> Result<bool, Error> {
+    let text = "aaaabbbbb饰饰cccc";
+    let questions = Cell::new(0usize);
+    let mut groups = text.linear_group_by(|a, b| {
+        questions.set(questions.get().wrapping_add(1));
+        a == b
+    });
+    let before_1 = groups.remainder_len();
+    let first = groups.next();
+    let before_2 = groups.remainder_len();
+    let second = groups.next();
+    let before_3 = groups.remainder_len();
+    let third = groups.next();
+    let before_4 = groups.remainder_len();
+    let fourth = groups.next();
+    let after = groups.remainder_len();
+    let answers = [first, second, third, fourth, groups.next()];
+    let remained = [before_1, before_2, before_3, before_4, after] == [19, 15, 10, 4, 0];
+    write_texts(out, 9, &answers, &ROW_9, remained && questions.get() == 14)
+}
+
+const ROW_10: [Text; 1] = [Some("ab")];
+
+// Groups by a predicate that is not symmetric, from the back.
+pub(crate) fn row_10<W: Write>(out: &mut W) -> Result<bool, Error> {
+    let mut groups = LinearStrGroupBy::new("ab", |a, b| a < b);
+    write_texts(out, 10, &[groups.next_back()], &ROW_10, true)
+}
+
+const FIRST: [u8; 1] = [97];
+const REMAINDER: &str = "éé";
+const SECOND: [u8; 4] = [195, 169, 195, 169];
+const AFTERWARDS: [u8; 5] = [0xFF, 195, 169, 195, 169];
+
+// Groups of bytes for writing: what is written into a group leaves the remainder a text.
+pub(crate) fn row_16<W: Write>(out: &mut W) -> Result<bool, Error> {
+    let mut bytes = [0x61, 0xC3, 0xA9, 0xC3, 0xA9];
+    if std::str::from_utf8(&bytes).is_err() {
+        return differs(out, 16);
+    }
+    let mut groups = LinearStrGroupMut::new(&mut bytes);
+    let Some(first) = groups.next() else {
+        return differs(out, 16);
+    };
+    let first_same = &*first == FIRST.as_slice();
+    let remainder_same = groups.as_str() == REMAINDER && groups.remainder_len() == 4;
+    first[0] = 0xFF;
+    let second_same = groups.next().is_some_and(|second| &*second == SECOND.as_slice());
+    let third_same = groups.next().is_none();
+    if !first_same || !remainder_same || !second_same || !third_same || bytes != AFTERWARDS {
+        return differs(out, 16);
+    }
+    writeln!(out, "row 16: {FIRST:?} {REMAINDER} 4 {SECOND:?} None")?;
+    Ok(true)
+}
