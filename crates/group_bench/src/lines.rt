@@ -45,7 +45,10 @@ pub(crate) fn write_texts<W: Write>(
 }
 
 // Writes what the calls gave, and ends the line.
-pub(crate) fn write_answers<W: Write>(out: &mut W, answers: &[Option<&[i32]>]) -> Result<(), Error> {
+pub(crate) fn write_answers<W: Write>(
+    out: &mut W,
+    answers: &[Option<&[i32]>],
+) -> Result<(), Error> {
     for answer in answers {
         match answer {
             Some(group) => write!(out, " {group:?}")?,
@@ -77,9 +80,24 @@ mod tests {
     fn says_which_row_of_texts_differs(rt: HostRuntime) {
         let mut bytes = [0u8; 45];
         let mut rest: &mut [u8] = &mut bytes;
-        assert!(rt; matches!(write_texts(&mut rest, 7, &[None], &[Some("a")], true), Ok(false)));
-        assert!(rt; matches!(write_texts(&mut rest, 8, &[Some("a")], &[Some("a")], false), Ok(false)));
-        assert!(rt; matches!(write_texts(&mut rest, 9, &[Some("é"), None], &[Some("é"), None], true), Ok(true)));
+        assert!(rt;
+            matches!(
+                write_texts(&mut rest, 7, &[None], &[Some("a")], true),
+                Ok(false)
+            )
+        );
+        assert!(rt;
+            matches!(
+                write_texts(&mut rest, 8, &[Some("a")], &[Some("a")], false),
+                Ok(false)
+            )
+        );
+        assert!(rt;
+            matches!(
+                write_texts(&mut rest, 9, &[Some("é"), None], &[Some("é"), None], true),
+                Ok(true)
+            )
+        );
         assert_eq!(rt;
             bytes.as_slice(),
             "row 7: differs\nrow 8: differs\nrow 9: é None\n".as_bytes()

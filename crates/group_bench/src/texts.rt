@@ -39,28 +39,38 @@ pub(crate) fn row_10<W: Write>(out: &mut W) -> Result<bool, Error> {
 }
 
 const FIRST: [u8; 1] = [97];
+
 const REMAINDER: &str = "éé";
+
 const SECOND: [u8; 4] = [195, 169, 195, 169];
+
 const AFTERWARDS: [u8; 5] = [0xFF, 195, 169, 195, 169];
 
 // Groups of bytes for writing: what is written into a group leaves the remainder a text.
 pub(crate) fn row_16<W: Write>(out: &mut W) -> Result<bool, Error> {
     let mut bytes = [0x61, 0xC3, 0xA9, 0xC3, 0xA9];
-    if std::str::from_utf8(&bytes).is_err() {
-        return differs(out, 16);
-    }
-    let mut groups = LinearStrGroupMut::new(&mut bytes);
-    let Some(first) = groups.next() else {
-        return differs(out, 16);
-    };
-    let first_same = &*first == FIRST.as_slice();
-    let remainder_same = groups.as_str() == REMAINDER && groups.remainder_len() == 4;
-    first[0] = 0xFF;
-    let second_same = groups.next().is_some_and(|second| &*second == SECOND.as_slice());
-    let third_same = groups.next().is_none();
-    if !first_same || !remainder_same || !second_same || !third_same || bytes != AFTERWARDS {
+    if !gives_the_groups(&mut bytes) || bytes != AFTERWARDS {
         return differs(out, 16);
     }
     writeln!(out, "row 16: {FIRST:?} {REMAINDER} 4 {SECOND:?} None")?;
     Ok(true)
+}
+
+// Whether the groups of the bytes come as they are wanted. It writes over the first of them.
+fn gives_the_groups(bytes: &mut [u8]) -> bool {
+    if std::str::from_utf8(bytes).is_err() {
+        return false;
+    }
+    let mut groups = LinearStrGroupMut::new(bytes);
+    let Some(first) = groups.next() else {
+        return false;
+    };
+    if &*first != FIRST.as_slice() || groups.as_str() != REMAINDER || groups.remainder_len() != 4 {
+        return false;
+    }
+    first[0] = 0xFF;
+    let Some(second) = groups.next() else {
+        return false;
+    };
+    &*second == SECOND.as_slice() && groups.next().is_none()
 }

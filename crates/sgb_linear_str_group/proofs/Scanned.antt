@@ -1,5 +1,5 @@
 -- A scan of a text's characters, question by question.
-use Rattle.std.proofs.Common.{◌≡◌, ℕ, zero, suc, ◌+◌, ◌<◌, ◌≤◌, Bool, true, false, List, [], ◌∷◌, ◌++◌, length, take, drop, reverse, refl, sym, ap, ◌∙◌, subst, arith, append_assoc, length-append, take_all}
+use Rattle.std.proofs.Common.{◌≡◌, ℕ, zero, suc, ◌+◌, ◌<◌, Bool, true, false, List, [], ◌∷◌, ◌++◌, length, take, drop, reverse, refl, sym, ap, ◌∙◌, subst, arith, append_assoc, length-append, take_all}
 use Rattle.std.specs.Str.{chars, IsUtf8, IsCharBoundary}
 use Rattle.std.specs.Char.{encode_utf8, len_utf8}
 use Rattle.std.proofs.lemmas.Str.{chars-nil, length-encode, IsCharBoundary-start, IsCharBoundary-end}
@@ -50,8 +50,7 @@ module _ {J : Type 0} (g : Ghosts J ℕ) (text : List ℕ) (u : IsUtf8 text) (j 
   front_start place left rest callable e p =
       let start = IsCharBoundary-start text u in
       let n : 0 + len_utf8 left ≡ place = omega (arith, p, length-encode left) in
-      let r : rest ≡ drop place text = sym (rest_after text u 0 left rest start e) ∙ ap (λ (m : ℕ). drop m text) n in
-      (
+      let r : rest ≡ drop place text = sym (rest_after text u 0 left rest start e) ∙ ap (λ (m : ℕ). drop m text) n in (
         record {
           boundary = subst (IsCharBoundary text) n (boundary_after text u 0 left rest start e);
           seen = [];
@@ -76,8 +75,7 @@ module _ {J : Type 0} (g : Ghosts J ℕ) (text : List ℕ) (u : IsUtf8 text) (j 
       pub front_more : (m : J) → g.answers k (left, right) true m → (next : ℕ) → next ≡ place + length (encode_utf8 right) → FrontScanned g text j next right m × (rest ≡ drop next text)
       front_more m a next p =
           let n : place + len_utf8 right ≡ next = omega (arith, p, length-encode right) in
-          let r : rest ≡ drop next text = sym (rest_after text u place right rest s.boundary e) ∙ ap (λ (i : ℕ). drop i text) n in
-          (
+          let r : rest ≡ drop next text = sym (rest_after text u place right rest s.boundary e) ∙ ap (λ (i : ℕ). drop i text) n in (
             record {
               boundary = subst (IsCharBoundary text) n (boundary_after text u place right rest s.boundary e);
               seen = s.seen ++ left ∷ [];
@@ -109,8 +107,7 @@ module _ {J : Type 0} (g : Ghosts J ℕ) (text : List ℕ) (u : IsUtf8 text) (j 
       let all : take (length text) text ≡ text = take_all (length text) text (omega arith) in
       let f : take (length text) text ≡ rest ++ encode_utf8 right = all ∙ e in
       let n : length rest ≡ place = omega (arith, p) in
-      let r : rest ≡ take place text = sym (rest_before text u (length text) right rest end f) ∙ ap (λ (m : ℕ). take m text) n in
-      (
+      let r : rest ≡ take place text = sym (rest_before text u (length text) right rest end f) ∙ ap (λ (m : ℕ). take m text) n in (
         record {
           boundary = subst (IsCharBoundary text) n (boundary_before text u (length text) right rest end f);
           later = [];
@@ -140,8 +137,7 @@ module _ {J : Type 0} (g : Ghosts J ℕ) (text : List ℕ) (u : IsUtf8 text) (j 
       pub back_more : (m : J) → g.answers k (left, right) true m → (next : ℕ) → next ≡ 0 + length rest → BackScanned g text j next left m × (rest ≡ take next text)
       back_more m a next p =
           let n : length rest ≡ next = omega (arith, p) in
-          let r : rest ≡ take next text = sym (rest_before text u place left rest s.boundary e) ∙ ap (λ (i : ℕ). take i text) n in
-          (
+          let r : rest ≡ take next text = sym (rest_before text u place left rest s.boundary e) ∙ ap (λ (i : ℕ). take i text) n in (
             record {
               boundary = subst (IsCharBoundary text) n (boundary_before text u place left rest s.boundary e);
               later = right ∷ s.later;

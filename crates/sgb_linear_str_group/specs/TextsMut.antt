@@ -1,5 +1,5 @@
 -- What an iterator over groups of a text's bytes for writing shows, and what its calls give.
-use Rattle.std.specs.Prelude.{◌≡◌, ℕ, Bool, true, false, List, length, Option, MatchOption}
+use Rattle.std.specs.Prelude.{◌≡◌, ℕ, Bool, true, false, List, Option, MatchOption}
 use Rattle.std.specs.Option.{option_copied_mut}
 use Rattle.std.specs.Borrow.{MutBor}
 use Rattle.std.specs.Iterator.{Count}

@@ -18,14 +18,15 @@ pub(crate) fn front_end<J: Judge<char>>(text: &str, judge: &mut J) -> usize
     ensures callable { MayAskAlong J.Judge (chars text.now) judge.new }
 {
     let mut characters = text.char_indices();
-    let Some((_, mut left)) = characters.next() else {
+    let Some((_, mut last)) = characters.next() else {
         return 0;
     };
-    for (place, right) in characters {
-        if !judge.ask(&left, &right) {
+    for (place, next) in characters {
+        let together = judge.ask(&last, &next);
+        if !together {
             return place;
         }
-        left = right;
+        last = next;
     }
     text.len()
 }
@@ -41,15 +42,16 @@ pub(crate) fn back_start<J: Judge<char>>(text: &str, judge: &mut J) -> usize
     ensures callable { MayAskAlong J.Judge (chars text.now) judge.new }
 {
     let mut characters = text.char_indices();
-    let Some((mut start, mut right)) = characters.next_back() else {
+    let Some((mut start, mut first)) = characters.next_back() else {
         return 0;
     };
-    while let Some((place, left)) = characters.next_back() {
-        if !judge.ask(&left, &right) {
+    while let Some((place, previous)) = characters.next_back() {
+        let together = judge.ask(&previous, &first);
+        if !together {
             return start;
         }
         start = place;
-        right = left;
+        first = previous;
     }
     start
 }

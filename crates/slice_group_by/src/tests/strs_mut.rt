@@ -1,5 +1,7 @@
 //! Groups of a text's bytes for writing, case by case.
-use crate::{End, LinearStrGroupByKeyMut, LinearStrGroupByMut, LinearStrGroupMut, StrGroupByMut, walk};
+use crate::{
+    End, LinearStrGroupByKeyMut, LinearStrGroupByMut, LinearStrGroupMut, StrGroupByMut, walk,
+};
 use std::slice::from_mut;
 use std::test::Fail;
 

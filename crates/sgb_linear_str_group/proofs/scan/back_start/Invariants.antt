@@ -5,7 +5,7 @@ use Rattle.sgb_linear_str_group.proofs.scan.back_start.Given as goal
 
 abbrev pub invariant-loop-place : goal.invariant-loop-place
 invariant-loop-place g l =
-    BackScanned g.J.Judge l.text l.initial.judge l.start l.right l.judge
+    BackScanned g.J.Judge l.text l.initial.judge l.start l.first l.judge
     × (char_indices_rest l.characters ≡ take l.start l.text) × (char_indices_offset l.characters ≡ 0)
 
 abbrev pub decreases-loop-place : goal.decreases-loop-place

@@ -9,29 +9,29 @@ loop-place-init g c =
     let all = c.char_indices-characters.ensures in
     let first = c.in-Some.ensures.steps in
     rw c.into_iter-place-iterator.ensures.into_iter_gives
-    (front_start g.J.Judge _ c.utf8.text _ _ _ _ c.requires.callable (sym all.rest ∙ first.1) (first.2 ∙ ap (λ n. n + length (encode_utf8 c.in-Some.left)) all.offset))
+    (front_start g.J.Judge _ c.utf8.text _ _ _ _ c.requires.callable (sym all.rest ∙ first.1) (first.2 ∙ ap (λ n. n + length (encode_utf8 c.in-Some.last)) all.offset))
 
-pub ask-requires : goal.ask-requires
-ask-requires g c =
+pub ask-together-requires : goal.ask-together-requires
+ask-together-requires g c =
     let i = c.loop-place.invariant in
     may_ask_next g.J.Judge _ _ _ (front_near g.J.Judge _ c.utf8.text _ _ _ _ i.0 _ _ (sym i.1 ∙ c.in-Some-2.ensures.steps.1)) _ i.0.callable
 
-pub returns-then-not-ask-clause-asked : goal.returns-then-not-ask-clause-asked
-returns-then-not-ask-clause-asked g c =
+pub returns-then-not-together-clause-asked : goal.returns-then-not-together-clause-asked
+returns-then-not-together-clause-asked g c =
     let i = c.loop-place.invariant in
     let next = c.in-Some-2.ensures.steps in
-    rw next.0 (front_refused g.J.Judge _ c.utf8.text _ _ _ _ i.0 _ _ (sym i.1 ∙ next.1) _ c.if-not-ask.ensures)
+    rw next.0 (front_refused g.J.Judge _ c.utf8.text _ _ _ _ i.0 _ _ (sym i.1 ∙ next.1) _ c.if-not-together.ensures)
 
-pub returns-then-not-ask-clause-callable : goal.returns-then-not-ask-clause-callable
-returns-then-not-ask-clause-callable g c =
+pub returns-then-not-together-clause-callable : goal.returns-then-not-together-clause-callable
+returns-then-not-together-clause-callable g c =
     let i = c.loop-place.invariant in
-    callable_next g.J.Judge _ _ _ (front_near g.J.Judge _ c.utf8.text _ _ _ _ i.0 _ _ (sym i.1 ∙ c.in-Some-2.ensures.steps.1)) _ i.0.callable _ _ c.if-not-ask.ensures
+    callable_next g.J.Judge _ _ _ (front_near g.J.Judge _ c.utf8.text _ _ _ _ i.0 _ _ (sym i.1 ∙ c.in-Some-2.ensures.steps.1)) _ i.0.callable _ _ c.if-not-together.ensures
 
 pub loop-place-preserved : goal.loop-place-preserved
 loop-place-preserved g c =
     let i = c.loop-place.invariant in
     let next = c.in-Some-2.ensures.steps in
-    front_more g.J.Judge _ c.utf8.text _ _ _ _ i.0 _ _ (sym i.1 ∙ next.1) _ c.if-not-ask.ensures _ next.2
+    front_more g.J.Judge _ c.utf8.text _ _ _ _ i.0 _ _ (sym i.1 ∙ next.1) _ c.if-not-together.ensures _ next.2
 
 pub returns-clause-asked : goal.returns-clause-asked
 returns-clause-asked g c =

@@ -6,4 +6,4 @@ use Rattle.sgb_linear_str_group.proofs.scan.front_end.Given as goal
 abbrev pub invariant-loop-place : goal.invariant-loop-place
 invariant-loop-place g l =
     let place = char_indices_offset l.place-iterator in
-    FrontScanned g.J.Judge l.text l.initial.judge place l.left l.judge × (char_indices_rest l.place-iterator ≡ drop place l.text)
+    FrontScanned g.J.Judge l.text l.initial.judge place l.last l.judge × (char_indices_rest l.place-iterator ≡ drop place l.text)

@@ -19,8 +19,7 @@ invariant_of-self g c =
 pub returns-clause-gives : goal.returns-clause-gives
 returns-clause-gives g c =
     let start = c.back_start-start.ensures in
-    let cut = c.cut_back-rest.ensures in
-    (
+    let cut = c.cut_back-rest.ensures in (
       back_whole g.J.Judge _ _ _ (ap seen_text c.self.view_is) _ _ c.text_of.ensures (ap (λ (b : MutBor (List ℕ)). b.now) c.take-all.ensures.value) c.text_of.utf8 _ start.boundary _ _ cut.value cut.len _ start.before start.asked,
       rw (← c.self.view_is) (record { root = cut.root; before = cut.before; after = cut.after; cuts = cut.cuts }),
     )

@@ -1,4 +1,4 @@
-use Rattle.std.proofs.Common.{ℕ, ◌≡◌, ◌+◌, ◌/◌, ◌<◌, ◌≤◌, Bool, true, false, cond, List, [], ◌∷◌, ◌++◌, length, map, get_or, refl, sym, ap, ◌∙◌, arith, append_assoc}
+use Rattle.std.proofs.Common.{ℕ, ◌≡◌, ◌+◌, ◌/◌, ◌<◌, ◌≤◌, Bool, true, false, cond, List, [], ◌∷◌, ◌++◌, map, get_or, refl, sym, ap, ◌∙◌, arith, append_assoc}
 use mathlib.Core.Bool.{beq}
 use lib.Dec.{ltb}
 use lib.Utf8.{next}
@@ -87,7 +87,7 @@ loop-group-preserved g c =
     let settled = c.calls_take_pieces.ensures.settled same_kind Front c.loop-group.groups c.next.new.self c.next.result c.next.ensures.steps i.letters in
     let accepted = c.calls_take_pieces.ensures.accepted same_kind Front c.loop-group.groups c.next.new.self c.in-Some.group step i.letters in
     let written : c.if-is_ascii_alphabetic.group ≡ upper c.in-Some.group.now = elim c.if-is_ascii_alphabetic.branch [
-      then-is_ascii_alphabetic w ↦ w.group-is ∙ w.make_ascii_uppercase.ensures.after
+      | then-is_ascii_alphabetic w ↦ w.group-is ∙ w.make_ascii_uppercase.ensures.after
       | else-is_ascii_alphabetic w ↦ w.group-is ∙ sym (other_group c.in-Some.group.now step.0.group_utf8 (sym w.if-is_ascii_alphabetic.ensures.value) accepted)
     ] in
     record {

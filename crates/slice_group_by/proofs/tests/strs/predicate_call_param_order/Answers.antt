@@ -1,4 +1,4 @@
-use Rattle.std.proofs.Common.{ℕ, ◌≡◌, ◌<◌, List, [], ◌∷◌, refl, arith, inl, inr}
+use Rattle.std.proofs.Common.{ℕ, ◌≡◌, ◌<◌, [], ◌∷◌, refl, arith, inl, inr}
 use Rattle.std.specs.Str.{chars}
 use Rattle.slice_group_by.specs.Neighbours.{AreNeighbours}
 use Rattle.slice_group_by.proofs.tests.strs.predicate_call_param_order.Goals as goal

@@ -1,4 +1,4 @@
-use Rattle.std.proofs.Common.{rules, ℕ, ◌≡◌, Bool, true, false, cond, List, [], ◌∷◌, ◌++◌, Some, None, map, take, nat_eq, refl, sym, ap, ◌∙◌, subst, arith}
+use Rattle.std.proofs.Common.{rules, ℕ, ◌≡◌, Bool, cond, List, [], ◌∷◌, ◌++◌, None, map, take, nat_eq, refl, sym, ap, ◌∙◌, subst}
 use Rattle.std.specs.List.{AllByRecursion}
 use Rattle.std.specs.Str.{chars}
 use Rattle.std.specs.Char.{is_ascii_alphabetic, is_ascii_digit}
@@ -8,7 +8,7 @@ use Rattle.std.proofs.lemmas.Bool.{eqb-true, eqb-false}
 use Rattle.std.proofs.lemmas.Fn.{always_returns_same}
 use Rattle.std.proofs.lemmas.Iterator.Consumers.{YieldsList-end}
 use Rattle.slice_group_by.specs.Neighbours.{neighbours}
-use Rattle.slice_group_by.specs.Split.{joined, split, IsSplit, IsAccepted}
+use Rattle.slice_group_by.specs.Split.{joined, IsSplit, IsAccepted}
 use Rattle.slice_group_by.proofs.tests.tokens.tokens.Goals as goal
 
 abbrev class : ℕ → ℕ
