@@ -16,9 +16,9 @@ pub record TextGroups (J : Type 0) : Type 0 where
 abbrev pub in_characters : {J : Type 0} → TextGroups J → Groups ℕ J
 in_characters s = record { remainder = chars s.text; judge = s.judge }
 
--- no more groups come than characters remain
+-- no more groups come than bytes remain
 abbrev pub text_groups_left : {J : Type 0} → TextGroups J → Count
-text_groups_left s = at_most (length (chars s.text))
+text_groups_left s = at_most (length s.text)
 
 module _ {J : Type 0} (g : Ghosts J ℕ) where
   -- the judge may be asked about the neighbouring characters that remain, now and after any such questions

@@ -6,6 +6,7 @@ mod linear;
 mod linear_by;
 mod linear_mut;
 mod loops;
+mod str_users;
 mod strs;
 mod strs_mut;
 mod tokens;
