@@ -9,3 +9,9 @@ pub mod Closures
 pub mod LinearPieces
 pub mod LinearPairs
 pub mod LinearQueue
+pub mod Digits
+pub mod Halving
+pub mod Galloping
+pub mod Counting
+pub mod Readings
+pub mod Ascending

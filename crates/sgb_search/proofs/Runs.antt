@@ -51,3 +51,7 @@ module _ {S Q A : Type 0} (may : S → Q → Type 0) (gives : S → Q → A → 
       along s i (r ∷ rs) t run all =
           let k = step s r.0 r.1 run.1.0 i run.1.1 in
           (k.0, along run.1.0 k.1 rs t run.1.2 all.1)
+
+  -- the same where a question leaves the state as it is
+  pub answers_same : (allowed : Q → Type 0) (answer : Q → A) (s : S) → ((q : Q) (a : A) (t : S) → gives s q a t → (a ≡ answer q) × (t ≡ s)) → AnswersBy may gives allowed answer s
+  answers_same allowed answer s step = answers_by allowed answer (λ u. u ≡ s) (λ u q a t e k. step q a t (subst (λ (v : S). gives v q a t) e k)) s refl

@@ -5,3 +5,7 @@ pub mod Runs
 pub mod Judges
 pub mod Groups
 pub mod LinearCalls
+pub mod Digits
+pub mod Halving
+pub mod Galloping
+pub mod Search

@@ -6,6 +6,8 @@
 
 pub mod judge;
 pub mod laws;
+pub mod probe;
 pub mod questions;
+pub mod search;
 #[cfg(test)]
 mod tests;

@@ -1,0 +1,190 @@
+-- From a run over places to a run over elements.
+use Rattle.std.specs.Prelude.{◌≡◌, ℕ, ◌-◌, ◌<◌, ◌≤◌, List, [], ◌∷◌, ◌++◌, length, ◌⊎◌, refl, Result, Ok, Err, Some}
+use Rattle.std.specs.List.Sorted.{IsBinarySearchResult, IsNonDecreasingBy, IsPartitionPoint}
+use Rattle.std.specs.Ordering.{ordering_index}
+use Rattle.std.proofs.Common.{get_or, suc, sym, ap, subst, arith, ◌∙◌, inl, inr}
+use Rattle.std.specs.List.{AllByRecursion, Contains, slice_get}
+use Rattle.std.proofs.lemmas.Option.{slice_get_within, get_or_from_slice_get}
+use Rattle.std.specs.Fn.{Mut, TakesAt, CalledAt}
+use Rattle.std.specs.Borrow.{Bor}
+use Rattle.std.specs.declared.cmp.Ordering.{Ordering}
+use Rattle.std.specs.declared.cmp.Ordering.TheVariants.{Less, Equal, Greater}
+use Rattle.sgb_search.specs.Runs.{IsRun, MayAskAll, AnswersBy}
+use Rattle.sgb_search.specs.Halving.{MayProbe}
+use Rattle.sgb_search.specs.Galloping.{IsGalloped, GallopedBy, TwoAnswers, place_of}
+use Rattle.sgb_search.specs.Search.{AnswersAt, IsLocalAnswer, IsGap, FindsIn, IsLessEqualGreater, NeverDescends, MayCall, Computes, ComparesKey, EndsEqual, IsSearch}
+use Rattle.sgb_search.proofs.Each.{all_contains}
+use Rattle.sgb_search.proofs.Counting.{less_count}
+
+module _ {T : Type 0} (xs : List T) where
+  pub contains_at : (i : ℕ) (x : T) → slice_get xs i ≡ Some x → Contains xs x
+  contains_at i x e = (i, slice_get_within xs i x e, get_or_from_slice_get xs i x x e)
+
+  -- the records of qs are those of rs, with the elements in place of the places
+  abbrev pub IsRead : List (ℕ × Ordering) → List (T × Ordering) → Type 0
+  IsRead [] [] = Unit {0}
+  IsRead [] (q ∷ qs) = ⊥
+  IsRead (r ∷ rs) [] = ⊥
+  IsRead (r ∷ rs) (q ∷ qs) = (slice_get xs r.0 ≡ Some q.0) × (r.1 ≡ q.1) × IsRead rs qs
+
+  pub read_len : (rs : List (ℕ × Ordering)) (qs : List (T × Ordering)) → IsRead rs qs → length qs ≡ length rs
+  read_len [] [] h = refl
+  read_len [] (q ∷ qs) h = absurd h
+  read_len (r ∷ rs) [] h = absurd h
+  read_len (r ∷ rs) (q ∷ qs) h = ap suc (read_len rs qs h.2)
+
+  pub read_elements : (rs : List (ℕ × Ordering)) (qs : List (T × Ordering)) → IsRead rs qs → AllByRecursion (λ q. Contains xs q.0) qs
+  read_elements [] [] h = tt
+  read_elements [] (q ∷ qs) h = absurd h
+  read_elements (r ∷ rs) [] h = absurd h
+  read_elements (r ∷ rs) (q ∷ qs) h = (contains_at r.0 q.0 h.0, read_elements rs qs h.2)
+
+  -- an answer that was given at place i, of those that ord gives
+  pub read_answer : (ord : T → Ordering) (rs : List (ℕ × Ordering)) (qs : List (T × Ordering)) → IsRead rs qs → AllByRecursion (λ q. q.1 ≡ ord q.0) qs → AllByRecursion (λ r. AnswersAt ord xs r.0 r.1) rs
+  read_answer ord [] [] h k = tt
+  read_answer ord [] (q ∷ qs) h k = absurd h
+  read_answer ord (r ∷ rs) [] h k = absurd h
+  read_answer ord (r ∷ rs) (q ∷ qs) h k = ((q.0, h.0, sym k.0 ∙ sym h.1), read_answer ord rs qs h.2 k.1)
+
+  pub read_last : (front : List (ℕ × Ordering)) (i : ℕ) (o : Ordering) (qs : List (T × Ordering)) → IsRead (front ++ (i, o) ∷ []) qs
+      → (front' : List (T × Ordering)) × (x : T) × (slice_get xs i ≡ Some x) × (qs ≡ front' ++ (x, o) ∷ [])
+  read_last [] i o [] h = absurd h
+  read_last [] i o (q ∷ []) h = ([], q.0, h.0, ap (λ (p : Ordering). (q.0, p) ∷ []) (sym h.1))
+  read_last [] i o (q ∷ p ∷ qs) h = absurd h.2
+  read_last (r ∷ front) i o [] h = absurd h
+  read_last (r ∷ front) i o (q ∷ qs) h = let k = read_last front i o qs h.2 in (q ∷ k.0, k.1, k.2, ap (λ (l : List (T × Ordering)). q ∷ l) k.3)
+
+  pub one_answer : (ord : T → Ordering) (rs : List (ℕ × Ordering)) → AllByRecursion (λ r. AnswersAt ord xs r.0 r.1) rs → (i : ℕ) → TwoAnswers rs i → ⊥
+  one_answer ord rs h i t =
+      let a = all_contains _ rs (i, t.0) h t.2 in
+      let b = all_contains _ rs (i, t.1) h t.3 in
+      let same : a.0 ≡ b.0 = sym (get_or_from_slice_get xs i a.0 a.0 a.1) ∙ get_or_from_slice_get xs i b.0 a.0 b.1 in
+      t.4 (sym a.2 ∙ ap ord same ∙ b.2)
+
+-- where the answers rise, a local boundary is the place between the Less and the Greater
+module _ {T : Type 0} (ord : T → Ordering) (xs : List T) where
+  top : (o : Ordering) → 2 ≤ ordering_index o → o ≡ Greater
+  top Less h = absurd (omega arith)
+  top Equal h = absurd (omega arith)
+  top Greater h = refl
+
+  bottom : (o : Ordering) → ordering_index o ≤ 0 → o ≡ Less
+  bottom Less h = refl
+  bottom Equal h = absurd (omega arith)
+  bottom Greater h = absurd (omega arith)
+
+  answer_read : (i : ℕ) (o : Ordering) → AnswersAt ord xs i o → (d : T) → ord (get_or xs i d) ≡ o
+  answer_read i o a d = ap ord (get_or_from_slice_get xs i a.0 d a.1) ∙ a.2
+
+  pub region : (r : Result ℕ ℕ) → IsLocalAnswer ord xs r → IsBinarySearchResult ord xs r
+  region (Ok i) a = answer_read i Equal a
+  region (Err i) b = λ up. (λ k d l h. bottom _ (before up k d h b.0), λ k d l h. top _ (after up k d l h b.1))
+    where
+      before : IsNonDecreasingBy (λ y. ordering_index (ord y)) xs → (k : ℕ) (d : T) → k < i → (i ≡ 0) ⊎ ((0 < i) × AnswersAt ord xs (i - 1) Less) → ordering_index (ord (get_or xs k d)) ≤ 0
+      before up k d h (inl e) = absurd (omega arith)
+      before up k d h (inr a) =
+          let at : i - 1 < length xs = slice_get_within xs (i - 1) a.1.0 a.1.1 in
+          let e : ordering_index (ord (get_or xs (i - 1) d)) ≡ 0 = ap ordering_index (answer_read (i - 1) Less a.1 d) in
+          omega (arith, e, up k (i - 1) d (omega arith) at)
+
+      after : IsNonDecreasingBy (λ y. ordering_index (ord y)) xs → (k : ℕ) (d : T) → i ≤ k → k < length xs → (i ≡ length xs) ⊎ AnswersAt ord xs i Greater → 2 ≤ ordering_index (ord (get_or xs k d))
+      after up k d l h (inl e) = absurd (omega arith)
+      after up k d l h (inr a) =
+          let e : ordering_index (ord (get_or xs i d)) ≡ 2 = ap ordering_index (answer_read i Greater a d) in
+          omega (arith, e, up i k d l h)
+
+  no_later : (i : ℕ) → IsLocalAnswer ord xs (Err i) → i ≤ length xs
+  no_later i b = by b.1
+    where
+      by : (i ≡ length xs) ⊎ AnswersAt ord xs i Greater → i ≤ length xs
+      by (inl e) = omega arith
+      by (inr a) = omega (arith, slice_get_within xs i a.0 a.1)
+
+  equal_nowhere : (i j : ℕ) → AnswersAt ord xs j Equal → IsPartitionPoint (λ x. ord x ≡ Less) (λ x. ord x ≡ Greater) xs i → (j < i) ⊎ (i ≤ j) → ⊥
+  equal_nowhere i j a p (inl h) = let less : ord (get_or xs j a.0) ≡ Less = p.0 j a.0 (omega arith) h in let equal = answer_read j Equal a a.0 in cc (less, equal)
+  equal_nowhere i j a p (inr h) = let greater : ord (get_or xs j a.0) ≡ Greater = p.1 j a.0 h (slice_get_within xs j a.0 a.1) in let equal = answer_read j Equal a a.0 in cc (greater, equal)
+
+  pub finds : (r : Result ℕ ℕ) → IsLocalAnswer ord xs r → IsLessEqualGreater ord xs → FindsIn ord xs r
+  finds (Ok i) a up = a
+  finds (Err i) b up =
+      let p = region (Err i) b up in
+      record {
+        none = λ j a. equal_nowhere i j a p (Rattle.std.proofs.lemmas.Bool.cases_lt j i);
+        between = p;
+        place = less_count ord xs i (no_later i b) p;
+      }
+
+module _ {F T : Type 0} (may : F → T → Type 0) (gives : F → T → Ordering → F → Type 0) (xs : List T) where
+  abbrev pub may_at : F → ℕ → Type 0
+  may_at f i = (i < length xs) × ((x : T) → slice_get xs i ≡ Some x → may f x)
+
+  abbrev pub called_at : F → ℕ → Ordering → F → Type 0
+  called_at f i o h = (x : T) × (slice_get xs i ≡ Some x) × gives f x o h
+
+  pub read_run : (f : F) (rs : List (ℕ × Ordering)) (t : F) → IsRun may_at called_at f rs t → (qs : List (T × Ordering)) × IsRead xs rs qs × IsRun may gives f qs t
+  read_run f [] t h = ([], tt, h)
+  read_run f (r ∷ rs) t h =
+      let rest = read_run h.1.0 rs t h.1.2 in
+      let c = h.1.1 in
+      ((c.0, r.1) ∷ rest.0, (c.1, refl, rest.1), (h.0.1 c.0 c.1, (h.1.0, c.2, rest.2)))
+
+  pub may_places : (f : F) → MayAskAll may gives (Contains xs) f → MayProbe may_at called_at 0 (length xs) f
+  may_places f h rs t run all i b = (b.1, λ x e. let q = read_run f rs t run in h q.0 t q.2 (read_elements xs rs q.0 q.1) x (contains_at xs i x e))
+
+  answers : (ord : T → Ordering) (f : F) → AnswersBy may gives (Contains xs) ord f → (rs : List (ℕ × Ordering)) (t : F) → IsRun may_at called_at f rs t → AllByRecursion (λ r. AnswersAt ord xs r.0 r.1) rs
+  answers ord f h rs t run = let q = read_run f rs t run in read_answer xs ord rs q.0 q.1 (h.at q.0 t q.2 (read_elements xs rs q.0 q.1))
+
+  pub search_run : (f : F) (r : Result ℕ ℕ) (t : F) → IsGalloped may_at called_at (length xs) f r t → IsSearch may gives xs f r
+  search_run f r t (rs, h) = let q = read_run f rs t h.run in (
+    t,
+    q.0,
+    record {
+      run = q.2;
+      elements = read_elements xs rs q.0 q.1;
+      few = omega (arith, h.few, read_len xs rs q.0 q.1);
+      none = λ z. empty q.0 (omega (arith, h.none z, read_len xs rs q.0 q.1));
+      equal = last r q.0 h.place q.1;
+    },
+  )
+    where
+      empty : (qs : List (T × Ordering)) → length qs ≡ 0 → qs ≡ []
+      empty [] e = refl
+      empty (q ∷ qs) e = absurd (omega arith)
+
+      last : (r : Result ℕ ℕ) (qs : List (T × Ordering)) → Rattle.sgb_search.specs.Galloping.IsGallopPlace may_at called_at (length xs) rs r → IsRead xs rs qs → EndsEqual may gives xs qs r
+      last (Ok i) qs p read = read_last xs p.1.0 i Equal qs (subst (λ (l : List (ℕ × Ordering)). IsRead xs l qs) p.1.1 read)
+      last (Err i) qs p read = tt
+
+  pub search_boundary : (f : F) (r : Result ℕ ℕ) (t : F) → IsGalloped may_at called_at (length xs) f r t → (ord : T → Ordering) → AnswersBy may gives (Contains xs) ord f → IsLocalAnswer ord xs r
+  search_boundary f (Ok i) t (rs, h) ord by =
+      let all = answers ord f by rs t h.run in
+      let here = subst (λ (l : List (ℕ × Ordering)). Contains l (i, Equal)) (sym h.place.1.1) (Rattle.std.proofs.lemmas.List.Elements.Contains-push h.place.1.0 (i, Equal)) in
+      all_contains _ rs (i, Equal) all here
+  search_boundary f (Err i) t (rs, h) ord by =
+      let all = answers ord f by rs t h.run in (
+        elim h.place.1 as (λ _. (i ≡ 0) ⊎ ((0 < i) × AnswersAt ord xs (i - 1) Less)) [
+          | inl e ↦ inl e
+          | inr p ↦ elim p as (λ _. (i ≡ 0) ⊎ ((0 < i) × AnswersAt ord xs (i - 1) Less)) [ inl q ↦ inr (q.0, all_contains _ rs (i - 1, Less) all q.1) | inr q ↦ absurd (one_answer xs ord rs all i q) ]
+        ],
+        elim h.place.2 as (λ _. (i ≡ length xs) ⊎ AnswersAt ord xs i Greater) [
+          | inl e ↦ inl e
+          | inr p ↦ elim p as (λ _. (i ≡ length xs) ⊎ AnswersAt ord xs i Greater) [ inl q ↦ inr (all_contains _ rs (i, Greater) all q.1) | inr q ↦ absurd (one_answer xs ord rs all (i - 1) q.1) ]
+        ],
+      )
+
+-- a key function's run, seen as one of comparisons
+module _ {F T K : Type 0} (g : Mut F (Bor T × Unit {0}) K) (cmp : K → K → Ordering) (b : K) (xs : List T) where
+  key_run : (f : F) (qs : List (T × Ordering)) (t : F) → IsRun (TakesAt g) (ComparesKey g cmp b) f qs t → AllByRecursion (λ q. Contains xs q.0) qs
+      → (ks : List (T × K)) × IsRun (TakesAt g) (CalledAt g) f ks t × AllByRecursion (λ k. Contains xs k.0) ks
+      × ((key : T → K) → AllByRecursion (λ k. k.1 ≡ key k.0) ks → AllByRecursion (λ q. q.1 ≡ cmp (key q.0) b) qs)
+  key_run f [] t h all = ([], h, tt, λ key a. tt)
+  key_run f (q ∷ qs) t h all =
+      let rest = key_run h.1.0 qs t h.1.2 all.1 in
+      let c = h.1.1 in
+      ((q.0, c.0) ∷ rest.0, (h.0, (h.1.0, c.1, rest.1)), (all.0, rest.2), λ key a. (sym c.2 ∙ ap (λ (k : K). cmp k b) a.0, rest.3 key a.1))
+
+  pub key_may : (f : F) → MayCall g xs f → MayAskAll (TakesAt g) (ComparesKey g cmp b) (Contains xs) f
+  key_may f h qs t run all x at = let k = key_run f qs t run all in h k.0 t k.1 k.2 x at
+
+  pub key_answers : (f : F) (key : T → K) → Computes g xs key f → AnswersBy (TakesAt g) (ComparesKey g cmp b) (Contains xs) (λ x. cmp (key x) b) f
+  key_answers f key h = record { at = λ qs t run all. let k = key_run f qs t run all in k.3 key (h.at k.0 t k.1 k.2) }

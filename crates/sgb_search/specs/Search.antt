@@ -1,0 +1,81 @@
+-- What a search of a slice by a comparator gives, as the documentation of Rust's `binary_search_by` says of its own.
+--     IsLocalAnswer ord xs r     on any list, where ord x is what the comparator answers of x
+--     FindsIn ord xs r           on a list whose answers are Less, then Equal, then Greater
+--     IsSearch may gives xs f r  the questions, whatever is answered
+use Rattle.std.specs.Prelude.{◌≡◌, ℕ, ◌+◌, ◌-◌, ◌*◌, ◌<◌, ◌≤◌, List, [], ◌∷◌, ◌++◌, length, map, ◌⊎◌, ◌≢◌, Result, Ok, Err, Some, count_by}
+use Rattle.std.specs.List.{AllByRecursion, Contains, slice_get}
+use Rattle.std.specs.List.Sorted.{IsNonDecreasingBy, IsPartitionPoint}
+use Rattle.std.specs.Fn.{Mut, TakesAt, CalledAt}
+use Rattle.std.specs.Borrow.{Bor}
+use Rattle.std.specs.Ordering.{ordering_index, is_lt}
+use Rattle.std.specs.declared.cmp.Ordering.{Ordering}
+use Rattle.std.specs.declared.cmp.Ordering.TheVariants.{Less, Equal, Greater}
+use Rattle.sgb_search.specs.Digits.{digits}
+use Rattle.sgb_search.specs.Galloping.{place_of}
+use Rattle.sgb_search.specs.Neighbours.{neighbours}
+use Rattle.sgb_search.specs.Runs.{IsRun, MayAskAll, AnswersBy}
+
+module _ {T : Type 0} (ord : T → Ordering) (xs : List T) where
+  -- the element at place i is answered o
+  abbrev pub AnswersAt : ℕ → Ordering → Type 0
+  AnswersAt i o = (x : T) × (slice_get xs i ≡ Some x) × (ord x ≡ o)
+
+  -- nothing stands before i, or Less does; and nothing from i on, or Greater does there
+  abbrev pub IsLocalBoundary : ℕ → Type 0
+  IsLocalBoundary i = ((i ≡ 0) ⊎ ((0 < i) × AnswersAt (i - 1) Less)) × ((i ≡ length xs) ⊎ AnswersAt i Greater)
+
+  -- a place that is answered Equal, or a local boundary
+  abbrev pub IsLocalAnswer : Result ℕ ℕ → Type 0
+  IsLocalAnswer (Ok i) = AnswersAt i Equal
+  IsLocalAnswer (Err i) = IsLocalBoundary i
+
+  -- the answers along the list are Less, then Equal, then Greater, each perhaps never
+  abbrev pub IsLessEqualGreater : Type 0
+  IsLessEqualGreater = IsNonDecreasingBy (λ x. ordering_index (ord x)) xs
+
+  -- none is Equal: those before i are Less and those from i on are Greater, and so i is the number of those that are Less
+  pub record IsGap (i : ℕ) : Type 0 where
+    pub none : (j : ℕ) → AnswersAt j Equal → ⊥
+    pub between : IsPartitionPoint (λ x. ord x ≡ Less) (λ x. ord x ≡ Greater) xs i
+    pub place : i ≡ count_by (λ x. is_lt (ord x)) xs
+
+  -- a place that is answered Equal, or the one place where such an element could stand, if there is none
+  abbrev pub FindsIn : Result ℕ ℕ → Type 0
+  FindsIn (Ok i) = AnswersAt i Equal
+  FindsIn (Err i) = IsGap i
+
+-- no neighbouring pair of the list descends
+abbrev pub NeverDescends : {T : Type 0} → (T → T → Ordering) → List T → Type 0
+NeverDescends cmp xs = AllByRecursion (λ q. cmp q.0 q.1 ≢ Greater) (neighbours xs)
+
+-- may f x: f may be asked about x; gives f x o h: the answer may be o, and then the state is h
+module _ {F T : Type 0} (may : F → T → Type 0) (gives : F → T → Ordering → F → Type 0) (xs : List T) where
+  -- the last question is about the element at the place, and its answer Equal
+  abbrev pub EndsEqual : List (T × Ordering) → Result ℕ ℕ → Type 0
+  EndsEqual qs (Ok i) = (front : List (T × Ordering)) × (x : T) × (slice_get xs i ≡ Some x) × (qs ≡ front ++ (x, Equal) ∷ [])
+  EndsEqual qs (Err i) = Unit {0}
+
+  -- the questions of a search that begins with f, gives r and ends with h
+  pub record Searches (f : F) (r : Result ℕ ℕ) (h : F) (qs : List (T × Ordering)) : Type 0 where
+    pub run : IsRun may gives f qs h
+    pub elements : AllByRecursion (λ q. Contains xs q.0) qs
+    pub few : length qs ≤ 2 * digits (place_of r + 1) + 1
+    pub none : length xs ≡ 0 → qs ≡ []
+    pub equal : EndsEqual qs r
+
+  abbrev pub IsSearch : F → Result ℕ ℕ → Type 0
+  IsSearch f r = (h : F) × (qs : List (T × Ordering)) × Searches f r h qs
+
+-- a function of elements: a comparator, or a key function
+module _ {F T K : Type 0} (g : Mut F (Bor T × Unit {0}) K) (xs : List T) where
+  -- in every state that its answers can lead to, f may be called on each element
+  abbrev pub MayCall : F → Type 0
+  MayCall f = MayAskAll (TakesAt g) (CalledAt g) (Contains xs) f
+
+  -- and there it answers what h gives
+  abbrev pub Computes : (T → K) → F → Type 0
+  Computes h f = AnswersBy (TakesAt g) (CalledAt g) (Contains xs) h f
+
+-- a call of the key function on x, and its key compared with b
+abbrev pub ComparesKey : {F T K : Type 0} → Mut F (Bor T × Unit {0}) K → (K → K → Ordering) → K → F → T → Ordering → F → Type 0
+ComparesKey {F} {T} {K} g cmp b f x o h = (k : K) × CalledAt g f x k h × (cmp k b ≡ o)

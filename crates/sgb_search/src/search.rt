@@ -1,0 +1,122 @@
+//! Searches of a slice that gallop from its first element.
+ghost use Rattle.std.specs.Prelude.{◌≡◌, ℕ, ◌<◌, length, map, MatchResult, Some};
+ghost use Rattle.std.specs.List.{slice_get};
+ghost use Rattle.std.specs.List.Sorted.{IsSearchInRange};
+ghost use Rattle.std.specs.Fn.{TakesAt, CalledAt};
+ghost use Rattle.std.specs.declared.cmp.Ordering.{Ordering};
+ghost use Rattle.sgb_search.specs.Search.{MayCall, Computes, ComparesKey, IsSearch, IsLocalAnswer, IsLessEqualGreater, FindsIn, NeverDescends};
+
+use crate::probe::{Probe, gallop};
+use std::cmp::Ordering;
+
+// The elements of a slice, of which a comparator is asked.
+#[derive(Drop)]
+pub(crate) struct Elements<'a, T> {
+    slice: &'a [T],
+}
+
+impl<'a, T, F: FnMut(&T) -> Ordering> Probe<Elements<'a, T>> for F {
+    ghost may_probe = { λ f c i. (i < length c.slice.now) × ((x : T) → slice_get c.slice.now i ≡ Some x → TakesAt F.FnMut f x) };
+
+    ghost probed = { λ f c i o h. (x : T) × (slice_get c.slice.now i ≡ Some x) × CalledAt F.FnMut f x o h };
+
+    #[inline]
+    fn probe(&mut self, context: &Elements<'a, T>, place: usize) -> Ordering {
+        self(&context.slice[place])
+    }
+}
+
+// The elements of a slice, and the key with which theirs are compared.
+#[derive(Drop)]
+pub(crate) struct Keyed<'a, T, B> {
+    slice: &'a [T],
+    key: &'a B,
+}
+
+impl<'a, T, B: Ord + Drop, F: FnMut(&T) -> B> Probe<Keyed<'a, T, B>> for F {
+    ghost may_probe = { λ f c i. (i < length c.slice.now) × ((x : T) → slice_get c.slice.now i ≡ Some x → TakesAt F.FnMut f x) };
+
+    ghost probed = { λ f c i o h. (x : T) × (slice_get c.slice.now i ≡ Some x) × ComparesKey F.FnMut B.cmp c.key.now f x o h };
+
+    #[inline]
+    fn probe(&mut self, context: &Keyed<'a, T, B>, place: usize) -> Ordering {
+        self(&context.slice[place]).cmp(context.key)
+    }
+}
+
+/// Searches a slice with a comparator: `Ok` of a place whose element it answers `Equal`, or `Err` of a place where such an
+/// element could stand.
+///
+/// The slice should be sorted so that the comparator answers `Less` of its first elements, then `Equal`, then `Greater`, each
+/// perhaps of none. Then there is an `Ok` exactly if some element is `Equal`; which of several is given is left open. And
+/// `Err(i)` has `Less` before place i and `Greater` from i on, so that the slice stays sorted if the element is inserted
+/// there. On any other slice `Ok` is an `Equal` place all the same, and `Err` a place between `Less` and `Greater`.
+///
+/// The comparator has to be such that it may be called on each element, in every state that its answers can lead to.
+/// Whatever it answers, a search that gives place i asks at most `2 * digits(i + 1) + 1` questions, where `digits` is the
+/// number of binary digits, so it is cheap where the place is near the beginning; it asks none of an empty slice.
+///
+/// ```
+/// let slice = [0, 1, 1, 1, 1, 2, 3, 5, 8, 13, 21, 34, 55];
+/// exponential_search_by(&slice, |x| x.cmp(&13));  // Ok(9)
+/// exponential_search_by(&slice, |x| x.cmp(&4));   // Err(7)
+/// exponential_search_by(&slice, |x| x.cmp(&100)); // Err(13)
+/// ```
+#[inline]
+pub fn exponential_search_by<T, F>(slice: &[T], mut f: F) -> Result<usize, usize>
+where
+    F: FnMut(&T) -> Ordering,
+    requires { MayCall F.FnMut slice.now f }
+    ensures bound { IsSearchInRange result (length slice.now) }
+    ensures questions { IsSearch (TakesAt F.FnMut) (CalledAt F.FnMut) slice.now f result }
+    ensures boundary { (ord : T → Ordering) → Computes F.FnMut slice.now ord f → IsLocalAnswer ord slice.now result }
+    ensures found { (ord : T → Ordering) → Computes F.FnMut slice.now ord f → IsLessEqualGreater ord slice.now → FindsIn ord slice.now result }
+{
+    gallop(&mut f, &Elements { slice }, slice.len())
+}
+
+/// Searches a slice for an element: `Ok` of a place where an equal element stands, or `Err` of a place where it could be
+/// inserted.
+///
+/// The slice should be sorted. Then there is an `Ok` exactly if an equal element is there, and `Err(i)` has lesser elements
+/// before place i and greater ones from i on. On any slice the element at an `Ok` is equal. It compares by `x.cmp(elem)`, as
+/// often as `exponential_search_by` asks.
+///
+/// ```
+/// let slice = [0, 1, 1, 1, 1, 2, 3, 5, 8, 13, 21, 34, 55];
+/// exponential_search(&slice, &13);  // Ok(9)
+/// exponential_search(&slice, &4);   // Err(7)
+/// exponential_search(&slice, &100); // Err(13)
+/// ```
+#[inline]
+pub fn exponential_search<T: Ord>(slice: &[T], elem: &T) -> Result<usize, usize>
+    ensures bound { IsSearchInRange result (length slice.now) }
+    ensures boundary { IsLocalAnswer (λ x. T.cmp x elem.now) slice.now result }
+    ensures found { NeverDescends T.cmp slice.now → FindsIn (λ x. T.cmp x elem.now) slice.now result }
+{
+    exponential_search_by(slice, |x| x.cmp(elem))
+}
+
+/// Searches a slice for a key, which the function gives of each element: `Ok` of a place where an element with an equal key
+/// stands, or `Err` of a place where one could be inserted.
+///
+/// The slice should be sorted by the key. It compares by `f(x).cmp(b)`, and promises what `exponential_search_by` promises.
+///
+/// ```
+/// let slice = [(0, 0), (2, 1), (4, 1), (5, 1), (3, 1), (1, 2), (2, 3), (4, 5), (5, 8), (3, 13), (1, 21)];
+/// exponential_search_by_key(&slice, &13, |&(_, b)| b); // Ok(9)
+/// exponential_search_by_key(&slice, &4, |&(_, b)| b);  // Err(7)
+/// ```
+#[inline]
+pub fn exponential_search_by_key<T, B, F>(slice: &[T], b: &B, mut f: F) -> Result<usize, usize>
+where
+    F: FnMut(&T) -> B,
+    B: Ord + Drop,
+    requires { MayCall F.FnMut slice.now f }
+    ensures bound { IsSearchInRange result (length slice.now) }
+    ensures questions { IsSearch (TakesAt F.FnMut) (ComparesKey F.FnMut B.cmp b.now) slice.now f result }
+    ensures boundary { (key : T → B) → Computes F.FnMut slice.now key f → IsLocalAnswer (λ x. B.cmp (key x) b.now) slice.now result }
+    ensures found { (key : T → B) → Computes F.FnMut slice.now key f → NeverDescends B.cmp (map key slice.now) → FindsIn (λ x. B.cmp (key x) b.now) slice.now result }
+{
+    gallop(&mut f, &Keyed { slice, key: b }, slice.len())
+}
