@@ -1,6 +1,7 @@
 pub mod Queue
 pub mod Walk
 pub mod Ranks
+pub mod Plans
 pub use Rattle.sgb_search.specs.Split
 pub use Rattle.sgb_search.specs.Neighbours
 pub use Rattle.sgb_search.specs.Ends
@@ -8,6 +9,8 @@ pub use Rattle.sgb_search.specs.Runs
 pub use Rattle.sgb_search.specs.Judges
 pub use Rattle.sgb_search.specs.Groups
 pub use Rattle.sgb_search.specs.LinearCalls
+pub use Rattle.sgb_search.specs.Digits
+pub use Rattle.sgb_search.specs.Search
 pub use Rattle.sgb_linear_group.specs.Linear
 pub use Rattle.sgb_linear_group.specs.LinearMut
 pub use Rattle.sgb_linear_str_group.specs.Texts

@@ -18,6 +18,7 @@ mod linear_mut;
 mod linear_str;
 mod linear_str_mut;
 pub mod loans;
+mod plans;
 mod queue;
 mod ranks;
 mod str_traits;

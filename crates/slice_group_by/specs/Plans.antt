@@ -1,0 +1,25 @@
+-- Plans of questions that find how long the first piece of a grouped slice is, by comparing its first element with others.
+--     run plan l            what the plan answers where the piece has l elements, and after how many questions
+--     IsHalvingPlan         a plan that halves
+use Rattle.std.specs.Prelude.{◌≡◌, ℕ, ◌+◌, ◌-◌, ◌/◌, ◌<◌, ◌≤◌, ◌⊎◌, ◌≢◌, cond, nat_lt}
+use Rattle.slice_group_by.specs.declared.plans.Plan.{Plan}
+use Rattle.slice_group_by.specs.declared.plans.Plan.TheVariants.{Answer, Ask'}
+use Rattle.sgb_search.specs.Digits.{digits}
+
+-- what the plan answers, and after how many questions: the element at place q agrees with the first exactly if q < l
+abbrev pub run : Plan → ℕ → ℕ × ℕ
+run (Answer a) l = (a, 0)
+run (Ask' q _ more _ less) l = (cond (nat_lt q l) (run more l).0 (run less l).0, cond (nat_lt q l) (run more l).1 (run less l).1 + 1)
+
+-- the plan answers each length from low up to high rightly
+abbrev pub IsRight : Plan → ℕ → ℕ → Type 0
+IsRight plan low high = (l : ℕ) → low ≤ l → l ≤ high → (run plan l).0 ≡ l
+
+-- where the piece has l of at most n elements, the plan is wrong, or asks no less than halving may
+abbrev pub IsRefuted : Plan → ℕ → ℕ → Type 0
+IsRefuted plan n l = ((run plan l).0 ≢ l) ⊎ (digits (n - 1) ≤ (run plan l).1)
+
+-- the plan halves the lengths from low up to high: it answers where one is left, and else asks about the middle one and halves on both sides
+abbrev pub IsHalvingPlan : ℕ → ℕ → Plan → Type 0
+IsHalvingPlan low high (Answer a) = (low ≡ high) × (a ≡ low)
+IsHalvingPlan low high (Ask' q _ more _ less) = (low < high) × (q ≡ low + (high - low) / 2) × IsHalvingPlan (q + 1) high more × IsHalvingPlan low q less

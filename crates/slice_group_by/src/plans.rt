@@ -1,0 +1,48 @@
+//! Plans of questions, and an adversary that shows what each of them costs.
+ghost use Rattle.std.specs.Prelude.{◌≤◌, ◌<◌};
+ghost use Rattle.slice_group_by.specs.Plans.{IsRefuted};
+
+/// A plan of questions that finds how long the first group of a grouped slice is, by comparing its first element with others.
+///
+/// `Ask(q, yes, no)` asks about the element at place `q`, which agrees with the first exactly if the group has more than `q`
+/// elements, and goes on with `yes` if it does and else with `no`. `Answer(a)` says that the group has `a` elements.
+#[derive(Drop)]
+pub enum Plan {
+    Answer(usize),
+    Ask(usize, Box<Plan>, Box<Plan>),
+}
+
+/// A length of the first group, from 1 up to `n`, at which the plan answers something else, or asks as many questions as a
+/// halving search may: `digits(n - 1)`, the number of binary digits. It takes no memory, and time by the depth of the plan.
+///
+/// ```
+/// refute(&Plan::Answer(1), 2); // 2
+/// ```
+pub fn refute(plan: &Plan, n: usize) -> usize
+    requires { 0 < n }
+    ensures first { 1 ≤ result }
+    ensures last { result ≤ n }
+    ensures refuted { IsRefuted plan.now n result }
+{
+    // The adversary answers so that the larger part of the lengths from `low` up to `high` remains.
+    let mut low = 1;
+    let mut high = n;
+    let mut current = plan;
+    while let Plan::Ask(place, yes, no) = current {
+        if *place < low {
+            current = yes;
+        } else if *place >= high {
+            current = no;
+        } else if high - *place > *place - low {
+            low = *place + 1;
+            current = yes;
+        } else {
+            high = *place;
+            current = no;
+        }
+    }
+    match current {
+        Plan::Answer(answer) if *answer == low => high,
+        _ => low,
+    }
+}
