@@ -1,5 +1,6 @@
 //! Laws of the definitions. Each is a function that does nothing: its contract is the law, and a caller cites it.
-ghost use Rattle.std.specs.Prelude.{◌≡◌, ℕ, ◌+◌, ◌-◌, ◌<◌, Bool, List, length};
+ghost use Rattle.std.specs.Prelude.{◌≡◌, ℕ, ◌+◌, ◌-◌, ◌^◌, ◌<◌, ◌≤◌, Bool, List, length};
+ghost use Rattle.sgb_search.specs.Digits.{digits};
 ghost use Rattle.sgb_search.specs.Split.{IsSplit, split, refused_pairs};
 ghost use Rattle.sgb_search.specs.Neighbours.{neighbours, front_questions, back_questions};
 ghost use Rattle.sgb_search.specs.Runs.{IsRunOf};
@@ -56,4 +57,12 @@ pub fn equality_judges<T: PartialEq>()
     ensures callable { (xs : List T) (j : EqualityJudge) → MayAskAlong (by_equality T.eq) xs j }
     ensures settled { (xs : List T) (j : EqualityJudge) → AnswersAlong (by_equality T.eq) xs T.eq j }
     ensures counts { (j k : EqualityJudge) (n : ℕ) → IsRunOf (by_equality T.eq).may_ask (by_equality T.eq).answers n j k → k.questions.asked ≡ j.questions.asked + n }
+{}
+
+/// The number of binary digits of m is the least d with m below the d-th power of two. So a search that halves n places asks
+/// at most `digits n` questions.
+#[inline]
+pub fn digits_is_least()
+    ensures above { (m : ℕ) → m < 2 ^ digits m }
+    ensures least { (m d : ℕ) → m < 2 ^ d → digits m ≤ d }
 {}

@@ -1,5 +1,6 @@
 //! The definitions, computed at small cases.
-ghost use Rattle.std.specs.Prelude.{◌≡◌, ℕ, true, false, [], ◌∷◌, nat_eq, nat_lt};
+ghost use Rattle.std.specs.Prelude.{◌≡◌, ◌+◌, ◌-◌, ◌*◌, ℕ, true, false, [], ◌∷◌, nat_eq, nat_lt};
+ghost use Rattle.sgb_search.specs.Digits.{digits};
 ghost use Rattle.sgb_search.specs.Neighbours.{neighbours, front_questions, back_questions};
 ghost use Rattle.sgb_search.specs.Split.{split, refused_pairs};
 
@@ -25,4 +26,31 @@ fn questions()
 fn definitions_at_small_cases() {
     splits();
     questions();
+}
+
+// The most questions of a search that halves n places but one, and of one that gallops to a place.
+#[tactic(auto, unfolding(crate::specs::Digits::digits))]
+fn bounds()
+    ensures one { digits (1 - 1) ≡ 0 }
+    ensures two { digits (2 - 1) ≡ 1 }
+    ensures three { digits (3 - 1) ≡ 2 }
+    ensures four { digits (4 - 1) ≡ 2 }
+    ensures five { digits (5 - 1) ≡ 3 }
+    ensures eight { digits (8 - 1) ≡ 3 }
+    ensures nine { digits (9 - 1) ≡ 4 }
+    ensures thousand { digits (1000 - 1) ≡ 10 }
+    ensures to_1 { 2 * digits 1 + 1 ≡ 3 }
+    ensures to_2 { 2 * digits 2 + 1 ≡ 5 }
+    ensures to_3 { 2 * digits 3 + 1 ≡ 5 }
+    ensures to_4 { 2 * digits 4 + 1 ≡ 7 }
+    ensures to_7 { 2 * digits 7 + 1 ≡ 7 }
+    ensures to_8 { 2 * digits 8 + 1 ≡ 9 }
+    ensures to_10 { 2 * digits 10 + 1 ≡ 9 }
+    ensures to_14 { 2 * digits 14 + 1 ≡ 9 }
+    ensures to_1001 { 2 * digits 1001 + 1 ≡ 21 }
+{}
+
+#[test]
+fn bounds_as_numbers() {
+    bounds();
 }

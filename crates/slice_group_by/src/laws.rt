@@ -1,5 +1,5 @@
 //! Laws for the proofs of callers. Each is a function that does nothing: its contract is the law. `rank_groups`, which is
-//! proved from them, stands here too.
+//! proved from them, stands here too, and so do plans of questions, and `refute`.
 //!
 //! A function whose contract rests on a law calls it, and then its proof may cite it. Where a law takes a queue, that only
 //! names the type, which may hold a closure: the law is over all of its states.
@@ -22,10 +22,14 @@ ghost use Rattle.sgb_linear_group.specs.LinearMut.{seen, GivesFrontMut, GivesBac
 ghost use Rattle.sgb_loans.specs.GroupsMut.{GroupsMut};
 ghost use Rattle.sgb_linear_str_group.specs.Texts.{TextGroups, in_characters, GivesFrontText, GivesBackText};
 ghost use Rattle.sgb_linear_str_group.specs.TextsMut.{TextGroupsMut, seen_text, GivesFrontTextMut, GivesBackTextMut};
+ghost use Rattle.sgb_search.specs.Digits.{digits};
+ghost use Rattle.slice_group_by.specs.declared.plans.Plan.{Plan};
+ghost use Rattle.slice_group_by.specs.Plans.{run, IsRight, IsHalvingPlan};
 ghost use Rattle.slice_group_by.specs.Walk.{Partition, IsChain};
 ghost use Rattle.slice_group_by.specs.Queue.{at_end, answers, left};
 
 use crate::queue::GroupQueue;
+pub use crate::plans::{Plan, refute};
 pub use crate::ranks::rank_groups;
 use sgb_linear_group::groups::LinearGroups;
 use sgb_linear_group::groups_mut::LinearGroupsMut;
@@ -34,7 +38,7 @@ use sgb_linear_str_group::groups_mut::LinearStrGroupsMut;
 use sgb_search::judge::Judge;
 pub use sgb_search::laws::{
     always_callable, always_callable_char_key, always_callable_chars, always_callable_key,
-    equality_judges, one_split, question_count,
+    digits_is_least, equality_judges, one_split, question_count,
 };
 
 /// One call on a queue that is settled for a test: it gives the outermost piece of the split of what remained, or `None`
@@ -197,4 +201,19 @@ pub fn each_char_pair_asked_once_mut<J: Judge<char>>(_groups: &LinearStrGroupsMu
     ensures whole { (s t : TextGroupsMut J) (ends : List End) (out : List (Option (MutBor (List ℕ))))
         → IsChain (at_end (GivesFrontTextMut J.Judge) (GivesBackTextMut J.Judge)) s ends out t → t.text ≡ []
         → IsRunOf J.may_ask J.answers (length (chars s.text) - 1) s.judge t.judge }
+{}
+
+/// No plan of questions has a smaller worst case than halving: each that answers every length from 1 up to n rightly asks
+/// at least `digits(n - 1)` questions at one of them. A plan compares the first element with others, and nothing else.
+#[inline]
+pub fn right_plans_ask()
+    ensures { (plan : Plan) (n : ℕ) → 0 < n → IsRight plan 1 n → (l : ℕ) × (1 ≤ l) × (l ≤ n) × (digits (n - 1) ≤ (run plan l).1) }
+{}
+
+/// A plan that halves the lengths from 1 up to n answers each of them rightly, and asks at most `digits(n - 1)` questions at
+/// each.
+#[inline]
+pub fn halving_plans_ask()
+    ensures right { (plan : Plan) (n : ℕ) → IsHalvingPlan 1 n plan → IsRight plan 1 n }
+    ensures most { (plan : Plan) (n l : ℕ) → IsHalvingPlan 1 n plan → 1 ≤ l → l ≤ n → (run plan l).1 ≤ digits (n - 1) }
 {}

@@ -26,6 +26,7 @@ mod str_traits;
 mod tests;
 mod traits;
 
+pub use plans::{Plan, refute};
 pub use queue::{End, GroupQueue, walk};
 pub use ranks::rank_groups;
 pub use sgb_linear_group::linear_group::LinearGroup;
@@ -40,5 +41,8 @@ pub use sgb_linear_str_group::linear_str_group_by_key::LinearStrGroupByKey;
 pub use sgb_linear_str_group::linear_str_group_by_key_mut::LinearStrGroupByKeyMut;
 pub use sgb_linear_str_group::linear_str_group_by_mut::LinearStrGroupByMut;
 pub use sgb_linear_str_group::linear_str_group_mut::LinearStrGroupMut;
+pub use sgb_search::search::{
+    exponential_search, exponential_search_by, exponential_search_by_key,
+};
 pub use str_traits::{StrGroupBy, StrGroupByMut};
 pub use traits::{GroupBy, GroupByMut};

@@ -6,6 +6,8 @@ mod linear;
 mod linear_by;
 mod linear_mut;
 mod loops;
+mod plans;
+mod searches;
 mod str_users;
 mod strs;
 mod strs_mut;

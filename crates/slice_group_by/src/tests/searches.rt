@@ -1,0 +1,134 @@
+//! Searches, case by case.
+use crate::{exponential_search, exponential_search_by, exponential_search_by_key};
+use std::cell::Cell;
+use std::cmp::Ordering;
+
+const NUMBERS: [i32; 13] = [0, 1, 1, 1, 1, 2, 3, 5, 8, 13, 21, 34, 55];
+
+const PAIRS: [(i32, i32); 13] = [
+    (0, 0),
+    (2, 1),
+    (4, 1),
+    (5, 1),
+    (3, 1),
+    (1, 2),
+    (2, 3),
+    (4, 5),
+    (5, 8),
+    (3, 13),
+    (1, 21),
+    (2, 34),
+    (4, 55),
+];
+
+#[test]
+fn by_element(rt: HostRuntime) {
+    let slice = NUMBERS;
+    assert_eq!(rt; exponential_search(&slice, &13), Ok(9));
+    assert_eq!(rt; exponential_search(&slice, &4), Err(7));
+    assert_eq!(rt; exponential_search(&slice, &100), Err(13));
+    assert!(rt; matches!(exponential_search(&slice, &1), Ok(1..=4)));
+    let none: [i32; 0] = [];
+    assert_eq!(rt; exponential_search(&none, &1), Err(0));
+}
+
+#[test]
+fn by_comparator(rt: HostRuntime) {
+    let slice = NUMBERS;
+    assert_eq!(rt; exponential_search_by(&slice, |x| x.cmp(&13)), Ok(9));
+    assert_eq!(rt; exponential_search_by(&slice, |x| x.cmp(&4)), Err(7));
+    assert_eq!(rt; exponential_search_by(&slice, |x| x.cmp(&100)), Err(13));
+    assert!(rt; matches!(exponential_search_by(&slice, |x| x.cmp(&1)), Ok(1..=4)));
+}
+
+#[test]
+fn by_key(rt: HostRuntime) {
+    let slice = PAIRS;
+    assert_eq!(rt; exponential_search_by_key(&slice, &13, |&(_, b)| b), Ok(9));
+    assert_eq!(rt; exponential_search_by_key(&slice, &4, |&(_, b)| b), Err(7));
+    assert_eq!(rt; exponential_search_by_key(&slice, &100, |&(_, b)| b), Err(13));
+    assert!(rt; matches!(exponential_search_by_key(&slice, &1, |&(_, b)| b), Ok(1..=4)));
+}
+
+#[test]
+fn short_slices(rt: HostRuntime) {
+    assert_eq!(rt; exponential_search(&[1], &0), Err(0));
+    assert_eq!(rt; exponential_search(&[1], &1), Ok(0));
+    assert_eq!(rt; exponential_search(&[1], &2), Err(1));
+    let slice = [0, 1, 2, 3];
+    assert_eq!(rt; exponential_search(&slice, &0), Ok(0));
+    assert_eq!(rt; exponential_search(&slice, &1), Ok(1));
+    assert_eq!(rt; exponential_search(&slice, &2), Ok(2));
+    assert_eq!(rt; exponential_search(&slice, &3), Ok(3));
+    assert_eq!(rt; exponential_search(&slice, &4), Err(4));
+}
+
+#[test]
+fn slice_that_is_not_sorted(rt: HostRuntime) {
+    assert!(rt; matches!(exponential_search(&[3, 1, 2], &2), Ok(2) | Err(0)));
+}
+
+// An array of a length that a proof does not compute.
+fn among_units<const N: usize>(answer: Ordering) -> Result<usize, usize> {
+    let slice = [(); N];
+    exponential_search_by(&slice, |_| answer)
+}
+
+const LONGEST: usize = usize::MAX;
+
+#[test]
+fn longest_slices(rt: HostRuntime) {
+    assert_eq!(rt; among_units::<LONGEST>(Ordering::Less), Err(LONGEST));
+    assert_eq!(rt; among_units::<LONGEST>(Ordering::Greater), Err(0));
+}
+
+// It asks places 1, 2, 4 and 8 first, and then halves between 8 and the length.
+#[test]
+fn places_of_a_search(rt: HostRuntime) {
+    let slice = [
+        (0usize, 0),
+        (1, 1),
+        (2, 1),
+        (3, 1),
+        (4, 1),
+        (5, 2),
+        (6, 3),
+        (7, 5),
+        (8, 8),
+        (9, 13),
+        (10, 21),
+        (11, 34),
+        (12, 55),
+    ];
+    let mut places = [0usize; 4];
+    let mut questions = 0usize;
+    let found = exponential_search_by(&slice, |x: &(usize, i32)| {
+        if questions < 4 {
+            places[questions] = x.0;
+        }
+        questions = questions.wrapping_add(1);
+        x.1.cmp(&13)
+    });
+    assert_eq!(rt; found, Ok(9));
+    assert_eq!(rt; places, [1, 2, 4, 8]);
+    assert!(rt; questions <= 9);
+}
+
+// A number whose `cmp` counts its calls is below: here the comparator counts, over a thousand 0 and then a 1.
+fn long<const N: usize>(calls: &Cell<usize>) -> Result<usize, usize> {
+    let mut slice = [0u32; N];
+    if let Some(last) = slice.last_mut() {
+        *last = 1;
+    }
+    exponential_search_by(&slice, |x| {
+        calls.set(calls.get().wrapping_add(1));
+        x.cmp(&1)
+    })
+}
+
+#[test]
+fn questions_of_a_long_search(rt: HostRuntime) {
+    let calls = Cell::new(0usize);
+    assert_eq!(rt; long::<1001>(&calls), Ok(1000));
+    assert!(rt; calls.get() <= 21);
+}
