@@ -26,8 +26,9 @@ impl<'a, T, K: PartialEq + Drop, F: FnMut(&T) -> K> LinearGroups<'a, T, KeyJudge
     ///
     /// The key function has to be such that it may be called on the two elements of each neighbouring pair of the slice,
     /// left element first, in every state that its calls can lead to; nothing is asked of it for a slice of at most one
-    /// element. A closure with no `requires` of its own meets this at once. A caller that is handed the function takes
-    /// `F.IsAlwaysCallable func` as a `requires`, and calls `laws::always_callable_key`.
+    /// element. A closure whose body may run on all elements, in every state, meets this at once. A caller that is handed
+    /// the function takes `F.IsAlwaysCallable func` as a `requires`, calls `laws::always_callable_key`, and answers with
+    /// `c.always_callable_key.ensures _ _ c.requires`.
     ///
     /// The result is settled for equality of the keys that the function computes.
     #[inline]

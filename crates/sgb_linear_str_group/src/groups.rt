@@ -16,7 +16,7 @@ use std::marker::Model;
 /// after it, and takes time by its own length alone. A list of calls asks about no pair twice.
 #[derive(Drop)]
 pub struct LinearStrGroups<'a, J> {
-    text: &'a str,
+    string: &'a str,
     // The remainder lies from the byte `low` up to the byte `high`.
     low: usize,
     high: usize,
@@ -30,22 +30,22 @@ impl<'a, J> Model for LinearStrGroups<'a, J> {
 
     ghost Value = { TextGroups J };
 
-    ghost view = { λ s. record { text = slice_range s.text.now s.low s.high; judge = s.judge } };
+    ghost view = { λ s. record { text = slice_range s.string.now s.low s.high; judge = s.judge } };
 
-    ghost invariant = { λ s. record { order : s.low ≤ s.high; low : IsCharBoundary s.text.now s.low; high : IsCharBoundary s.text.now s.high } };
+    ghost invariant = { λ s. record { order : s.low ≤ s.high; low : IsCharBoundary s.string.now s.low; high : IsCharBoundary s.string.now s.high } };
 }
 
 impl<'a, J> LinearStrGroups<'a, J> {
     // All groups of the text are still to come.
     #[inline]
-    pub(crate) fn over(text: &'a str, judge: J) -> Self
-        ensures text { result.text ≡ text.now }
+    pub(crate) fn over(string: &'a str, judge: J) -> Self
+        ensures text { result.text ≡ string.now }
         ensures judge { result.judge ≡ judge }
     {
         LinearStrGroups {
-            text,
+            string,
             low: 0,
-            high: text.len(),
+            high: string.len(),
             judge,
         }
     }
@@ -54,7 +54,7 @@ impl<'a, J> LinearStrGroups<'a, J> {
     fn rest(&self) -> &'a str
         ensures { result.now ≡ self.now.text }
     {
-        &self.text[self.low..self.high]
+        &self.string[self.low..self.high]
     }
 
     /// The characters that no call has handed out yet.
@@ -95,7 +95,7 @@ impl<'a, J: Judge<char>> LinearStrGroups<'a, J> {
             return None;
         }
         let end = self.low + front_end(self.rest(), &mut self.judge);
-        let group = &self.text[self.low..end];
+        let group = &self.string[self.low..end];
         self.low = end;
         Some(group)
     }
@@ -110,7 +110,7 @@ impl<'a, J: Judge<char>> LinearStrGroups<'a, J> {
             return None;
         }
         let start = self.low + back_start(self.rest(), &mut self.judge);
-        let group = &self.text[start..self.high];
+        let group = &self.string[start..self.high];
         self.high = start;
         Some(group)
     }

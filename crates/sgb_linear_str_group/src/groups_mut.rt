@@ -215,7 +215,8 @@ impl<'a, J: Judge<char> + Drop> LinearStrGroupsMut<'a, J> {
     /// The bytes of the last group of the remainder, or `None` where nothing remains: what `next_back` gives, by its
     /// questions. The iterator is given up. `Iterator::last` walks all groups from the front.
     ///
-    /// What the input ends as cannot be known from it, since the loans are given up too: where that is wanted, call
+    /// That it asks nothing more, and that it leaves the bytes before the group as they are, is read in the code; of the bytes
+    /// it is tested. What the input ends as cannot be known from it, since the loans are given up too: where that is wanted, call
     /// `next_back`, take note of the group, and `finish`.
     #[inline]
     pub fn last(mut self) -> Option<&'a mut [u8]>

@@ -23,7 +23,7 @@ impl<'a, P: FnMut(char, char) -> bool> LinearStrGroups<'a, CharPredicateJudge<P>
     ///
     /// The predicate has to be such that it may be called on each pair of neighbouring characters of the text, the left one
     /// first, in every state that its answers can lead to; nothing is asked of it for a text of at most one character. A
-    /// closure with no `requires` of its own meets this at once. A caller that is handed the closure takes
+    /// closure whose body may run on all characters, in every state, meets this at once. A caller that is handed the closure takes
     /// `P.IsAlwaysCallable predicate` as a `requires`, and calls `laws::always_callable_chars`.
     ///
     /// The result is settled for each test that the predicate computes.

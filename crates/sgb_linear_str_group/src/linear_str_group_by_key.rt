@@ -24,8 +24,9 @@ impl<'a, K: PartialEq + Drop, F: FnMut(char) -> K> LinearStrGroups<'a, CharKeyJu
     ///
     /// The key function has to be such that it may be called on the two characters of each neighbouring pair of the text, the
     /// left one first, in every state that its calls can lead to; nothing is asked of it for a text of at most one
-    /// character. A closure with no `requires` of its own meets this at once. A caller that is handed the function takes
-    /// `F.IsAlwaysCallable func` as a `requires`, and calls `laws::always_callable_char_key`.
+    /// character. A closure whose body may run on all characters, in every state, meets this at once. A caller that is handed
+    /// the function takes `F.IsAlwaysCallable func` as a `requires`, calls `laws::always_callable_char_key`, and answers with
+    /// `c.always_callable_char_key.ensures _ _ c.requires`.
     ///
     /// The result is settled for equality of the keys that the function computes.
     #[inline]

@@ -26,7 +26,8 @@ impl<'a, K: PartialEq + Drop, F: FnMut(char) -> K> LinearStrGroupsMut<'a, CharKe
 
     /// All groups of the bytes by the key, which are still to come. Nothing is asked yet, and nothing is out.
     ///
-    /// The bytes have to be UTF-8, which `std::str::from_utf8` tests; the bytes of a literal or of a text are. It requires of
+    /// The bytes have to be UTF-8, which `std::str::from_utf8` tests. Those of a literal are known to be, and those copied from
+    /// a `&str`; those of a `String` are, once it was looked at by `as_str`. It requires of
     /// the key function what `LinearStrGroupByKey::new` requires, of the characters as they are now.
     #[inline]
     pub fn new(bytes: &'a mut [u8], func: F) -> Self

@@ -23,7 +23,8 @@ impl<'a> LinearStrGroupsMut<'a, EqualityJudge> {
 
     /// All groups of equal characters of the bytes, which are still to come. Nothing is asked yet, and nothing is out.
     ///
-    /// The bytes have to be UTF-8, which `std::str::from_utf8` tests; the bytes of a literal or of a text are.
+    /// The bytes have to be UTF-8, which `std::str::from_utf8` tests. Those of a literal are known to be, and those copied from
+    /// a `&str`; those of a `String` are, once it was looked at by `as_str`.
     #[inline]
     pub fn new(bytes: &'a mut [u8]) -> Self
         requires { IsUtf8 bytes.old }

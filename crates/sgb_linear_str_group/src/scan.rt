@@ -19,7 +19,7 @@ pub(crate) fn front_end<J: Judge<char>>(text: &str, judge: &mut J) -> usize
 {
     let mut characters = text.char_indices();
     let Some((_, mut last)) = characters.next() else {
-        return 0;
+        unreachable!()
     };
     for (place, next) in characters {
         let together = judge.ask(&last, &next);
@@ -43,7 +43,7 @@ pub(crate) fn back_start<J: Judge<char>>(text: &str, judge: &mut J) -> usize
 {
     let mut characters = text.char_indices();
     let Some((mut start, mut first)) = characters.next_back() else {
-        return 0;
+        unreachable!()
     };
     while let Some((place, previous)) = characters.next_back() {
         let together = judge.ask(&previous, &first);

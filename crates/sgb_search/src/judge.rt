@@ -39,7 +39,8 @@ impl<T, P: FnMut(&T, &T) -> bool> Judge<T> for PredicateJudge<P> {
     }
 }
 
-/// Asks for the keys: a call of the key function on the left element, then one on the right, then `==` of the two keys.
+/// Asks for the keys: a call of the key function on the left element, then one on the right, then `==` of the two keys. How
+/// often the keys are compared, and which way round, no contract can say: it is read in the body of `ask`.
 #[derive(Drop)]
 pub struct KeyJudge<F, K> {
     pub func: F,
@@ -81,7 +82,7 @@ impl<P: FnMut(char, char) -> bool> Judge<char> for CharPredicateJudge<P> {
 }
 
 /// Asks for the keys of characters, by value: a call of the key function on the left character, then one on the right, then
-/// `==` of the two keys.
+/// `==` of the two keys, which is read in the body of `ask` as well.
 #[derive(Drop)]
 pub struct CharKeyJudge<F, K> {
     pub func: F,

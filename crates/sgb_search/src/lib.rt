@@ -1,7 +1,8 @@
 //! What decides whether two elements belong together, and the definitions that every group stands on.
 //!
 //! The definitions are in `specs/`, and are meant to be read first: `Split` (what the groups are), `Neighbours`
-//! (which questions a linear call asks), `Runs` (what a list of questions does to the state of a judge).
+//! (which questions a linear call asks), `Runs` (what a list of questions does to the state of a judge), `LinearCalls` (what a
+//! linear call gives of a list).
 #![tactic(auto)]
 
 pub mod judge;

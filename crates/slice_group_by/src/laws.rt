@@ -3,13 +3,14 @@
 //!
 //! A function whose contract rests on a law calls it, and then its proof may cite it. Where a law takes a queue, that only
 //! names the type, which may hold a closure: the law is over all of its states.
-ghost use Rattle.std.specs.Prelude.{◌≡◌, ◌≢◌, ℕ, ◌+◌, ◌-◌, ◌<◌, ◌≤◌, Bool, List, [], ◌∷◌, ◌++◌, length, Option, Some, map, option_map, reverse, count_by, is_some};
+ghost use Rattle.std.specs.Prelude.{◌≡◌, ◌≢◌, ℕ, ◌+◌, ◌-◌, ◌<◌, ◌≤◌, Bool, List, [], ◌∷◌, ◌++◌, length, Option, Some, map, option_map, reverse, count_by, is_some, IfSome};
 ghost use Rattle.std.specs.Borrow.{Bor, MutBor};
 ghost use Rattle.std.specs.Iterator.{Yields, Drains};
 ghost use Rattle.std.specs.Iterator.Adapters.{rev_source, rev_steps};
 ghost use Rattle.std.specs.declared.iter.Rev.{Rev};
 ghost use Rattle.std.proofs.lemmas.Iterator.{YieldsList};
-ghost use Rattle.std.specs.Str.{chars};
+ghost use Rattle.std.specs.Str.{chars, IsUtf8};
+ghost use Rattle.std.specs.List.{AllByRecursion};
 ghost use Rattle.sgb_search.specs.Ends.{first, last, without_first, without_last};
 ghost use Rattle.sgb_search.specs.Split.{joined, IsAccepted, split};
 ghost use Rattle.sgb_search.specs.Runs.{IsRunOf, AsksWithin};
@@ -82,7 +83,8 @@ pub fn chains_answer<Q: GroupQueue>(_queue: &Q)
 {}
 
 /// What a loop or an adapter sees of a settled queue: the pieces of the split in order, and from the back or under `rev()`
-/// in reverse. What `next` and `next_back` of this library's types give is `gives Front` and `gives Back`.
+/// in reverse. What `next` and `next_back` of this library's types give is `gives Front` and `gives Back`. The lemmas of the
+/// standard library that take it stand in `Rattle.std.proofs.lemmas.Iterator.Consumers`, as `count_from_yields_List`.
 #[inline]
 pub fn sees_pieces<Q: GroupQueue>(_queue: &Q)
     ensures front { (p : Q.Element → Q.Element → Bool) (q : Q) → Q.is_settled q p
@@ -166,9 +168,12 @@ pub fn texts_join<J: Judge<char>>(_groups: &LinearStrGroups<'_, J>)
         → joined (reverse (map (λ group. group.now) groups)) ≡ s.text }
 {}
 
-/// The same of the bytes of a text for writing.
+/// The same of the bytes of a text for writing. Each group of a list of calls is UTF-8, as it was when it was handed out.
 #[inline]
 pub fn texts_join_mut<J: Judge<char>>(_groups: &LinearStrGroupsMut<'_, J>)
+    ensures utf8 { (s t : TextGroupsMut J) (ends : List End) (out : List (Option (MutBor (List ℕ))))
+        → IsChain (at_end (GivesFrontTextMut J.Judge) (GivesBackTextMut J.Judge)) s ends out t
+        → AllByRecursion (λ o. IfSome o (λ group. IsUtf8 group.now)) out }
     ensures calls { (s t : TextGroupsMut J) (ends : List End) (out : List (Option (MutBor (List ℕ))))
         → IsChain (at_end (GivesFrontTextMut J.Judge) (GivesBackTextMut J.Judge)) s ends out t
         → Partition ends (map (option_map (λ group. group.now)) out) t.text s.text }

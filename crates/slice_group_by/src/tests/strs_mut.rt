@@ -118,6 +118,27 @@ fn size_hint_and_last(rt: HostRuntime) {
     assert!(rt; LinearStrGroupMut::new(&mut none).last().is_none());
 }
 
+// No contract says so: `last` leaves the bytes before its group, and a method of the trait leaves the variable's bytes. What
+// the bytes are after a method is not known, so they are tested again.
+#[test]
+fn leaves_the_other_bytes(rt: HostRuntime) -> Result<(), Fail> {
+    let mut array = *b"abbcc";
+    let groups = LinearStrGroupMut::new(&mut array);
+    if let Some(group) = groups.last() {
+        group.fill(b'-');
+    }
+    assert_eq!(rt; array, *b"abb--");
+    let mut bytes: &mut [u8] = &mut array;
+    std::str::from_utf8(bytes)?;
+    let _ = StrGroupByMut::linear_group_mut(&mut bytes).next();
+    std::str::from_utf8(bytes)?;
+    let _ = bytes.linear_group_by_mut(|a, b| a < b).next_back();
+    std::str::from_utf8(bytes)?;
+    let _ = bytes.linear_group_by_key_mut(|c| c).last();
+    assert_eq!(rt; &*bytes, b"abb--".as_slice());
+    Ok(())
+}
+
 // A predicate that refuses its second question alone, which no function of two characters does.
 #[test]
 fn walks_with_a_changing_predicate(rt: HostRuntime) {
@@ -163,6 +184,7 @@ fn last_len(bytes: &mut [u8]) -> usize {
 
 // The bytes of a text that the caller holds are its own.
 fn first_len_of(text: String) -> usize {
+    // That its bytes are UTF-8 is learned from `as_str`.
     if text.as_str().is_empty() {
         return 0;
     }
