@@ -5,7 +5,9 @@ use Rattle.std.specs.Borrow.{Bor}
 use Rattle.std.specs.Fn.{Mut, Takes, TakesAt, Called, CalledAt, CalledAtTwo, ComputesOnPairs, ComputesKey}
 use denote.Param.Always.{always_mut, mut_next}
 use Rattle.sgb_search.specs.Judges.{MayAskAlong, AnswersAlong, by_predicate, predicate_judge, by_key, key_judge, MayCompareKeys, ComparesKeys, by_char_predicate, char_predicate_judge, by_char_key, char_key_judge, CalledAtChar, ComputesOnChars, ComputesCharKey}
+use Rattle.std.specs.List.{Contains}
 use Rattle.sgb_search.specs.Neighbours.{AreNeighbours, on_pairs}
+use Rattle.sgb_search.specs.Search.{MayCall, Computes}
 use Rattle.sgb_search.proofs.Runs.{may_ask_by, answers_by}
 
 -- a closure that may always be called may be called now, and may always be called after that
@@ -76,6 +78,20 @@ module _ {F T K : Type 0} (g : Mut F (Bor T × Unit {0}) K) (eq : K → K → Bo
         answers_by _ _ (AreNeighbours xs) (on_pairs (λ x y. eq (key x) (key y))) (λ j. ComputesKey g key j.func)
         (λ j q b k i c. keys_next (TakesAt g) (CalledAt g) key (ComputesKey g key) key_next eq j.func q.0 q.1 b k.func i c)
         (key_judge f) h
+
+-- functions that are asked about the elements of a list: comparators and key functions of searches
+module _ {F T K : Type 0} (g : Mut F (Bor T × Unit {0}) K) where
+  pub callable_on_elements : (xs : List T) (f : F) → always_mut g f → MayCall g xs f
+  callable_on_elements xs f h =
+      may_ask_by _ _ (Contains xs) (always_mut g) (λ f x i ok v e. taken g f (v, tt) i)
+      (λ f x k f' i ok c. always_next g f (c.shown, tt) k f' c.called i)
+      f h
+
+  pub computes_on_elements : (xs : List T) (answer : T → K) (f : F) → ComputesKey g answer f → Computes g xs answer f
+  computes_on_elements xs answer f h =
+      answers_by _ _ (Contains xs) answer (ComputesKey g answer)
+      (λ f x k f' i c. ((i.at ((c.shown, tt) ∷ []) k f' c.called).0 ∙ ap answer c.shows, record { at = λ xs. (i.at ((c.shown, tt) ∷ xs) k f' c.called).1 }))
+      f h
 
 -- closures of characters, by value
 module _ {P : Type 0} (g : Mut P (ℕ × (ℕ × Unit {0})) Bool) where

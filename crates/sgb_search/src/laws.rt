@@ -1,6 +1,8 @@
 //! Laws of the definitions. Each is a function that does nothing: its contract is the law, and a caller cites it.
 ghost use Rattle.std.specs.Prelude.{◌≡◌, ℕ, ◌+◌, ◌-◌, ◌^◌, ◌<◌, ◌≤◌, Bool, List, length};
+ghost use Rattle.std.specs.Fn.{ComputesKey};
 ghost use Rattle.sgb_search.specs.Digits.{digits};
+ghost use Rattle.sgb_search.specs.Search.{MayCall, Computes};
 ghost use Rattle.sgb_search.specs.Split.{IsSplit, split, refused_pairs};
 ghost use Rattle.sgb_search.specs.Neighbours.{neighbours, front_questions, back_questions};
 ghost use Rattle.sgb_search.specs.Runs.{IsRunOf};
@@ -57,6 +59,19 @@ pub fn equality_judges<T: PartialEq>()
     ensures callable { (xs : List T) (j : EqualityJudge) → MayAskAlong (by_equality T.eq) xs j }
     ensures settled { (xs : List T) (j : EqualityJudge) → AnswersAlong (by_equality T.eq) xs T.eq j }
     ensures counts { (j k : EqualityJudge) (n : ℕ) → IsRunOf (by_equality T.eq).may_ask (by_equality T.eq).answers n j k → k.questions.asked ≡ j.questions.asked + n }
+{}
+
+/// A comparator or a key function that may always be called may be called on the elements of every slice.
+#[inline]
+pub fn always_callable_on_elements<T, F: FnMut(&T) -> K, K>()
+    ensures { (xs : List T) (f : F) → F.IsAlwaysCallable f → MayCall F.FnMut xs f }
+{}
+
+/// A comparator or a key function that computes its answer from its argument alone does so on the elements of every slice. It
+/// takes a reference to one, which names its type: the law is over all of its states.
+#[inline]
+pub fn always_computes<T, F: FnMut(&T) -> K, K>(_f: &F)
+    ensures { (xs : List T) (answer : T → K) (f : F) → ComputesKey F.FnMut answer f → Computes F.FnMut xs answer f }
 {}
 
 /// The number of binary digits of m is the least d with m below the d-th power of two. So a search that halves n places asks

@@ -39,7 +39,8 @@ use sgb_linear_str_group::groups_mut::LinearStrGroupsMut;
 use sgb_search::judge::Judge;
 pub use sgb_search::laws::{
     always_callable, always_callable_char_key, always_callable_chars, always_callable_key,
-    digits_is_least, equality_judges, one_split, question_count,
+    always_callable_on_elements, always_computes, digits_is_least, equality_judges, one_split,
+    question_count,
 };
 
 /// One call on a queue that is settled for a test: it gives the outermost piece of the split of what remained, or `None`

@@ -1,6 +1,7 @@
 //! Searches, case by case.
+ghost use Rattle.std.specs.Prelude.{◌≤◌};
+
 use crate::{exponential_search, exponential_search_by, exponential_search_by_key};
-use std::cell::Cell;
 use std::cmp::Ordering;
 
 const NUMBERS: [i32; 13] = [0, 1, 1, 1, 1, 2, 3, 5, 8, 13, 21, 34, 55];
@@ -114,21 +115,28 @@ fn places_of_a_search(rt: HostRuntime) {
     assert!(rt; questions <= 9);
 }
 
-// A number whose `cmp` counts its calls is below: here the comparator counts, over a thousand 0 and then a 1.
-fn long<const N: usize>(calls: &Cell<usize>) -> Result<usize, usize> {
-    let mut slice = [0u32; N];
-    if let Some(last) = slice.last_mut() {
-        *last = 1;
-    }
-    exponential_search_by(&slice, |x| {
-        calls.set(calls.get().wrapping_add(1));
-        x.cmp(&1)
-    })
-}
-
 #[test]
 fn questions_of_a_long_search(rt: HostRuntime) {
-    let calls = Cell::new(0usize);
-    assert_eq!(rt; long::<1001>(&calls), Ok(1000));
-    assert!(rt; calls.get() <= 21);
+    let mut slice = [0u32; 1001];
+    slice[1000] = 1;
+    let mut questions = 0usize;
+    let found = exponential_search_by(&slice, |x| {
+        questions = questions.wrapping_add(1);
+        x.cmp(&1)
+    });
+    assert_eq!(rt; found, Ok(1000));
+    assert!(rt; questions <= 21);
+}
+
+// A comparator that may be called on the elements of the slice alone.
+#[test]
+fn asks_about_elements_alone(rt: HostRuntime) {
+    let slice = [2u8, 4, 4, 9];
+    let found = exponential_search_by(
+        &slice,
+        |x: &u8| -> Ordering
+            requires { 2 ≤ x.now }
+        { (*x - 2).cmp(&7) },
+    );
+    assert_eq!(rt; found, Ok(3));
 }

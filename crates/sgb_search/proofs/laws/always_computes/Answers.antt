@@ -1,0 +1,5 @@
+use Rattle.sgb_search.proofs.Closures.{computes_on_elements}
+use Rattle.sgb_search.proofs.laws.always_computes.Goals as goal
+
+pub returns : goal.returns
+returns g c = computes_on_elements g.F.FnMut
