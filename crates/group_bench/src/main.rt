@@ -5,6 +5,7 @@
 
 mod lines;
 mod rows;
+mod searches;
 mod texts;
 
 use std::process::ExitCode;

@@ -1,8 +1,9 @@
 //! The rows: the calls of each, the answers that are wanted, and the questions that may be asked. Those over texts stand in
-//! `texts`.
+//! `texts`, and those of searches and plans in `searches`.
 ghost use Rattle.std.specs.Prelude.{◌<ℤ◌};
 
 use crate::lines::{differs, write_answers, write_groups};
+use crate::searches::{row_8, row_15};
 use crate::texts::{row_9, row_10, row_16};
 use slice_group_by::{
     End, GroupBy, LinearGroup, LinearGroupBy, LinearGroupByKeyMut, rank_groups, walk,
@@ -18,10 +19,12 @@ pub fn run<W: Write>(out: &mut W) -> Result<bool, Error> {
     same &= row_1(out)?;
     same &= row_2(out)?;
     same &= row_3(out)?;
+    same &= row_8(out)?;
     same &= row_9(out)?;
     same &= row_10(out)?;
     same &= row_13(out)?;
     same &= row_14(out)?;
+    same &= row_15(out)?;
     same &= row_16(out)?;
     same &= row_17(out)?;
     Ok(same)
@@ -159,16 +162,18 @@ mod tests {
     const LINES: &str = "row 1: [1, 1, 1] [3, 3] [2, 2, 2] None\n\
 row 2: [1, 1, 1] [2, 2, 2] [3, 3] None None\n\
 row 3: [1, 2, 3] [2, 3] None\n\
+row 8: Ok(9) Err(7) Err(13) in 1..=4 Err(0) Ok(9) Err(7) Err(13) in 1..=4\n\
 row 9: aaaa bbbbb 饰饰 cccc None\n\
 row 10: ab\n\
 row 13: [7, 8] [9, 10] None\n\
 row 14: [0, 0, 1, 1, 1, 2] [1] [2, 4] [5, 7] [8, 8] None\n\
+row 15: 2\n\
 row 16: [97] éé 4 [195, 169, 195, 169] None\n\
 row 17: [1, 2, 3, 4, 5] None\n";
 
     #[test]
     fn writes_the_lines(rt: HostRuntime) {
-        let mut bytes = [0u8; 318];
+        let mut bytes = [0u8; 402];
         assert_eq!(rt; bytes.len(), LINES.len());
         let mut rest: &mut [u8] = &mut bytes;
         assert!(rt; matches!(run(&mut rest), Ok(true)));
@@ -177,8 +182,8 @@ row 17: [1, 2, 3, 4, 5] None\n";
 
     #[test]
     fn ends_at_a_fault_of_the_writer(rt: HostRuntime) {
-        for room in 0..318 {
-            let mut bytes = [0u8; 318];
+        for room in 0..402 {
+            let mut bytes = [0u8; 402];
             let mut rest: &mut [u8] = &mut bytes[..room];
             assert!(rt; run(&mut rest).is_err(), "with room for {room} bytes");
         }

@@ -1,6 +1,4 @@
 //! Plans of questions, and what refutes them.
-ghost use Rattle.slice_group_by.specs.Plans.{IsHalvingPlan};
-
 use crate::laws::Plan;
 use crate::laws::Plan::{Answer, Ask};
 use crate::laws::refute;
@@ -52,5 +50,44 @@ fn plan_that_halves(rt: HostRuntime) -> Result<(), AllocError> {
     let lower = ask(alloc, 1, Answer(2), Answer(1))?;
     let plan = ask(alloc, 2, upper, lower)?;
     assert!(rt; matches!(refute(&plan, 4), 1..=4));
+    Ok(())
+}
+
+// Halves the lengths from 1 up to 9.
+fn halving_plan(alloc: Global) -> Result<Plan, AllocError> {
+    let eight = ask(alloc, 8, Answer(9), Answer(8))?;
+    let six = ask(alloc, 6, Answer(7), Answer(6))?;
+    let seven = ask(alloc, 7, eight, six)?;
+    let four = ask(alloc, 4, Answer(5), Answer(4))?;
+    let one = ask(alloc, 1, Answer(2), Answer(1))?;
+    let two = ask(alloc, 2, Answer(3), one)?;
+    let three = ask(alloc, 3, four, two)?;
+    ask(alloc, 5, seven, three)
+}
+
+// What the plan answers where the first group has `len` elements, and after how many questions; of a plan that asks at most
+// 9 questions.
+fn follow(plan: &Plan, len: usize) -> (usize, usize) {
+    let mut current = plan;
+    for questions in 0..10 {
+        match current {
+            Ask(place, yes, no) => current = if *place < len { yes } else { no },
+            Answer(answer) => return (*answer, questions),
+        }
+    }
+    (0, 10)
+}
+
+#[test]
+fn plan_that_halves_nine(rt: HostRuntime) -> Result<(), AllocError> {
+    let plan = halving_plan(rt.alloc())?;
+    for len in 1..10 {
+        let (answer, questions) = follow(&plan, len);
+        assert_eq!(rt; answer, len);
+        assert!(rt; questions <= 4);
+    }
+    let len = refute(&plan, 9);
+    let (_, questions) = follow(&plan, len);
+    assert_eq!(rt; questions, 4);
     Ok(())
 }
