@@ -12,7 +12,7 @@ use Rattle.std.specs.declared.cmp.Ordering.TheVariants.{Less, Equal, Greater}
 use Rattle.sgb_search.specs.Runs.{IsRun, MayAskAll, AnswersBy}
 use Rattle.sgb_search.specs.Halving.{MayProbe}
 use Rattle.sgb_search.specs.Galloping.{IsGalloped, GallopedBy, TwoAnswers, place_of}
-use Rattle.sgb_search.specs.Search.{AnswersAt, IsLocalAnswer, IsGap, FindsIn, IsLessEqualGreater, NeverDescends, MayCall, Computes, ComparesKey, EndsEqual, IsSearch}
+use Rattle.sgb_search.specs.Search.{AnswersAt, IsLocalAnswer, FindsIn, IsLessEqualGreater, MayCall, Computes, ComparesKey, EndsEqual, IsSearch}
 use Rattle.sgb_search.proofs.Each.{all_contains}
 use Rattle.sgb_search.proofs.Counting.{less_count}
 

@@ -2,7 +2,7 @@
 --     IsLocalAnswer ord xs r     on any list, where ord x is what the comparator answers of x
 --     FindsIn ord xs r           on a list whose answers are Less, then Equal, then Greater
 --     IsSearch may gives xs f r  the questions, whatever is answered
-use Rattle.std.specs.Prelude.{◌≡◌, ℕ, ◌+◌, ◌-◌, ◌*◌, ◌<◌, ◌≤◌, List, [], ◌∷◌, ◌++◌, length, map, ◌⊎◌, ◌≢◌, Result, Ok, Err, Some, count_by}
+use Rattle.std.specs.Prelude.{◌≡◌, ℕ, ◌+◌, ◌-◌, ◌*◌, ◌<◌, ◌≤◌, List, [], ◌∷◌, ◌++◌, length, ◌⊎◌, ◌≢◌, Result, Ok, Err, Some, count_by}
 use Rattle.std.specs.List.{AllByRecursion, Contains, slice_get}
 use Rattle.std.specs.List.Sorted.{IsNonDecreasingBy, IsPartitionPoint}
 use Rattle.std.specs.Fn.{Mut, TakesAt, CalledAt}

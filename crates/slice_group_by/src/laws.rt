@@ -29,8 +29,8 @@ ghost use Rattle.slice_group_by.specs.Plans.{run, IsRight, IsHalvingPlan};
 ghost use Rattle.slice_group_by.specs.Walk.{Partition, IsChain};
 ghost use Rattle.slice_group_by.specs.Queue.{at_end, answers, left};
 
-use crate::queue::GroupQueue;
 pub use crate::plans::{Plan, refute};
+use crate::queue::GroupQueue;
 pub use crate::ranks::rank_groups;
 use sgb_linear_group::groups::LinearGroups;
 use sgb_linear_group::groups_mut::LinearGroupsMut;

@@ -1,7 +1,6 @@
 //! Plans of questions, and what refutes them.
-use crate::laws::Plan;
 use crate::laws::Plan::{Answer, Ask};
-use crate::laws::refute;
+use crate::laws::{Plan, refute};
 use std::alloc::{AllocError, Global};
 
 fn ask(alloc: Global, place: usize, yes: Plan, no: Plan) -> Result<Plan, AllocError> {

@@ -47,8 +47,16 @@ fn by_key(rt: HostRuntime) {
     let slice = PAIRS;
     assert_eq!(rt; exponential_search_by_key(&slice, &13, |&(_, b)| b), Ok(9));
     assert_eq!(rt; exponential_search_by_key(&slice, &4, |&(_, b)| b), Err(7));
-    assert_eq!(rt; exponential_search_by_key(&slice, &100, |&(_, b)| b), Err(13));
-    assert!(rt; matches!(exponential_search_by_key(&slice, &1, |&(_, b)| b), Ok(1..=4)));
+    assert_eq!(rt;
+        exponential_search_by_key(&slice, &100, |&(_, b)| b),
+        Err(13)
+    );
+    assert!(rt;
+        matches!(
+            exponential_search_by_key(&slice, &1, |&(_, b)| b),
+            Ok(1..=4)
+        )
+    );
 }
 
 #[test]

@@ -1,4 +1,4 @@
-use Rattle.std.proofs.Common.{rules, ℕ, zero, suc, ◌≡◌, ◌≢◌, ◌<◌, ◌≤◌, Bool, true, false, cond, nat_lt, List, [], ◌∷◌, ◌++◌, length, take, drop, get_or, ◌-◌, sym, ap, arith, inl, inr, take_all, length-drop}
+use Rattle.std.proofs.Common.{rules, ℕ, zero, suc, ◌≡◌, ◌<◌, ◌≤◌, Bool, cond, nat_lt, List, [], ◌∷◌, length, take, drop, get_or, ◌-◌, sym, ap, arith, inl, inr, take_all, length-drop}
 use Rattle.std.specs.Prelude.{◌⊎◌}
 use borrow.Author.Tests.{lt-ltb, le-ltb}
 use Rattle.std.specs.Ordering.{ordering_index}
@@ -8,7 +8,6 @@ use Rattle.std.specs.declared.cmp.Ordering.{Ordering}
 use Rattle.std.specs.declared.cmp.Ordering.TheVariants.{Less, Equal, Greater}
 use Rattle.std.proofs.lemmas.Fn.{always_returns_same}
 use Rattle.std.proofs.lemmas.List.{take-append-drop}
-use Rattle.std.proofs.lemmas.Bool.Decides.{nat_tests}
 use Rattle.slice_group_by.proofs.tests.index_reader.entries_from.Goals as goal
 
 -- what the comparator answers
