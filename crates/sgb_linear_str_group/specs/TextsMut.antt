@@ -18,13 +18,16 @@ pub record TextGroupsMut (J : Type 0) : Type 0 where
 abbrev pub seen_text : {J : Type 0} → TextGroupsMut J → TextGroups J
 seen_text s = record { text = s.text; judge = s.judge }
 
+-- no more groups come than bytes remain, as for reading
 abbrev pub text_groups_mut_left : {J : Type 0} → TextGroupsMut J → Count
 text_groups_mut_left s = text_groups_left (seen_text s)
 
 module _ {J : Type 0} (g : Ghosts J ℕ) where
+  -- a group may be asked for, as for reading
   abbrev pub IsCallableTextMut : TextGroupsMut J → Type 0
   IsCallableTextMut s = IsCallableText g (seen_text s)
 
+  -- the judge answers as the test says, as for reading
   abbrev pub IsSettledTextMut : TextGroupsMut J → (ℕ → ℕ → Bool) → Type 0
   IsSettledTextMut s p = IsSettledText g (seen_text s) p
 

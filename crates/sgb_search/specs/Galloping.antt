@@ -27,14 +27,18 @@ module _ {S : Type 0} (may : S → ℕ → Type 0) (gives : S → ℕ → Orderi
     pub high_end : (high ≡ len) ⊎ ((o : Ordering) × Contains rs (high - 1, o) × (o ≢ Less))
     pub none : len ≡ 0 → length rs ≡ 0
 
+  -- there is such a run
   abbrev pub IsBracket : ℕ → S → ℕ → ℕ → S → Type 0
   IsBracket len s low high t = (rs : List (ℕ × Ordering)) × Brackets len s rs low high t
 
+  -- what an answer tells: of `Ok`, that the last question was about it and was answered Equal; of `Err`, that the place before
+  -- it was answered Less and it itself Greater, where they are places, or that one of them was answered in two ways
   abbrev pub IsGallopPlace : ℕ → List (ℕ × Ordering) → Result ℕ ℕ → Type 0
   IsGallopPlace len rs (Ok i) = (i < len) × ((front : List (ℕ × Ordering)) × (rs ≡ front ++ (i, Equal) ∷ []))
   IsGallopPlace len rs (Err i) =
       (i ≤ len) × ((i ≡ 0) ⊎ (((0 < i) × Contains rs (i - 1, Less)) ⊎ TwoAnswers rs i)) × ((i ≡ len) ⊎ (((i < len) × Contains rs (i, Greater)) ⊎ ((0 < i) × TwoAnswers rs (i - 1))))
 
+  -- the run of a galloping search: each question about a place, at most as many as its answer allows, and what it tells
   pub record GallopedBy (len : ℕ) (s : S) (r : Result ℕ ℕ) (t : S) (rs : List (ℕ × Ordering)) : Type 0 where
     pub run : IsRun may gives s rs t
     pub within : AllByRecursion (λ r. IsBetween 0 len r.0) rs
@@ -42,5 +46,6 @@ module _ {S : Type 0} (may : S → ℕ → Type 0) (gives : S → ℕ → Orderi
     pub none : len ≡ 0 → length rs ≡ 0
     pub place : IsGallopPlace len rs r
 
+  -- there is such a run
   abbrev pub IsGalloped : ℕ → S → Result ℕ ℕ → S → Type 0
   IsGalloped len s r t = (rs : List (ℕ × Ordering)) × GallopedBy len s r t rs

@@ -12,8 +12,9 @@ pub enum Plan {
     Ask(usize, Box<Plan>, Box<Plan>),
 }
 
-/// A length of the first group, from 1 up to `n`, at which the plan answers something else, or asks as many questions as a
-/// halving search may: `digits(n - 1)`, the number of binary digits. It takes no memory, and time by the depth of the plan.
+/// A length of the first group, from 1 up to `n`, at which the plan answers something else, or asks at least as many
+/// questions as a halving search may: `digits(n - 1)`, the number of binary digits. It takes no memory, and time by the
+/// depth of the plan.
 ///
 /// ```
 /// refute(&Plan::Answer(1), 2); // 2
