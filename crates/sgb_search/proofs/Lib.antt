@@ -12,6 +12,9 @@ pub mod LinearQueue
 pub mod Digits
 pub mod Halving
 pub mod Galloping
+pub mod Seeking
+pub mod Apart
+pub mod Jumping
 pub mod Counting
 pub mod Readings
 pub mod Ascending

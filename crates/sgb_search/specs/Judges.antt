@@ -4,6 +4,7 @@ use Rattle.std.specs.Borrow.{Bor}
 use Rattle.std.specs.Fn.{Takes, TakesAt, TakesAtTwo, Called, CalledAt, CalledAtTwo, AlwaysReturns, Mut}
 use Rattle.sgb_search.specs.Runs.{MayAskAll, AnswersBy}
 use Rattle.sgb_search.specs.Neighbours.{AreNeighbours, on_pairs}
+use Rattle.sgb_search.specs.Apart.{AreApart}
 use Rattle.sgb_search.specs.declared.judge.Judge.{Ghosts}
 use Rattle.sgb_search.specs.declared.judge.PredicateJudge.{PredicateJudge}
 use Rattle.sgb_search.specs.declared.judge.KeyJudge.{KeyJudge}
@@ -19,6 +20,14 @@ module _ {J T : Type 0} (g : Ghosts J T) where
   -- each answer to questions about neighbouring pairs of the list, in any order, is what p says; whether they may be asked it leaves open
   abbrev pub AnswersAlong : List T → (T → T → Bool) → J → Type 0
   AnswersAlong xs p j = AnswersBy g.may_ask g.answers (AreNeighbours xs) (on_pairs p) j
+
+  -- the judge may be asked about every two different places of the list, in both orders, now and after any such questions
+  abbrev pub MayAskApart : List T → J → Type 0
+  MayAskApart xs j = MayAskAll g.may_ask g.answers (AreApart xs) j
+
+  -- each answer to such questions is what p says; whether they may be asked it leaves open
+  abbrev pub AnswersApart : List T → (T → T → Bool) → J → Type 0
+  AnswersApart xs p j = AnswersBy g.may_ask g.answers (AreApart xs) (on_pairs p) j
 
 -- by predicate: one call
 abbrev pub by_predicate : {P T : Type 0} → Mut P (Bor T × (Bor T × Unit {0})) Bool → Ghosts (PredicateJudge P) T

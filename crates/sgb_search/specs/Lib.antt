@@ -2,10 +2,14 @@ pub mod Split
 pub mod Neighbours
 pub mod Ends
 pub mod Runs
+pub mod Apart
 pub mod Judges
 pub mod Groups
 pub mod LinearCalls
 pub mod Digits
 pub mod Halving
 pub mod Galloping
+pub mod Seeking
+pub mod Jumps
+pub mod JumpingCalls
 pub mod Search

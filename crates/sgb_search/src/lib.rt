@@ -5,10 +5,12 @@
 //! linear call gives of a list).
 #![tactic(auto)]
 
+pub mod cut;
 pub mod judge;
 pub mod laws;
 pub mod probe;
 pub mod questions;
 pub mod search;
+pub mod strategy;
 #[cfg(test)]
 mod tests;

@@ -1,0 +1,67 @@
+-- The questions of a call that jumps: it asks about its outermost element and others, and not about each neighbouring pair.
+use Rattle.std.specs.Prelude.{◌≡◌, ℕ, ◌+◌, ◌-◌, ◌*◌, ◌<◌, ◌≤◌, Bool, true, false, List, length, ◌⊎◌, Some, slice_get}
+use Rattle.std.specs.List.{AllByRecursion, Contains}
+use Rattle.sgb_search.specs.declared.judge.Judge.{Ghosts}
+use Rattle.sgb_search.specs.Digits.{digits}
+use Rattle.sgb_search.specs.Runs.{IsRun}
+
+-- what a way to search for the end of a group may ask
+pub record SearchCost : Type 0 where
+  -- the most questions of a call that takes g of n elements
+  pub call : ℕ → ℕ → ℕ
+  -- the most questions of all calls on n elements
+  pub walk : ℕ → ℕ
+  -- an element may be asked about more than once
+  pub again : Bool
+
+-- by halving the places beside the outermost element
+abbrev pub halving : SearchCost
+halving = record { call = λ n g. digits (n - 1); walk = λ n. n * digits n; again = false }
+
+-- by galloping over them from the outermost element on
+abbrev pub galloping : SearchCost
+galloping = record { call = λ n g. 2 * digits g + 1; walk = λ n. 3 * n; again = true }
+
+-- m questions are within the cost of a call that takes g of n elements, and no more than it takes off the cost of all calls
+pub record IsWithin (cost : SearchCost) (n g m : ℕ) : Type 0 where
+  pub call : m ≤ cost.call n g
+  pub walk : m + cost.walk (n - g) ≤ cost.walk n
+
+-- xs: the remainder as it reads from the call's end on, the outermost element first
+module _ {T : Type 0} (xs : List T) where
+  -- the pair is the outermost element and one at another place
+  abbrev pub IsOutward : T × T → Type 0
+  IsOutward q = (slice_get xs 0 ≡ Some q.0) × ((i : ℕ) × (0 < i) × (slice_get xs i ≡ Some q.1))
+
+  -- the outermost element and the one at place i were asked about, and the answer was b
+  abbrev pub Asked : List ((T × T) × Bool) → ℕ → Bool → Type 0
+  Asked qs i b = (x : T) × (y : T) × (slice_get xs 0 ≡ Some x) × (slice_get xs i ≡ Some y) × Contains qs ((x, y), b)
+
+  -- both answers came about the one at place i
+  abbrev pub BothWays : List ((T × T) × Bool) → ℕ → Type 0
+  BothWays qs i = Asked qs i true × Asked qs i false
+
+  -- the innermost of the first g elements was accepted, if there are more than one
+  abbrev pub IsInner : List ((T × T) × Bool) → ℕ → Type 0
+  IsInner qs g = (g ≡ 1) ⊎ Asked qs (g - 1) true
+
+  -- the element beyond them was refused, if there is one
+  abbrev pub IsBeyond : List ((T × T) × Bool) → ℕ → Type 0
+  IsBeyond qs g = (g ≡ length xs) ⊎ Asked qs g false
+
+  -- the first g end there by the answers: both of the above; or, where an element may be asked about again, both answers came about one of the two
+  abbrev pub EndsBy : Bool → List ((T × T) × Bool) → ℕ → Type 0
+  EndsBy again qs g = (IsInner qs g × IsBeyond qs g) ⊎ ((again ≡ true) × (((1 < g) × BothWays qs (g - 1)) ⊎ BothWays qs g))
+
+  -- the questions of a call that takes the first g elements, from the state j of the judge to the state k
+  pub record Jumps {J : Type 0} (judge : Ghosts J T) (cost : SearchCost) (j : J) (g : ℕ) (k : J) : Type 0 where
+    pub questions : List ((T × T) × Bool)
+    pub run : IsRun judge.may_ask judge.answers j questions k
+    pub outward : AllByRecursion (λ r. IsOutward r.0) questions
+    pub few : IsWithin cost (length xs) g (length questions)
+    pub ends : EndsBy cost.again questions g
+
+  -- by p the first g elements end at a local boundary: the innermost agrees with the outermost, and the element beyond does not
+  pub record IsLocalEnd (p : T → T → Bool) (g : ℕ) : Type 0 where
+    pub inner : (x y : T) → 1 < g → slice_get xs 0 ≡ Some x → slice_get xs (g - 1) ≡ Some y → p x y ≡ true
+    pub beyond : (x y : T) → slice_get xs 0 ≡ Some x → slice_get xs g ≡ Some y → p x y ≡ false
