@@ -15,6 +15,9 @@ pub mod Galloping
 pub mod Seeking
 pub mod Apart
 pub mod Jumping
+pub mod Grouped
+pub mod JumpingPieces
+pub mod JumpingQueue
 pub mod Counting
 pub mod Readings
 pub mod Ascending

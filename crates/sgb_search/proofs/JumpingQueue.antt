@@ -1,0 +1,62 @@
+-- The laws of a queue for calls that jump, at each end.
+use Rattle.std.proofs.Common.{◌≡◌, ℕ, ◌+◌, ◌-◌, ◌<◌, ◌≤◌, Bool, true, false, List, [], length, Option, None, Some, refl, ap, ◌∙◌, arith, length-append, reverse}
+use Rattle.std.proofs.lemmas.List.{length-reverse}
+use Rattle.sgb_search.specs.declared.judge.Judge.{Ghosts}
+use Rattle.sgb_search.specs.Runs.{IsRunOf, AsksWithin}
+use Rattle.sgb_search.specs.Ends.{CutsFront, CutsBack}
+use Rattle.sgb_search.specs.Split.{TakesFirst, TakesLast}
+use Rattle.sgb_search.specs.Groups.{Groups}
+use Rattle.sgb_search.specs.Jumps.{SearchCost, Jumps}
+use Rattle.sgb_search.specs.JumpingCalls.{IsSettledApart, FrontJump, BackJump}
+use Rattle.sgb_search.proofs.Runs.{run_of_none, run_of_more}
+use Rattle.sgb_search.proofs.JumpingPieces.{front_gives_piece, back_gives_piece}
+
+module _ {T J : Type 0} (g : Ghosts J T) (cost : SearchCost) where
+  some : (xs : List T) → 0 < length xs → xs ≡ [] → ⊥
+  some xs l e = omega (arith, l, ap length e)
+
+  pub front_part : (s : Groups T J) (r : Option (List T)) (t : Groups T J) → FrontJump g cost s r t → CutsFront s.remainder r t.remainder
+  front_part s None t h = (h.0, ap (λ u. u.remainder) h.1 ∙ h.0)
+  front_part s (Some x) t h = (some x h.nonempty, h.cut)
+
+  pub back_part : (s : Groups T J) (r : Option (List T)) (t : Groups T J) → BackJump g cost s r t → CutsBack s.remainder r t.remainder
+  back_part s None t h = (h.0, ap (λ u. u.remainder) h.1 ∙ h.0)
+  back_part s (Some x) t h = (some x h.nonempty, h.cut)
+
+  pub front_piece : (s : Groups T J) (r : Option (List T)) (t : Groups T J) (p : T → T → Bool) → FrontJump g cost s r t → IsSettledApart g s p → TakesFirst p s.remainder r t.remainder × IsSettledApart g t p
+  front_piece s r t p h m = front_gives_piece g cost p s t r m h
+
+  pub back_piece : (s : Groups T J) (r : Option (List T)) (t : Groups T J) (p : T → T → Bool) → BackJump g cost s r t → IsSettledApart g s p → TakesLast p s.remainder r t.remainder × IsSettledApart g t p
+  back_piece s r t p h m = back_gives_piece g cost p s t r m h
+
+  -- n questions were asked, and those of a walk over what remains are due
+  abbrev asked : Groups T J → Groups T J → ℕ → Type 0
+  asked s t n = IsRunOf g.may_ask g.answers n s.judge t.judge
+
+  abbrev due : Groups T J → ℕ
+  due s = cost.walk (length s.remainder)
+
+  pub asked_none : (s : Groups T J) → asked s s 0
+  asked_none s = run_of_none g.may_ask g.answers s.judge
+
+  pub asked_more : (s t u : Groups T J) (k m : ℕ) → asked s t k → asked t u m → asked s u (k + m)
+  asked_more s t u k m = run_of_more g.may_ask g.answers s.judge t.judge u.judge k m
+
+  nothing_asked : (s t : Groups T J) → t ≡ s → AsksWithin asked due false s t
+  nothing_asked s t e = record { number = 0; asks = ([], ap (λ u. u.judge) e, refl); most = omega (arith, ap due e); all = λ never. cc never }
+
+  jump_asks : (s t : Groups T J) (xs : List T) (n : ℕ) → length xs ≡ length s.remainder → length s.remainder - n ≡ length t.remainder → Jumps xs g cost s.judge n t.judge → AsksWithin asked due false s t
+  jump_asks s t xs n e f h = record {
+    number = length h.questions;
+    asks = (h.questions, h.run, refl);
+    most = omega (arith, h.few.walk, ap cost.walk e, ap (λ (m : ℕ). cost.walk (m - n)) e, ap cost.walk f);
+    all = λ never. cc never;
+  }
+
+  pub front_asks : (s : Groups T J) (r : Option (List T)) (t : Groups T J) → FrontJump g cost s r t → AsksWithin asked due false s t
+  front_asks s None t h = nothing_asked s t h.1
+  front_asks s (Some x) t h = jump_asks s t s.remainder (length x) refl (omega (arith, ap length h.cut, length-append x t.remainder)) h.asked
+
+  pub back_asks : (s : Groups T J) (r : Option (List T)) (t : Groups T J) → BackJump g cost s r t → AsksWithin asked due false s t
+  back_asks s None t h = nothing_asked s t h.1
+  back_asks s (Some x) t h = jump_asks s t (reverse s.remainder) (length x) (length-reverse s.remainder) (omega (arith, ap length h.cut, length-append t.remainder x)) h.asked
