@@ -4,6 +4,7 @@ use Rattle.std.proofs.Common.{refl, ap, ◌∙◌}
 use Rattle.std.specs.Borrow.{Bor}
 use Rattle.std.specs.Fn.{Mut, Takes, TakesAt, Called, CalledAt, CalledAtTwo, ComputesOnPairs, ComputesKey}
 use denote.Param.Always.{always_mut, mut_next}
+use Rattle.sgb_search.specs.Runs.{MayAskAll, AnswersBy}
 use Rattle.sgb_search.specs.Judges.{MayAskAlong, AnswersAlong, by_predicate, predicate_judge, by_key, key_judge, MayCompareKeys, ComparesKeys, by_char_predicate, char_predicate_judge, by_char_key, char_key_judge, CalledAtChar, ComputesOnChars, ComputesCharKey}
 use Rattle.std.specs.List.{Contains}
 use Rattle.sgb_search.specs.Neighbours.{AreNeighbours, on_pairs}
@@ -37,9 +38,9 @@ module _ {F T K : Type 0} (takes : F → T → Type 0) (calls : F → T → K �
 
 module _ {P T : Type 0} (g : Mut P (Bor T × (Bor T × Unit {0})) Bool) where
   -- a predicate that may always be called
-  pub predicate_callable : (xs : List T) (f : P) → always_mut g f → MayAskAlong (by_predicate g) xs (predicate_judge f)
-  predicate_callable xs f h =
-      may_ask_by _ _ (AreNeighbours xs) (λ j. always_mut g j.predicate)
+  pub predicate_callable : (allowed : T × T → Type 0) (f : P) → always_mut g f → MayAskAll (by_predicate g).may_ask (by_predicate g).answers allowed (predicate_judge f)
+  predicate_callable allowed f h =
+      may_ask_by _ _ allowed (λ j. always_mut g j.predicate)
       (λ j q i ok v w e d. taken g j.predicate (v, (w, tt)) i)
       (λ j q b k i ok c. always_next g j.predicate (c.first, (c.second, tt)) b k.predicate c.called i)
       (predicate_judge f) h
@@ -52,18 +53,18 @@ module _ {P T : Type 0} (g : Mut P (Bor T × (Bor T × Unit {0})) Bool) where
       record { at = λ xs. (h.at ((c.first, (c.second, tt)) ∷ xs) b f' c.called).1 },
     )
 
-    pub predicate_settled : (xs : List T) (f : P) → ComputesOnPairs g p f → AnswersAlong (by_predicate g) xs p (predicate_judge f)
-    predicate_settled xs f h =
-        answers_by _ _ (AreNeighbours xs) (on_pairs p) (λ j. ComputesOnPairs g p j.predicate) (λ j q b k i c. computes_next j.predicate q.0 q.1 b k.predicate i c) (predicate_judge f) h
+    pub predicate_settled : (allowed : T × T → Type 0) (f : P) → ComputesOnPairs g p f → AnswersBy (by_predicate g).may_ask (by_predicate g).answers allowed (on_pairs p) (predicate_judge f)
+    predicate_settled allowed f h =
+        answers_by _ _ allowed (on_pairs p) (λ j. ComputesOnPairs g p j.predicate) (λ j q b k i c. computes_next j.predicate q.0 q.1 b k.predicate i c) (predicate_judge f) h
 
 module _ {F T K : Type 0} (g : Mut F (Bor T × Unit {0}) K) (eq : K → K → Bool) where
   key_called : (f : F) (x : T) (k : K) (f' : F) → CalledAt g f x k f' → always_mut g f → always_mut g f'
   key_called f x k f' c i = always_next g f (c.shown, tt) k f' c.called i
 
   -- a key function that may always be called
-  pub key_callable : (xs : List T) (f : F) → always_mut g f → MayAskAlong (by_key g eq) xs (key_judge f)
-  key_callable xs f h =
-      may_ask_by _ _ (AreNeighbours xs) (λ j. always_mut g j.func)
+  pub key_callable : (allowed : T × T → Type 0) (f : F) → always_mut g f → MayAskAll (by_key g eq).may_ask (by_key g eq).answers allowed (key_judge f)
+  key_callable allowed f h =
+      may_ask_by _ _ allowed (λ j. always_mut g j.func)
       (λ j q i ok. may_compare (TakesAt g) (CalledAt g) (always_mut g) key_called (λ f x i v e. taken g f (v, tt) i) j.func q i)
       (λ j q b k i ok c. compared_next (TakesAt g) (CalledAt g) (always_mut g) key_called eq j.func q.0 q.1 b k.func c i)
       (key_judge f) h
@@ -73,9 +74,9 @@ module _ {F T K : Type 0} (g : Mut F (Bor T × Unit {0}) K) (eq : K → K → Bo
     key_next : (f : F) (x : T) (k : K) (f' : F) → ComputesKey g key f → CalledAt g f x k f' → (k ≡ key x) × ComputesKey g key f'
     key_next f x k f' h c = ((h.at ((c.shown, tt) ∷ []) k f' c.called).0 ∙ ap key c.shows, record { at = λ xs. (h.at ((c.shown, tt) ∷ xs) k f' c.called).1 })
 
-    pub key_settled : (xs : List T) (f : F) → ComputesKey g key f → AnswersAlong (by_key g eq) xs (λ x y. eq (key x) (key y)) (key_judge f)
-    key_settled xs f h =
-        answers_by _ _ (AreNeighbours xs) (on_pairs (λ x y. eq (key x) (key y))) (λ j. ComputesKey g key j.func)
+    pub key_settled : (allowed : T × T → Type 0) (f : F) → ComputesKey g key f → AnswersBy (by_key g eq).may_ask (by_key g eq).answers allowed (on_pairs (λ x y. eq (key x) (key y))) (key_judge f)
+    key_settled allowed f h =
+        answers_by _ _ allowed (on_pairs (λ x y. eq (key x) (key y))) (λ j. ComputesKey g key j.func)
         (λ j q b k i c. keys_next (TakesAt g) (CalledAt g) key (ComputesKey g key) key_next eq j.func q.0 q.1 b k.func i c)
         (key_judge f) h
 

@@ -21,3 +21,4 @@ pub mod JumpingQueue
 pub mod Counting
 pub mod Readings
 pub mod Ascending
+pub mod AscendingGroups

@@ -1,12 +1,13 @@
 //! Laws of the definitions. Each is a function that does nothing: its contract is the law, and a caller cites it.
-ghost use Rattle.std.specs.Prelude.{◌≡◌, ℕ, ◌+◌, ◌-◌, ◌^◌, ◌<◌, ◌≤◌, Bool, List, length};
+ghost use Rattle.std.specs.Prelude.{◌≡◌, ℕ, ◌+◌, ◌-◌, ◌^◌, ◌<◌, ◌≤◌, Bool, List, length, map};
 ghost use Rattle.std.specs.Fn.{ComputesKey};
 ghost use Rattle.sgb_search.specs.Digits.{digits};
-ghost use Rattle.sgb_search.specs.Search.{MayCall, Computes};
+ghost use Rattle.sgb_search.specs.Apart.{IsGrouped};
+ghost use Rattle.sgb_search.specs.Search.{MayCall, Computes, NeverDescends};
 ghost use Rattle.sgb_search.specs.Split.{IsSplit, split, refused_pairs};
 ghost use Rattle.sgb_search.specs.Neighbours.{neighbours, front_questions, back_questions};
 ghost use Rattle.sgb_search.specs.Runs.{IsRunOf};
-ghost use Rattle.sgb_search.specs.Judges.{MayAskAlong, AnswersAlong, by_predicate, predicate_judge, by_key, key_judge, by_char_predicate, char_predicate_judge, by_char_key, char_key_judge, by_equality};
+ghost use Rattle.sgb_search.specs.Judges.{MayAskAlong, AnswersAlong, MayAskApart, AnswersApart, by_predicate, predicate_judge, by_key, key_judge, by_char_predicate, char_predicate_judge, by_char_key, char_key_judge, by_equality};
 ghost use Rattle.sgb_search.specs.declared.judge.EqualityJudge.{EqualityJudge};
 
 /// Each list has exactly one split for a test. It has one piece more than the test refuses pairs, and none if it is
@@ -41,6 +42,18 @@ pub fn always_callable_key<T, F: FnMut(&T) -> K, K: PartialEq + Drop>()
     ensures { (xs : List T) (func : F) → F.IsAlwaysCallable func → MayAskAlong (by_key F.FnMut K.eq) xs (key_judge func) }
 {}
 
+/// A predicate that may always be called may be asked about every two different places of every slice, in both orders.
+#[inline]
+pub fn always_callable_apart<T, P: FnMut(&T, &T) -> bool>()
+    ensures { (xs : List T) (predicate : P) → P.IsAlwaysCallable predicate → MayAskApart (by_predicate P.FnMut) xs (predicate_judge predicate) }
+{}
+
+/// A key function that may always be called may be asked about every two different places of every slice, in both orders.
+#[inline]
+pub fn always_callable_key_apart<T, F: FnMut(&T) -> K, K: PartialEq + Drop>()
+    ensures { (xs : List T) (func : F) → F.IsAlwaysCallable func → MayAskApart (by_key F.FnMut K.eq) xs (key_judge func) }
+{}
+
 /// A predicate of characters that may always be called may be asked about the neighbouring characters of every text.
 #[inline]
 pub fn always_callable_chars<P: FnMut(char, char) -> bool>()
@@ -58,6 +71,8 @@ pub fn always_callable_char_key<F: FnMut(char) -> K, K: PartialEq + Drop>()
 pub fn equality_judges<T: PartialEq>()
     ensures callable { (xs : List T) (j : EqualityJudge) → MayAskAlong (by_equality T.eq) xs j }
     ensures settled { (xs : List T) (j : EqualityJudge) → AnswersAlong (by_equality T.eq) xs T.eq j }
+    ensures callable_apart { (xs : List T) (j : EqualityJudge) → MayAskApart (by_equality T.eq) xs j }
+    ensures computes_apart { (xs : List T) (j : EqualityJudge) → AnswersApart (by_equality T.eq) xs T.eq j }
     ensures counts { (j k : EqualityJudge) (n : ℕ) → IsRunOf (by_equality T.eq).may_ask (by_equality T.eq).answers n j k → k.questions.asked ≡ j.questions.asked + n }
 {}
 
@@ -72,6 +87,13 @@ pub fn always_callable_on_elements<T, F: FnMut(&T) -> K, K>()
 #[inline]
 pub fn always_computes<T, F: FnMut(&T) -> K, K>(_f: &F)
     ensures { (xs : List T) (answer : T → K) (f : F) → ComputesKey F.FnMut answer f → Computes F.FnMut xs answer f }
+{}
+
+/// A list that ascends by a key is grouped for equality of that key, and one that ascends for equality of its elements.
+#[inline]
+pub fn ascending_is_grouped<T, K: Ord>()
+    ensures by_key { (key : T → K) (xs : List T) → NeverDescends K.cmp (map key xs) → IsGrouped (λ x y. K.eq (key x) (key y)) xs }
+    ensures by_itself { (xs : List K) → NeverDescends K.cmp xs → IsGrouped K.eq xs }
 {}
 
 /// The number of binary digits of m is the least d with m below the d-th power of two. So a search that halves n places asks

@@ -1,5 +1,6 @@
+use Rattle.sgb_search.specs.Neighbours.{AreNeighbours}
 use Rattle.sgb_search.proofs.Closures.{predicate_callable}
 use Rattle.sgb_search.proofs.laws.always_callable.Goals as goal
 
 pub returns : goal.returns
-returns g c = predicate_callable g.P.FnMut
+returns g c xs = predicate_callable g.P.FnMut (AreNeighbours xs)

@@ -1,5 +1,6 @@
+use Rattle.sgb_search.specs.Neighbours.{AreNeighbours}
 use Rattle.sgb_search.proofs.Closures.{key_callable}
 use Rattle.sgb_search.proofs.laws.always_callable_key.Goals as goal
 
 pub returns : goal.returns
-returns g c = key_callable g.F.FnMut g.K.PartialEq.eq
+returns g c xs = key_callable g.F.FnMut g.K.PartialEq.eq (AreNeighbours xs)

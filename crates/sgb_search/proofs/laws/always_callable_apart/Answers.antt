@@ -1,0 +1,6 @@
+use Rattle.sgb_search.specs.Apart.{AreApart}
+use Rattle.sgb_search.proofs.Closures.{predicate_callable}
+use Rattle.sgb_search.proofs.laws.always_callable_apart.Goals as goal
+
+pub returns : goal.returns
+returns g c xs = predicate_callable g.P.FnMut (AreApart xs)

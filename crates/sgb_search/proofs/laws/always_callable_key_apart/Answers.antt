@@ -1,0 +1,6 @@
+use Rattle.sgb_search.specs.Apart.{AreApart}
+use Rattle.sgb_search.proofs.Closures.{key_callable}
+use Rattle.sgb_search.proofs.laws.always_callable_key_apart.Goals as goal
+
+pub returns : goal.returns
+returns g c xs = key_callable g.F.FnMut g.K.PartialEq.eq (AreApart xs)
