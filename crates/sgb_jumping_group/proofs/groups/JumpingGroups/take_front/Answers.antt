@@ -1,0 +1,20 @@
+use Rattle.std.proofs.Common.{arith, ◌+◌, subst, sym, refl}
+use Rattle.sgb_search.specs.Judges.{MayAskApart}
+use Rattle.sgb_search.specs.Groups.{Groups}
+use Rattle.sgb_jumping_group.proofs.Cuts.{front_cut, callable_rest}
+use Rattle.sgb_jumping_group.proofs.groups.JumpingGroups.take_front.Goals as goal
+
+pub front_length-len-requires-clause-callable : goal.front_length-len-requires-clause-callable
+front_length-len-requires-clause-callable g c = subst (λ (s : Groups g.row.T.Denot g.row.J.Denot). MayAskApart g.J.Judge s.remainder s.judge) (sym c.self.view_is) c.requires
+
+pub returns-clause-gives : goal.returns-clause-gives
+returns-clause-gives g c =
+    let s = c.self.inside in
+    let e = c.front_length-len.ensures in
+    front_cut g.J.Judge g.S.GroupSearch.cost s.slice.now s.low s.high c.self.invariant.within _ _ c.front_length-len.result (s.low + c.front_length-len.result) refl e.nonempty (omega (arith, e.within, c.self.invariant.order)) e.asked _ c.self.view_is
+
+pub returns-clause-callable : goal.returns-clause-callable
+returns-clause-callable g c =
+    let s = c.self.inside in
+    let e = c.front_length-len.ensures in
+    callable_rest g.J.Judge s.slice.now s.low s.high _ (s.low + c.front_length-len.result) (omega arith) (omega (arith, e.within, c.self.invariant.order)) e.callable
