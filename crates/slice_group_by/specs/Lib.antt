@@ -9,10 +9,14 @@ pub use Rattle.sgb_search.specs.Runs
 pub use Rattle.sgb_search.specs.Judges
 pub use Rattle.sgb_search.specs.Groups
 pub use Rattle.sgb_search.specs.LinearCalls
+pub use Rattle.sgb_search.specs.Apart
+pub use Rattle.sgb_search.specs.Jumps
+pub use Rattle.sgb_search.specs.JumpingCalls
 pub use Rattle.sgb_search.specs.Digits
 pub use Rattle.sgb_search.specs.Search
 pub use Rattle.sgb_linear_group.specs.Linear
 pub use Rattle.sgb_linear_group.specs.LinearMut
+pub use Rattle.sgb_jumping_group.specs.Jumping
 pub use Rattle.sgb_linear_str_group.specs.Texts
 pub use Rattle.sgb_linear_str_group.specs.TextsMut
 pub use Rattle.sgb_loans.specs.GroupsMut

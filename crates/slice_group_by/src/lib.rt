@@ -12,6 +12,7 @@
 //! ```
 #![tactic(auto)]
 
+mod jumping;
 pub mod laws;
 mod linear;
 mod linear_mut;
@@ -21,6 +22,7 @@ pub mod loans;
 mod plans;
 mod queue;
 mod ranks;
+mod sorted;
 mod str_traits;
 #[cfg(test)]
 mod tests;
@@ -29,6 +31,10 @@ mod traits;
 pub use plans::{Plan, refute};
 pub use queue::{End, GroupQueue, walk};
 pub use ranks::rank_groups;
+pub use sgb_jumping_group::binary_group::{BinaryGroup, BinaryGroupBy, BinaryGroupByKey};
+pub use sgb_jumping_group::exponential_group::{
+    ExponentialGroup, ExponentialGroupBy, ExponentialGroupByKey,
+};
 pub use sgb_linear_group::linear_group::LinearGroup;
 pub use sgb_linear_group::linear_group_by::LinearGroupBy;
 pub use sgb_linear_group::linear_group_by_key::LinearGroupByKey;
@@ -44,5 +50,6 @@ pub use sgb_linear_str_group::linear_str_group_mut::LinearStrGroupMut;
 pub use sgb_search::search::{
     exponential_search, exponential_search_by, exponential_search_by_key,
 };
+pub use sorted::is_sorted_for_groups;
 pub use str_traits::{StrGroupBy, StrGroupByMut};
 pub use traits::{GroupBy, GroupByMut};

@@ -1,0 +1,21 @@
+//! Whether a slice is sorted, and so grouped.
+ghost use Rattle.std.specs.Prelude.{◌≡◌, true};
+ghost use Rattle.sgb_search.specs.Apart.{IsGrouped};
+ghost use Rattle.sgb_search.specs.Search.{NeverDescends};
+
+/// Whether no neighbouring pair of the slice descends. Then it is grouped for `==`, so that the binary and exponential
+/// iterators find the groups that the linear ones find. A slice may be grouped and not sorted, as `[2, 1]` is.
+///
+/// It compares each neighbouring pair from the front on, by `cmp`, up to the first that descends.
+///
+/// ```
+/// is_sorted_for_groups(&[1, 1, 2]); // true
+/// is_sorted_for_groups(&[1, 2, 1]); // false
+/// ```
+pub fn is_sorted_for_groups<T: Ord>(slice: &[T]) -> bool
+    ensures sorted { result ≡ true → NeverDescends T.cmp slice.now }
+    ensures only { NeverDescends T.cmp slice.now → result ≡ true }
+    ensures grouped { result ≡ true → IsGrouped T.eq slice.now }
+{
+    slice.is_sorted()
+}
