@@ -1,5 +1,5 @@
 //! Laws for the proofs of callers. Each is a function that does nothing: its contract is the law. `rank_groups`, which is
-//! proved from them, stands here too, and so do plans of questions, and `refute`.
+//! proved from them, stands here too, and so do `is_sorted_for_groups`, plans of questions, and `refute`.
 //!
 //! A function whose contract rests on a law calls it, and then its proof may cite it. Where a law takes a queue, that only
 //! names the type, which may hold a closure: the law is over all of its states.
@@ -29,18 +29,20 @@ ghost use Rattle.slice_group_by.specs.Plans.{run, IsRight, IsHalvingPlan};
 ghost use Rattle.slice_group_by.specs.Walk.{Partition, IsChain};
 ghost use Rattle.slice_group_by.specs.Queue.{at_end, answers, left};
 
+pub use crate::families::{families_agree, groups_end_locally};
 pub use crate::plans::{Plan, refute};
 use crate::queue::GroupQueue;
 pub use crate::ranks::rank_groups;
+pub use crate::sorted::is_sorted_for_groups;
 use sgb_linear_group::groups::LinearGroups;
 use sgb_linear_group::groups_mut::LinearGroupsMut;
 use sgb_linear_str_group::groups::LinearStrGroups;
 use sgb_linear_str_group::groups_mut::LinearStrGroupsMut;
 use sgb_search::judge::Judge;
 pub use sgb_search::laws::{
-    always_callable, always_callable_char_key, always_callable_chars, always_callable_key,
-    always_callable_on_elements, always_computes, digits_is_least, equality_judges, one_split,
-    question_count,
+    always_callable, always_callable_apart, always_callable_char_key, always_callable_chars,
+    always_callable_key, always_callable_key_apart, always_callable_on_elements, always_computes,
+    ascending_is_grouped, digits_is_least, equality_judges, one_split, question_count,
 };
 
 /// One call on a queue that is settled for a test: it gives the outermost piece of the split of what remained, or `None`

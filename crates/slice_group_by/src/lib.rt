@@ -12,6 +12,7 @@
 //! ```
 #![tactic(auto)]
 
+mod families;
 mod jumping;
 pub mod laws;
 mod linear;

@@ -2,12 +2,15 @@
 ghost use Rattle.std.specs.Prelude.{◌≡◌, Bool, List};
 ghost use Rattle.std.specs.Fn.{ComputesOnPairs, ComputesKey};
 ghost use Rattle.sgb_search.specs.Judges.{by_predicate, predicate_judge, by_key, key_judge, by_equality};
+ghost use Rattle.sgb_search.specs.Apart.{IsGrouped};
 ghost use Rattle.sgb_search.specs.LinearCalls.{IsCallable, IsSettled};
+ghost use Rattle.sgb_search.specs.JumpingCalls.{IsCallableApart, ComputesApart, IsSettledApart};
 ghost use Rattle.sgb_linear_group.specs.LinearMut.{IsCallableMut, IsSettledMut};
 ghost use Rattle.sgb_loans.specs.GroupsMut.{NothingOut};
 
 use crate::{
-    LinearGroup, LinearGroupBy, LinearGroupByKey, LinearGroupByKeyMut, LinearGroupByMut,
+    BinaryGroup, BinaryGroupBy, BinaryGroupByKey, ExponentialGroup, ExponentialGroupBy,
+    ExponentialGroupByKey, LinearGroup, LinearGroupBy, LinearGroupByKey, LinearGroupByKeyMut, LinearGroupByMut,
     LinearGroupMut,
 };
 
@@ -53,6 +56,68 @@ pub trait GroupBy<T> {
         ensures asked { result.judge.questions.asked ≡ 0 }
         ensures callable { IsCallable (by_equality T.eq) result }
         ensures settled { IsSettled (by_equality T.eq) result T.eq };
+
+    /// Groups by a key, found by halving: equal keys should stand side by side.
+    fn binary_group_by_key<F, K>(&self, func: F) -> BinaryGroupByKey<'_, T, F, K>
+    where
+        F: FnMut(&T) -> K,
+        K: PartialEq + Drop,
+        requires { IsCallableApart (by_key F.FnMut K.eq) (record { remainder = elements self.now; judge = key_judge func }) }
+        ensures is { result ≡ record { remainder = elements self.now; judge = key_judge func } }
+        ensures callable { IsCallableApart (by_key F.FnMut K.eq) result }
+        ensures computes { (key : T → K) → ComputesKey F.FnMut key func → ComputesApart (by_key F.FnMut K.eq) result (λ x y. K.eq (key x) (key y)) }
+        ensures settled { (key : T → K) → ComputesKey F.FnMut key func → IsGrouped (λ x y. K.eq (key x) (key y)) (elements self.now) → IsSettledApart (by_key F.FnMut K.eq) result (λ x y. K.eq (key x) (key y)) };
+
+    /// Groups by a predicate, found by halving: the slice should be grouped for it.
+    fn binary_group_by<P>(&self, predicate: P) -> BinaryGroupBy<'_, T, P>
+    where
+        P: FnMut(&T, &T) -> bool,
+        requires { IsCallableApart (by_predicate P.FnMut) (record { remainder = elements self.now; judge = predicate_judge predicate }) }
+        ensures is { result ≡ record { remainder = elements self.now; judge = predicate_judge predicate } }
+        ensures callable { IsCallableApart (by_predicate P.FnMut) result }
+        ensures computes { (p : T → T → Bool) → ComputesOnPairs P.FnMut p predicate → ComputesApart (by_predicate P.FnMut) result p }
+        ensures settled { (p : T → T → Bool) → ComputesOnPairs P.FnMut p predicate → IsGrouped p (elements self.now) → IsSettledApart (by_predicate P.FnMut) result p };
+
+    /// Groups of equal elements, found by halving: they should stand side by side.
+    fn binary_group(&self) -> BinaryGroup<'_, T>
+    where
+        T: PartialEq,
+        ensures remainder { result.remainder ≡ elements self.now }
+        ensures asked { result.judge.questions.asked ≡ 0 }
+        ensures callable { IsCallableApart (by_equality T.eq) result }
+        ensures computes { ComputesApart (by_equality T.eq) result T.eq }
+        ensures settled { IsGrouped T.eq (elements self.now) → IsSettledApart (by_equality T.eq) result T.eq };
+
+    /// Groups by a key, found by galloping: equal keys should stand side by side.
+    fn exponential_group_by_key<F, K>(&self, func: F) -> ExponentialGroupByKey<'_, T, F, K>
+    where
+        F: Fn(&T) -> K,
+        K: PartialEq + Drop,
+        requires { IsCallableApart (by_key F.FnMut K.eq) (record { remainder = elements self.now; judge = key_judge func }) }
+        ensures is { result ≡ record { remainder = elements self.now; judge = key_judge func } }
+        ensures callable { IsCallableApart (by_key F.FnMut K.eq) result }
+        ensures computes { (key : T → K) → ComputesKey F.FnMut key func → ComputesApart (by_key F.FnMut K.eq) result (λ x y. K.eq (key x) (key y)) }
+        ensures settled { (key : T → K) → ComputesKey F.FnMut key func → IsGrouped (λ x y. K.eq (key x) (key y)) (elements self.now) → IsSettledApart (by_key F.FnMut K.eq) result (λ x y. K.eq (key x) (key y)) };
+
+    /// Groups by a predicate, found by galloping: the slice should be grouped for it.
+    fn exponential_group_by<P>(&self, predicate: P) -> ExponentialGroupBy<'_, T, P>
+    where
+        P: FnMut(&T, &T) -> bool,
+        requires { IsCallableApart (by_predicate P.FnMut) (record { remainder = elements self.now; judge = predicate_judge predicate }) }
+        ensures is { result ≡ record { remainder = elements self.now; judge = predicate_judge predicate } }
+        ensures callable { IsCallableApart (by_predicate P.FnMut) result }
+        ensures computes { (p : T → T → Bool) → ComputesOnPairs P.FnMut p predicate → ComputesApart (by_predicate P.FnMut) result p }
+        ensures settled { (p : T → T → Bool) → ComputesOnPairs P.FnMut p predicate → IsGrouped p (elements self.now) → IsSettledApart (by_predicate P.FnMut) result p };
+
+    /// Groups of equal elements, found by galloping: they should stand side by side.
+    fn exponential_group(&self) -> ExponentialGroup<'_, T>
+    where
+        T: PartialEq,
+        ensures remainder { result.remainder ≡ elements self.now }
+        ensures asked { result.judge.questions.asked ≡ 0 }
+        ensures callable { IsCallableApart (by_equality T.eq) result }
+        ensures computes { ComputesApart (by_equality T.eq) result T.eq }
+        ensures settled { IsGrouped T.eq (elements self.now) → IsSettledApart (by_equality T.eq) result T.eq };
 }
 
 impl<T> GroupBy<T> for &[T] {
@@ -81,6 +146,56 @@ impl<T> GroupBy<T> for &[T] {
         T: PartialEq,
     {
         LinearGroup::new(*self)
+    }
+
+    #[inline]
+    fn binary_group_by_key<F, K>(&self, func: F) -> BinaryGroupByKey<'_, T, F, K>
+    where
+        F: FnMut(&T) -> K,
+        K: PartialEq + Drop,
+    {
+        BinaryGroupByKey::new(*self, func)
+    }
+
+    #[inline]
+    fn binary_group_by<P>(&self, predicate: P) -> BinaryGroupBy<'_, T, P>
+    where
+        P: FnMut(&T, &T) -> bool,
+    {
+        BinaryGroupBy::new(*self, predicate)
+    }
+
+    #[inline]
+    fn binary_group(&self) -> BinaryGroup<'_, T>
+    where
+        T: PartialEq,
+    {
+        BinaryGroup::new(*self)
+    }
+
+    #[inline]
+    fn exponential_group_by_key<F, K>(&self, func: F) -> ExponentialGroupByKey<'_, T, F, K>
+    where
+        F: Fn(&T) -> K,
+        K: PartialEq + Drop,
+    {
+        ExponentialGroupByKey::new(*self, func)
+    }
+
+    #[inline]
+    fn exponential_group_by<P>(&self, predicate: P) -> ExponentialGroupBy<'_, T, P>
+    where
+        P: FnMut(&T, &T) -> bool,
+    {
+        ExponentialGroupBy::new(*self, predicate)
+    }
+
+    #[inline]
+    fn exponential_group(&self) -> ExponentialGroup<'_, T>
+    where
+        T: PartialEq,
+    {
+        ExponentialGroup::new(*self)
     }
 }
 
