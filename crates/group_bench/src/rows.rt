@@ -1,7 +1,8 @@
-//! The rows: the calls of each, the answers that are wanted, and the questions that may be asked. Those over texts stand in
-//! `texts`, and those of searches and plans in `searches`.
+//! The rows: the calls of each, the answers that are wanted, and the questions that may be asked. Those of binary and
+//! exponential groups stand in `jumps`, those over texts in `texts`, and those of searches and plans in `searches`.
 ghost use Rattle.std.specs.Prelude.{◌<ℤ◌};
 
+use crate::jumps::{row_4, row_5, row_6, row_11, row_12, row_18};
 use crate::lines::{differs, write_answers, write_groups};
 use crate::searches::{row_8, row_15};
 use crate::texts::{row_9, row_10, row_16};
@@ -19,14 +20,20 @@ pub fn run<W: Write>(out: &mut W) -> Result<bool, Error> {
     same &= row_1(out)?;
     same &= row_2(out)?;
     same &= row_3(out)?;
+    same &= row_4(out)?;
+    same &= row_5(out)?;
+    same &= row_6(out)?;
     same &= row_8(out)?;
     same &= row_9(out)?;
     same &= row_10(out)?;
+    same &= row_11(out)?;
+    same &= row_12(out)?;
     same &= row_13(out)?;
     same &= row_14(out)?;
     same &= row_15(out)?;
     same &= row_16(out)?;
     same &= row_17(out)?;
+    same &= row_18(out)?;
     Ok(same)
 }
 
@@ -162,18 +169,24 @@ mod tests {
     const LINES: &str = "row 1: [1, 1, 1] [3, 3] [2, 2, 2] None\n\
 row 2: [1, 1, 1] [2, 2, 2] [3, 3] None None\n\
 row 3: [1, 2, 3] [2, 3] None\n\
+row 4: None None\n\
+row 5: [1] None None\n\
+row 6: [1, 1, 1] [3, 3] [2, 2, 2] None None\n\
 row 8: Ok(9) Err(7) Err(13) in 1..=4 Err(0) Ok(9) Err(7) Err(13) in 1..=4\n\
 row 9: aaaa bbbbb 饰饰 cccc None\n\
 row 10: ab\n\
+row 11: boundary\n\
+row 12: 5 5 None\n\
 row 13: [7, 8] [9, 10] None\n\
 row 14: [0, 0, 1, 1, 1, 2] [1] [2, 4] [5, 7] [8, 8] None\n\
 row 15: 2\n\
 row 16: [97] éé 4 [195, 169, 195, 169] None\n\
-row 17: [1, 2, 3, 4, 5] None\n";
+row 17: [1, 2, 3, 4, 5] None\n\
+row 18: [1]\n";
 
     #[test]
     fn writes_the_lines(rt: HostRuntime) {
-        let mut bytes = [0u8; 402];
+        let mut bytes = [0u8; 530];
         assert_eq!(rt; bytes.len(), LINES.len());
         let mut rest: &mut [u8] = &mut bytes;
         assert!(rt; matches!(run(&mut rest), Ok(true)));
@@ -182,8 +195,8 @@ row 17: [1, 2, 3, 4, 5] None\n";
 
     #[test]
     fn ends_at_a_fault_of_the_writer(rt: HostRuntime) {
-        for room in 0..402 {
-            let mut bytes = [0u8; 402];
+        for room in 0..530 {
+            let mut bytes = [0u8; 530];
             let mut rest: &mut [u8] = &mut bytes[..room];
             assert!(rt; run(&mut rest).is_err(), "with room for {room} bytes");
         }

@@ -1,0 +1,108 @@
+//! The rows of binary and exponential groups.
+use crate::lines::{differs, write_groups};
+use slice_group_by::{BinaryGroup, BinaryGroupBy, End, ExponentialGroupBy, GroupBy, walk};
+use std::cell::Cell;
+use std::io::{Error, Write};
+
+type Group = Option<&'static [i32]>;
+
+// Nothing, from both ends.
+pub(crate) fn row_4<W: Write>(out: &mut W) -> Result<bool, Error> {
+    let slice: [i32; 0] = [];
+    let mut groups = BinaryGroup::new(&slice);
+    let mut answers: [Option<&[i32]>; 2] = [None; 2];
+    walk(&mut groups, &[End::Back, End::Front], &mut answers);
+    write_groups(out, 4, &answers, &[None, None], true)
+}
+
+const ROW_5: [Group; 3] = [Some(&[1]), None, None];
+
+// One element, which asks nothing.
+pub(crate) fn row_5<W: Write>(out: &mut W) -> Result<bool, Error> {
+    let slice = [1];
+    let mut questions = 0usize;
+    let mut groups = ExponentialGroupBy::new(&slice, |a, b| {
+        questions = questions.wrapping_add(1);
+        a == b
+    });
+    let mut answers: [Option<&[i32]>; 3] = [None; 3];
+    walk(
+        &mut groups,
+        &[End::Back, End::Back, End::Front],
+        &mut answers,
+    );
+    write_groups(out, 5, &answers, &ROW_5, questions == 0)
+}
+
+const ROW_6: [Group; 5] = [
+    Some(&[1, 1, 1]),
+    Some(&[3, 3]),
+    Some(&[2, 2, 2]),
+    None,
+    None,
+];
+
+// The most questions of each call of row 6.
+const MOST: [usize; 5] = [3, 3, 2, 0, 0];
+
+// Groups of a sorted slice by halving, from both ends.
+pub(crate) fn row_6<W: Write>(out: &mut W) -> Result<bool, Error> {
+    let slice = [1, 1, 1, 2, 2, 2, 3, 3];
+    let ends = [End::Front, End::Back, End::Front, End::Back, End::Front];
+    let mut answers: [Option<&[i32]>; 5] = [None; 5];
+    walk(&mut BinaryGroup::new(&slice), &ends, &mut answers);
+    let questions = Cell::new(0usize);
+    let mut counting = BinaryGroupBy::new(&slice, |a, b| {
+        questions.set(questions.get().wrapping_add(1));
+        a == b
+    });
+    let mut counted = true;
+    for (i, end) in ends.iter().enumerate() {
+        questions.set(0);
+        let group = match end {
+            End::Front => counting.next(),
+            End::Back => counting.next_back(),
+        };
+        counted &= group == ROW_6[i] && questions.get() <= MOST[i];
+    }
+    write_groups(out, 6, &answers, &ROW_6, counted)
+}
+
+// A slice that is not grouped: the group ends at a local boundary.
+pub(crate) fn row_11<W: Write>(out: &mut W) -> Result<bool, Error> {
+    let slice = [1, 2, 1];
+    match BinaryGroup::new(&slice).next() {
+        Some([1] | [1, 2, 1]) => {
+            writeln!(out, "row 11: boundary")?;
+            Ok(true)
+        }
+        _ => differs(out, 11),
+    }
+}
+
+// Elements that take no bytes.
+pub(crate) fn row_12<W: Write>(out: &mut W) -> Result<bool, Error> {
+    let slice: &[()] = &[(), (), (), (), ()];
+    let mut groups = slice.binary_group_by(|a, b| a == b);
+    let len = groups.remainder_len();
+    match (groups.next(), groups.next()) {
+        (Some(group), None) if len == 5 && group.len() == 5 => {
+            writeln!(out, "row 12: {len} {} None", group.len())?;
+            Ok(true)
+        }
+        _ => differs(out, 12),
+    }
+}
+
+// A short group after a long one, from the back: galloping from its own end asks little.
+pub(crate) fn row_18<W: Write>(out: &mut W) -> Result<bool, Error> {
+    let mut slice = [0; 1001];
+    slice[1000] = 1;
+    let mut questions = 0usize;
+    let mut groups = ExponentialGroupBy::new(&slice, |a, b| {
+        questions = questions.wrapping_add(1);
+        a == b
+    });
+    let answers = [groups.next_back()];
+    write_groups(out, 18, &answers, &[Some(&[1])], questions <= 3)
+}
