@@ -54,6 +54,6 @@ impl<'a, T, P, S> JumpingGroups<'a, T, PredicateJudge<P>, S> {
     pub fn is_empty(&self) -> bool
         ensures { result ≡ nat_eq (length self.now.remainder) 0 }
     {
-        self.len() == 0
+        self.remainder_len() == 0
     }
 }

@@ -64,6 +64,6 @@ impl<'a, T, F, K, S> JumpingGroups<'a, T, KeyJudge<F, K>, S> {
     pub fn is_empty(&self) -> bool
         ensures { result ≡ nat_eq (length self.now.remainder) 0 }
     {
-        self.len() == 0
+        self.remainder_len() == 0
     }
 }

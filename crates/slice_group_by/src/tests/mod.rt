@@ -2,6 +2,7 @@
 mod capitals;
 mod closures;
 mod counted;
+mod families;
 mod index_reader;
 mod linear;
 mod linear_by;

@@ -1,0 +1,18 @@
+use Rattle.std.proofs.Common.{◌≡◌, ◌≤◌, ◌+◌, ◌-◌, length, arith, ap, subst, refl, List, Some, None}
+use Rattle.std.specs.Prelude.{Option, option_copied}
+use Rattle.std.specs.Borrow.{Bor}
+use Rattle.slice_group_by.specs.Digits.{digits}
+use Rattle.slice_group_by.specs.Groups.{Groups}
+use Rattle.slice_group_by.specs.Judges.{by_equality}
+use Rattle.slice_group_by.specs.Jumps.{halving}
+use Rattle.slice_group_by.specs.Jumping.{JumpsFront}
+use Rattle.slice_group_by.proofs.tests.families.after_first.Goals as goal
+
+pub returns : goal.returns
+returns g c = by c.next-first.result c.next-first.ensures.steps
+  where
+    by : (o : Option (Bor (List g.row.T.Denot))) → JumpsFront (by_equality g.T.PartialEq.eq) halving c.new-groups.result o c.next-first.new.self → c.next-first.new.self.judge.questions.asked ≤ digits (length c.args.slice.now - 1)
+    by None h = omega (arith, c.new-groups.ensures.asked, ap (λ s. s.judge.questions.asked) h.1)
+    by (Some x) h =
+        let counts = c.equality_judges.ensures.counts c.new-groups.result.judge c.next-first.new.self.judge (length h.asked.questions) (h.asked.questions, h.asked.run, refl) in
+        omega (arith, counts, c.new-groups.ensures.asked, h.asked.few.call, ap (λ xs. digits (length xs - 1)) c.new-groups.ensures.remainder)

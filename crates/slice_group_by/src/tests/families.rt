@@ -1,0 +1,181 @@
+//! The families of groups beside each other, and users' functions over binary and exponential groups, proved from the public
+//! contracts.
+ghost use Rattle.std.specs.Prelude.{◌≡◌, ◌≤◌, ◌<◌, ◌-◌, ◌/◌, ℕ, [], ◌∷◌, Some, not, length, map, option_map, nat_eq};
+ghost use Rattle.std.specs.Ordering.{nat_cmp};
+ghost use Rattle.slice_group_by.specs.Apart.{IsGrouped};
+ghost use Rattle.slice_group_by.specs.Digits.{digits};
+ghost use Rattle.slice_group_by.specs.Jumps.{IsLocalEnd};
+ghost use Rattle.slice_group_by.specs.Search.{NeverDescends};
+ghost use Rattle.slice_group_by.specs.Split.{split};
+ghost use Rattle.slice_group_by.specs.Queue.{answers};
+
+use crate::laws::{ascending_is_grouped, equality_judges, groups_end_locally, sees_pieces};
+use crate::{
+    BinaryGroup, End, ExponentialGroup, ExponentialGroupByKey, GroupBy, LinearGroup,
+    is_sorted_for_groups, walk,
+};
+
+// The same calls on each family, over a slice that is sorted.
+fn walk_families<'a, T: Ord>(
+    slice: &'a [T],
+    ends: &[End],
+    linear: &mut [Option<&'a [T]>],
+    binary: &mut [Option<&'a [T]>],
+    exponential: &mut [Option<&'a [T]>],
+)
+    requires sorted { NeverDescends T.cmp slice.now }
+    requires linear { length linear.old ≡ length ends.now }
+    requires binary { length binary.old ≡ length ends.now }
+    requires exponential { length exponential.old ≡ length ends.now }
+    ensures binary { map (option_map (λ group. group.now)) binary.new ≡ map (option_map (λ group. group.now)) linear.new }
+    ensures exponential { map (option_map (λ group. group.now)) exponential.new ≡ map (option_map (λ group. group.now)) linear.new }
+{
+    ascending_is_grouped::<T, T>();
+    walk(&mut LinearGroup::new(slice), ends, linear);
+    walk(&mut BinaryGroup::new(slice), ends, binary);
+    walk(&mut ExponentialGroup::new(slice), ends, exponential);
+}
+
+// By a predicate for which the slice is grouped.
+fn walk_by_tens<'a>(slice: &'a &[u8], ends: &[End], out: &mut [Option<&'a [u8]>])
+    requires grouped { IsGrouped (λ a b. nat_eq (a / 10) (b / 10)) slice.now.now }
+    requires len { length out.old ≡ length ends.now }
+    ensures { map (option_map (λ group. group.now)) out.new ≡ answers (split (λ a b. nat_eq (a / 10) (b / 10)) slice.now.now) ends.now }
+{
+    let mut groups = slice.binary_group_by(|a, b| *a / 10 == *b / 10);
+    walk(&mut groups, ends, out);
+}
+
+// By a key by which the slice ascends.
+fn walk_by_first<'a>(slice: &'a [(u32, u32)], ends: &[End], out: &mut [Option<&'a [(u32, u32)]>])
+    requires sorted { NeverDescends nat_cmp (map (λ e. e.0) slice.now) }
+    requires len { length out.old ≡ length ends.now }
+    ensures { map (option_map (λ group. group.now)) out.new ≡ answers (split (λ a b. nat_eq a.0 b.0) slice.now) ends.now }
+{
+    ascending_is_grouped::<(u32, u32), u32>();
+    let mut groups = ExponentialGroupByKey::new(slice, |e| e.0);
+    walk(&mut groups, ends, out);
+}
+
+// How many groups a sorted slice has, and none of one that is not.
+fn count_sorted<T: Ord>(slice: &[T]) -> Option<usize>
+    ensures { (n : ℕ) → result ≡ Some n → n ≡ length (split T.eq slice.now) }
+{
+    if !is_sorted_for_groups(slice) {
+        return None;
+    }
+    let groups = ExponentialGroup::new(slice);
+    sees_pieces(&groups);
+    Some(groups.count())
+}
+
+// The first group of any slice ends at a local boundary, after few questions.
+fn first_len<T: PartialEq>(slice: &[T]) -> usize
+    ensures none { length slice.now ≡ 0 → result ≡ 0 }
+    ensures some { 0 < length slice.now → IsLocalEnd slice.now T.eq result }
+{
+    let mut groups = BinaryGroup::new(slice);
+    groups_end_locally(&groups);
+    match groups.next() {
+        Some(group) => group.len(),
+        None => 0,
+    }
+}
+
+fn after_first<'a, T: PartialEq>(slice: &'a [T]) -> BinaryGroup<'a, T>
+    ensures { result.judge.questions.asked ≤ digits (length slice.now - 1) }
+{
+    equality_judges::<T>();
+    let mut groups = BinaryGroup::new(slice);
+    let _first = groups.next();
+    groups
+}
+
+// The definitions at small cases: unequal elements are grouped for `!=`, and equal ones apart are not for `==`.
+fn grouped_at_small_cases()
+    ensures unequal { IsGrouped (λ a b. not (nat_eq a b)) (1 ∷ 2 ∷ 3 ∷ []) }
+    ensures descending { IsGrouped nat_eq (2 ∷ 1 ∷ []) }
+    ensures apart { IsGrouped nat_eq (1 ∷ 2 ∷ 1 ∷ []) → ⊥ }
+{}
+
+#[test]
+fn definitions_at_small_cases() {
+    grouped_at_small_cases();
+}
+
+// The five ends of the number: a bit for each, from the lowest on.
+fn ends_of(number: usize) -> [End; 5] {
+    [
+        end_of(number),
+        end_of(number / 2),
+        end_of(number / 4),
+        end_of(number / 8),
+        end_of(number / 16),
+    ]
+}
+
+fn end_of(number: usize) -> End {
+    if number % 2 == 0 { End::Front } else { End::Back }
+}
+
+#[test]
+fn families_answer_alike(rt: HostRuntime) {
+    let slice = [1, 1, 1, 2, 2, 2, 3, 3];
+    for number in 0..32 {
+        let ends = ends_of(number);
+        let mut linear: [Option<&[i32]>; 5] = [None; 5];
+        let mut binary: [Option<&[i32]>; 5] = [None; 5];
+        let mut exponential: [Option<&[i32]>; 5] = [None; 5];
+        walk(&mut LinearGroup::new(&slice), &ends, &mut linear);
+        walk(&mut BinaryGroup::new(&slice), &ends, &mut binary);
+        walk(&mut ExponentialGroup::new(&slice), &ends, &mut exponential);
+        assert_eq!(rt; binary, linear);
+        assert_eq!(rt; exponential, linear);
+    }
+}
+
+#[test]
+fn walks_families(rt: HostRuntime) {
+    let slice = [1u8, 1, 2];
+    let mut linear: [Option<&[u8]>; 2] = [None; 2];
+    let mut binary: [Option<&[u8]>; 2] = [None; 2];
+    let mut exponential: [Option<&[u8]>; 2] = [None; 2];
+    walk_families(
+        &slice,
+        &[End::Back, End::Front],
+        &mut linear,
+        &mut binary,
+        &mut exponential,
+    );
+    assert_eq!(rt; binary[0], Some([2].as_slice()));
+    assert_eq!(rt; exponential[1], Some([1, 1].as_slice()));
+}
+
+#[test]
+fn counts_sorted(rt: HostRuntime) {
+    assert_eq!(rt; count_sorted(&[1, 1, 2, 5, 5]), Some(3));
+    assert_eq!(rt; count_sorted(&[2, 1]), None);
+    assert_eq!(rt; first_len(&[1, 1, 2]), 2);
+    assert_eq!(rt; after_first(&[1, 1, 2]).next(), Some([2].as_slice()));
+}
+
+#[test]
+fn sorted_slices(rt: HostRuntime) {
+    let none: [i32; 0] = [];
+    assert!(rt; is_sorted_for_groups(&[1, 1, 2]));
+    assert!(rt; is_sorted_for_groups(&none));
+    assert!(rt; !is_sorted_for_groups(&[1, 2, 1]));
+    assert!(rt; !is_sorted_for_groups(&[2, 1]));
+}
+
+// Each method once.
+#[test]
+fn methods(rt: HostRuntime) {
+    let slice: &[u8] = &[10, 11, 20, 21, 22];
+    assert!(rt; matches!(slice.binary_group_by_key(|x| *x / 10).next(), Some([10, 11])));
+    assert!(rt; matches!(slice.binary_group_by(|a, b| a / 10 == b / 10).next_back(), Some([20, 21, 22])));
+    assert!(rt; matches!(slice.binary_group().next(), Some([10])));
+    assert!(rt; matches!(slice.exponential_group_by_key(|x| *x / 10).next_back(), Some([20, 21, 22])));
+    assert!(rt; matches!(slice.exponential_group_by(|a, b| a / 10 == b / 10).next(), Some([10, 11])));
+    assert!(rt; matches!(slice.exponential_group().next_back(), Some([22])));
+}
