@@ -2,8 +2,8 @@
 use Rattle.std.specs.Prelude.{◌≡◌, ◌+◌, Bool, List, [], ◌∷◌, ⊤, length}
 use Rattle.std.proofs.Common.{ap, arith}
 use Rattle.sgb_search.specs.Runs.{IsRun, MayAskAll, AnswersBy}
-use Rattle.sgb_search.specs.Judges.{MayAskAlong, AnswersAlong, by_equality}
-use Rattle.sgb_search.specs.Neighbours.{AreNeighbours, on_pairs}
+use Rattle.sgb_search.specs.Judges.{by_equality}
+use Rattle.sgb_search.specs.Neighbours.{on_pairs}
 use Rattle.sgb_search.specs.declared.judge.EqualityJudge.{EqualityJudge}
 use Rattle.sgb_search.proofs.Runs.{answers_by}
 

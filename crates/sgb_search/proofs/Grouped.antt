@@ -1,13 +1,13 @@
 -- A grouped list, by its parts in place of its places.
-use Rattle.std.specs.Prelude.{◌≡◌, ◌↔◌, ℕ, ◌+◌, ◌-◌, ◌<◌, ◌≤◌, Bool, true, false, List, [], ◌∷◌, ◌++◌, length, take, drop, refl, Some, slice_get, slice_range}
+use Rattle.std.specs.Prelude.{◌≡◌, ◌↔◌, ℕ, ◌+◌, ◌-◌, ◌<◌, ◌≤◌, Bool, true, List, [], ◌∷◌, ◌++◌, length, take, drop, refl, Some, slice_get, slice_range}
 use Rattle.std.proofs.Common.{zero, suc, sym, ap, subst, arith, ◌∙◌, append_assoc, get_or, length-append}
 use Rattle.std.proofs.lemmas.List.{take-append-drop, length-take, get_or-take, get_or-drop}
 use Rattle.std.proofs.lemmas.Option.{slice_get_within, slice_get_read, get_or_from_slice_get}
 use Rattle.std.proofs.Math.Seq.{take-append_seam, drop-append_seam}
-use Rattle.sgb_search.specs.Ends.{first, last, without_last}
+use Rattle.sgb_search.specs.Ends.{last, without_last}
 use Rattle.sgb_search.specs.Split.{IsAccepted}
 use Rattle.sgb_search.specs.Apart.{IsGrouped}
-use Rattle.sgb_search.proofs.Ranges.{length-range, range_cut}
+use Rattle.sgb_search.proofs.Ranges.{length-range}
 
 module _ {A : Type 0} where
   pub get_before : (xs ys : List A) (i : ℕ) (x : A) → slice_get xs i ≡ Some x → slice_get (xs ++ ys) i ≡ Some x

@@ -1,13 +1,12 @@
 -- From a search among places to the questions of a call that jumps.
-use Rattle.std.specs.Prelude.{◌≡◌, ◌≢◌, ℕ, ◌+◌, ◌-◌, ◌<◌, ◌≤◌, List, [], ◌∷◌, length, ◌⊎◌, refl, Result, Ok, Err, Some, Bool, true, false, slice_get, reverse}
-use Rattle.std.proofs.Common.{zero, suc, sym, ap, subst, arith, ◌∙◌, inl, inr}
+use Rattle.std.specs.Prelude.{◌≡◌, ℕ, ◌+◌, ◌-◌, List, [], ◌∷◌, length, ◌⊎◌, refl, Result, Ok, Err, Some, Bool, true, false, slice_get}
+use Rattle.std.proofs.Common.{suc, sym, ap, subst, arith, ◌∙◌, inl, inr}
 use Rattle.std.specs.List.{AllByRecursion, Contains}
-use Rattle.std.proofs.lemmas.Option.{slice_get_within}
 use Rattle.std.specs.declared.cmp.Ordering.{Ordering}
-use Rattle.std.specs.declared.cmp.Ordering.TheVariants.{Less, Equal, Greater}
+use Rattle.std.specs.declared.cmp.Ordering.TheVariants.{Equal}
 use Rattle.sgb_search.specs.declared.judge.Judge.{Ghosts}
 use Rattle.sgb_search.specs.Runs.{IsRun, MayAskAll}
-use Rattle.sgb_search.specs.Halving.{IsBetween, MayProbe, IsLowEnd, IsHighEnd}
+use Rattle.sgb_search.specs.Halving.{MayProbe, IsLowEnd, IsHighEnd}
 use Rattle.sgb_search.specs.Galloping.{TwoAnswers, place_of}
 use Rattle.sgb_search.specs.Jumps.{SearchCost, IsWithin, IsOutward, Asked, BothWays, IsInner, IsBeyond, EndsBy, Jumps}
 use Rattle.sgb_search.specs.Seeking.{IsSoughtPlace, IsSought, MayAskAt, AnsweredAt, side}
@@ -134,14 +133,6 @@ module _ {J T : Type 0} (judge : Ghosts J T) (xs : List T) where
 
   pub sought_jumps : (cost : SearchCost) (len : ℕ) (j : J) (r : Result ℕ ℕ) (k : J) (i : ℕ) → (r ≡ Ok i) ⊎ (r ≡ Err i) → len + 1 ≡ length xs → IsSought may_at answered_at cost len j r k → Jumps xs judge cost j (i + 1) k
   sought_jumps cost len j r k i is n h = subst (λ (m : ℕ). Jumps xs judge cost j (m + 1) k) (place_is r i is) (sought cost len j r k n h)
-
-  -- it stays among the places
-  most : (again : Bool) (len : ℕ) (rs : List (ℕ × Ordering)) (r : Result ℕ ℕ) → AllByRecursion (λ r. IsBetween 0 len r.0) rs → IsSoughtPlace may_at answered_at again len rs r → place_of r ≤ len
-  most again len rs (Ok i) all c = let b = all_contains _ rs (i, Equal) all c in omega (arith, b.1)
-  most again len rs (Err i) all c = c.0
-
-  pub sought_most : (cost : SearchCost) (len : ℕ) (j : J) (r : Result ℕ ℕ) (k : J) (i : ℕ) → (r ≡ Ok i) ⊎ (r ≡ Err i) → IsSought may_at answered_at cost len j r k → i ≤ len
-  sought_most cost len j r k i is (rs, h) = omega (arith, place_is r i is, most cost.again len rs r h.within h.place)
 
   -- ys: the list as it stands, where xs may be its reverse
   module _ (allowed : T × T → Type 0) (sub : (q : T × T) → IsOutward xs q → allowed q) where

@@ -1,13 +1,13 @@
 -- A call that jumps ends at a local boundary; on a settled iterator it gives the outermost piece, and leaves it settled.
-use Rattle.std.specs.Prelude.{◌≡◌, ℕ, ◌+◌, ◌-◌, ◌<◌, ◌≤◌, Bool, true, false, List, [], ◌∷◌, ◌++◌, length, ◌⊎◌, reverse, refl, Option, None, Some, slice_get}
-use Rattle.std.proofs.Common.{zero, suc, sym, ap, subst, arith, ◌∙◌, inl, inr, get_or, length-append, append_assoc}
-use Rattle.std.specs.List.{AllByRecursion, Contains}
-use Rattle.std.proofs.lemmas.List.{append-nil, reverse-append, length-reverse}
+use Rattle.std.specs.Prelude.{◌≡◌, ℕ, ◌+◌, ◌-◌, ◌<◌, Bool, true, false, List, [], ◌∷◌, ◌++◌, length, reverse, refl, Option, None, Some, slice_get}
+use Rattle.std.proofs.Common.{sym, ap, subst, arith, ◌∙◌, inl, inr, get_or, length-append, append_assoc}
+use Rattle.std.specs.List.{AllByRecursion}
+use Rattle.std.proofs.lemmas.List.{append-nil}
 use Rattle.std.proofs.lemmas.Option.{slice_get-get_or, slice_get_within}
 use Rattle.sgb_search.specs.declared.judge.Judge.{Ghosts}
 use Rattle.sgb_search.specs.Runs.{AnswersBy}
 use Rattle.sgb_search.specs.Neighbours.{on_pairs}
-use Rattle.sgb_search.specs.Ends.{first, last, without_last}
+use Rattle.sgb_search.specs.Ends.{last, without_last}
 use Rattle.sgb_search.specs.Split.{IsAccepted, IsRefusedAcross, TakesFirst, TakesLast}
 use Rattle.sgb_search.specs.Apart.{AreApart, IsGrouped}
 use Rattle.sgb_search.specs.Jumps.{SearchCost, IsOutward, Asked, BothWays, IsInner, IsBeyond, EndsBy, Jumps, IsLocalEnd}
@@ -16,7 +16,7 @@ use Rattle.sgb_search.specs.Groups.{Groups}
 use Rattle.sgb_search.proofs.Each.{all_contains, all_each}
 use Rattle.sgb_search.proofs.Runs.{answers_after}
 use Rattle.sgb_search.proofs.Apart.{apart_of_first, apart_of_rest, outward_apart, outward_apart_back, get_reverse}
-use Rattle.sgb_search.proofs.Grouped.{AgreesIn, parts_of_grouped, grouped_part, get_after, get_before, last_is}
+use Rattle.sgb_search.proofs.Grouped.{parts_of_grouped, grouped_part, get_after, get_before, last_is}
 use Rattle.sgb_search.proofs.Splits.{takes_first, takes_last}
 
 -- of a judge that answers what p says

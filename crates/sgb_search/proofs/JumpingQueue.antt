@@ -1,5 +1,5 @@
 -- The laws of a queue for calls that jump, at each end.
-use Rattle.std.proofs.Common.{◌≡◌, ℕ, ◌+◌, ◌-◌, ◌<◌, ◌≤◌, Bool, true, false, List, [], length, Option, None, Some, refl, ap, ◌∙◌, arith, length-append, reverse}
+use Rattle.std.proofs.Common.{◌≡◌, ℕ, ◌+◌, ◌-◌, ◌<◌, Bool, false, List, [], length, Option, None, Some, refl, ap, ◌∙◌, arith, length-append, reverse}
 use Rattle.std.proofs.lemmas.List.{length-reverse}
 use Rattle.sgb_search.specs.declared.judge.Judge.{Ghosts}
 use Rattle.sgb_search.specs.Runs.{IsRunOf, AsksWithin}

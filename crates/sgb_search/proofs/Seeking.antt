@@ -8,8 +8,8 @@ use Rattle.std.specs.declared.cmp.Ordering.TheVariants.{Less, Equal, Greater}
 use Rattle.sgb_search.specs.Digits.{digits}
 use Rattle.sgb_search.specs.Halving.{IsHalved, IsLowEnd, IsHighEnd}
 use Rattle.sgb_search.specs.Galloping.{IsGalloped, TwoAnswers}
-use Rattle.sgb_search.specs.Jumps.{SearchCost, IsWithin, halving, galloping}
-use Rattle.sgb_search.specs.Seeking.{IsSoughtPlace, IsSought}
+use Rattle.sgb_search.specs.Jumps.{IsWithin, halving, galloping}
+use Rattle.sgb_search.specs.Seeking.{IsSought}
 use Rattle.sgb_search.proofs.Digits.{digits_mono, due_halving, due_galloping}
 
 -- the place after some records is the last of them
