@@ -44,6 +44,10 @@ impl<'a, T: fmt::Debug, P> fmt::Debug for JumpingGroups<'a, T, PredicateJudge<P>
 
 impl<'a, T: fmt::Debug, F, K> fmt::Debug for JumpingGroups<'a, T, KeyJudge<F, K>, Galloping> {
     fn fmt<W: fmt::Write>(&self, f: &mut fmt::Formatter<W>) -> fmt::Result {
-        write!(f, "ExponentialGroupByKey {{ remainder: {:?} }}", self.rest())
+        write!(
+            f,
+            "ExponentialGroupByKey {{ remainder: {:?} }}",
+            self.rest()
+        )
     }
 }

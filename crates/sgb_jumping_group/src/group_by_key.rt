@@ -9,9 +9,12 @@ use sgb_search::judge::KeyJudge;
 use sgb_search::strategy::GroupSearch;
 use std::marker::PhantomData;
 
-impl<'a, T, K: PartialEq + Drop, F: FnMut(&T) -> K, S: GroupSearch>
-    JumpingGroups<'a, T, KeyJudge<F, K>, S>
-{
+impl<'a, T, K: PartialEq + Drop, F: FnMut(&T) -> K, S: GroupSearch> JumpingGroups<
+    'a,
+    T,
+    KeyJudge<F, K>,
+    S,
+> {
     ghost use Rattle.sgb_search.specs.JumpingCalls.{IsCallableApart, ComputesApart, IsSettledApart};
 
     /// All groups of the slice by the key, which are still to come. Nothing is asked yet.

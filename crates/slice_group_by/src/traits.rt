@@ -10,8 +10,8 @@ ghost use Rattle.sgb_loans.specs.GroupsMut.{NothingOut};
 
 use crate::{
     BinaryGroup, BinaryGroupBy, BinaryGroupByKey, ExponentialGroup, ExponentialGroupBy,
-    ExponentialGroupByKey, LinearGroup, LinearGroupBy, LinearGroupByKey, LinearGroupByKeyMut, LinearGroupByMut,
-    LinearGroupMut,
+    ExponentialGroupByKey, LinearGroup, LinearGroupBy, LinearGroupByKey, LinearGroupByKeyMut,
+    LinearGroupByMut, LinearGroupMut,
 };
 
 /// Groups of neighbouring elements, for reading.

@@ -115,7 +115,11 @@ fn ends_of(number: usize) -> [End; 5] {
 }
 
 fn end_of(number: usize) -> End {
-    if number % 2 == 0 { End::Front } else { End::Back }
+    if number % 2 == 0 {
+        End::Front
+    } else {
+        End::Back
+    }
 }
 
 #[test]
@@ -172,10 +176,30 @@ fn sorted_slices(rt: HostRuntime) {
 #[test]
 fn methods(rt: HostRuntime) {
     let slice: &[u8] = &[10, 11, 20, 21, 22];
-    assert!(rt; matches!(slice.binary_group_by_key(|x| *x / 10).next(), Some([10, 11])));
-    assert!(rt; matches!(slice.binary_group_by(|a, b| a / 10 == b / 10).next_back(), Some([20, 21, 22])));
+    assert!(rt;
+        matches!(
+            slice.binary_group_by_key(|x| *x / 10).next(),
+            Some([10, 11])
+        )
+    );
+    assert!(rt;
+        matches!(
+            slice.binary_group_by(|a, b| a / 10 == b / 10).next_back(),
+            Some([20, 21, 22])
+        )
+    );
     assert!(rt; matches!(slice.binary_group().next(), Some([10])));
-    assert!(rt; matches!(slice.exponential_group_by_key(|x| *x / 10).next_back(), Some([20, 21, 22])));
-    assert!(rt; matches!(slice.exponential_group_by(|a, b| a / 10 == b / 10).next(), Some([10, 11])));
+    assert!(rt;
+        matches!(
+            slice.exponential_group_by_key(|x| *x / 10).next_back(),
+            Some([20, 21, 22])
+        )
+    );
+    assert!(rt;
+        matches!(
+            slice.exponential_group_by(|a, b| a / 10 == b / 10).next(),
+            Some([10, 11])
+        )
+    );
     assert!(rt; matches!(slice.exponential_group().next_back(), Some([22])));
 }
