@@ -8,3 +8,5 @@ pub mod group;
 pub mod group_by;
 pub mod group_by_key;
 pub mod groups;
+#[cfg(test)]
+mod tests;

@@ -1,0 +1,11 @@
+//! What no contract says, and small cases.
+mod binary;
+mod by_key;
+mod by_predicate;
+mod conditions;
+mod counted;
+mod counts;
+mod debug;
+mod exponential;
+mod questions;
+mod units;
