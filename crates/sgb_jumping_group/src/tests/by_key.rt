@@ -1,6 +1,7 @@
 //! Groups by a key, case by case.
 use crate::binary_group::BinaryGroupByKey;
 use crate::exponential_group::ExponentialGroupByKey;
+use std::test::Fail;
 
 #[test]
 fn by_tens(rt: HostRuntime) {
@@ -16,35 +17,44 @@ fn by_tens(rt: HostRuntime) {
 }
 
 #[test]
-fn binary_views(rt: HostRuntime) {
-    let slice = [10, 11, 20];
-    let mut groups = BinaryGroupByKey::new(&slice, |x| *x / 10);
-    assert_eq!(rt; groups.size_hint(), (1, Some(3)));
-    assert_eq!(rt; groups.next(), Some([10, 11].as_slice()));
-    assert_eq!(rt; groups.size_hint(), (1, Some(1)));
-    assert_eq!(rt; groups.remainder(), [20].as_slice());
-    assert_eq!(rt; groups.remainder_len(), 1);
-    assert!(rt; !groups.is_empty());
-    assert_eq!(rt; groups.next(), Some([20].as_slice()));
+fn binary_views(rt: HostRuntime) -> Result<(), Fail> {
+    let slice = [1, 1, 1, 3, 3, 2, 2, 2];
+    let mut groups = BinaryGroupByKey::new(&slice, |x| *x);
+    assert!(rt; matches!(groups.next(), Some([1, 1, 1])));
+    assert!(rt; matches!(groups.next_back(), Some([2, 2, 2])));
+    assert!(rt; matches!(groups.remainder(), [3, 3]));
+    assert!(rt; groups.remainder_len() == 2 && !groups.is_empty());
+    assert_eq!(rt; groups.size_hint(), (1, Some(2)));
+    let before = format!(in rt.alloc(); "{groups:?}")?;
+    assert_eq!(rt; before.as_str(), "BinaryGroupByKey { remainder: [3, 3] }");
+    assert!(rt; matches!(groups.next(), Some([3, 3])));
+    assert!(rt; groups.remainder_len() == 0 && groups.is_empty());
     assert_eq!(rt; groups.size_hint(), (0, Some(0)));
-    assert!(rt; groups.is_empty());
-    assert_eq!(rt; groups.remainder_len(), 0);
+    let after = format!(in rt.alloc(); "{groups:?}")?;
+    assert_eq!(rt; after.as_str(), "BinaryGroupByKey { remainder: [] }");
+    Ok(())
 }
 
 #[test]
-fn exponential_views(rt: HostRuntime) {
-    let slice = [10, 11, 20];
-    let mut groups = ExponentialGroupByKey::new(&slice, |x| *x / 10);
-    assert_eq!(rt; groups.size_hint(), (1, Some(3)));
-    assert_eq!(rt; groups.next(), Some([10, 11].as_slice()));
-    assert_eq!(rt; groups.size_hint(), (1, Some(1)));
-    assert_eq!(rt; groups.remainder(), [20].as_slice());
-    assert_eq!(rt; groups.remainder_len(), 1);
-    assert!(rt; !groups.is_empty());
-    assert_eq!(rt; groups.next(), Some([20].as_slice()));
+fn exponential_views(rt: HostRuntime) -> Result<(), Fail> {
+    let slice = [1, 1, 1, 3, 3, 2, 2, 2];
+    let mut groups = ExponentialGroupByKey::new(&slice, |x| *x);
+    assert!(rt; matches!(groups.next(), Some([1, 1, 1])));
+    assert!(rt; matches!(groups.next_back(), Some([2, 2, 2])));
+    assert!(rt; matches!(groups.remainder(), [3, 3]));
+    assert!(rt; groups.remainder_len() == 2 && !groups.is_empty());
+    assert_eq!(rt; groups.size_hint(), (1, Some(2)));
+    let before = format!(in rt.alloc(); "{groups:?}")?;
+    assert_eq!(rt;
+        before.as_str(),
+        "ExponentialGroupByKey { remainder: [3, 3] }"
+    );
+    assert!(rt; matches!(groups.next(), Some([3, 3])));
+    assert!(rt; groups.remainder_len() == 0 && groups.is_empty());
     assert_eq!(rt; groups.size_hint(), (0, Some(0)));
-    assert!(rt; groups.is_empty());
-    assert_eq!(rt; groups.remainder_len(), 0);
+    let after = format!(in rt.alloc(); "{groups:?}")?;
+    assert_eq!(rt; after.as_str(), "ExponentialGroupByKey { remainder: [] }");
+    Ok(())
 }
 
 // How often the key function is called for the first group, and on what last.
