@@ -1,5 +1,5 @@
 -- A group cut off a remainder by a call that jumps.
-use Rattle.std.proofs.Common.{◌≡◌, ℕ, [], ◌-◌, ◌+◌, ◌<◌, ◌≤◌, List, length, reverse, arith, refl, sym, subst}
+use Rattle.std.proofs.Common.{◌≡◌, ℕ, [], ◌+◌, ◌<◌, ◌≤◌, List, length, reverse, arith, refl, subst}
 use Rattle.std.specs.List.{slice_range}
 use Rattle.sgb_search.specs.declared.judge.Judge.{Ghosts}
 use Rattle.sgb_search.specs.Judges.{MayAskApart}

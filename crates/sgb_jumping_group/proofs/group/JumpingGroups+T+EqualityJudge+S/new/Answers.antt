@@ -1,4 +1,3 @@
-use Rattle.sgb_search.specs.Apart.{IsGrouped}
 use Rattle.sgb_search.proofs.Equality.{equality_settled}
 use Rattle.sgb_jumping_group.proofs.group.JumpingGroups+T+EqualityJudge+S.new.Goals as goal
 
