@@ -19,7 +19,8 @@ use std::marker::{Model, PhantomData};
 /// remain, by galloping at most `2 * digits(g) + 1` for a group of g, where `digits` is the number of binary digits.
 ///
 /// On a slice that is grouped for the judge, as one that is sorted is for `==`, the groups are those of the linear iterators. On
-/// any other a group ends where the innermost element agrees with the outermost and the element beyond does not.
+/// any other, where the judge answers by its arguments alone, a group ends where the innermost element agrees with the
+/// outermost and the element beyond does not.
 #[derive(Drop)]
 pub struct JumpingGroups<'a, T, J, S> {
     slice: &'a [T],

@@ -1,4 +1,4 @@
--- What judges may be asked, and what they answer. A question is a pair, the left element first.
+-- What judges may be asked, and what they answer. A question is a pair: of a linear call the left element first, of one that jumps the outermost.
 use Rattle.std.specs.Prelude.{◌≡◌, ℕ, ◌+◌, Bool, List}
 use Rattle.std.specs.Borrow.{Bor}
 use Rattle.std.specs.Fn.{Takes, TakesAt, TakesAtTwo, Called, CalledAt, CalledAtTwo, AlwaysReturns, Mut}

@@ -11,7 +11,7 @@ pub record SearchCost : Type 0 where
   pub call : ℕ → ℕ → ℕ
   -- the most questions of all calls on n elements
   pub walk : ℕ → ℕ
-  -- an element may be asked about more than once
+  -- both answers may come about one element at the end of the group
   pub again : Bool
 
 -- by halving the places beside the outermost element
@@ -49,7 +49,7 @@ module _ {T : Type 0} (xs : List T) where
   abbrev pub IsBeyond : List ((T × T) × Bool) → ℕ → Type 0
   IsBeyond qs g = (g ≡ length xs) ⊎ Asked qs g false
 
-  -- the first g end there by the answers: both of the above; or, where an element may be asked about again, both answers came about one of the two
+  -- the first g end there by the answers: both of the above; or, where they may, both answers came about one of the two elements there
   abbrev pub EndsBy : Bool → List ((T × T) × Bool) → ℕ → Type 0
   EndsBy again qs g = (IsInner qs g × IsBeyond qs g) ⊎ ((again ≡ true) × (((1 < g) × BothWays qs (g - 1)) ⊎ BothWays qs g))
 

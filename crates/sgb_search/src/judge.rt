@@ -6,7 +6,8 @@ use std::marker::PhantomData;
 
 /// Decides whether two elements belong together.
 ///
-/// A question is about two elements, the left one first. `Self` is the state that a question may change.
+/// A question is about two elements: linear calls ask about the left one first, binary and exponential ones about the outermost
+/// first. `Self` is the state that a question may change.
 pub trait Judge<T> {
     // The judge may be asked about the pair.
     ghost may_ask: { Self → T × T → Type 0 };

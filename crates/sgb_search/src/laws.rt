@@ -96,8 +96,7 @@ pub fn ascending_is_grouped<T, K: Ord>()
     ensures by_itself { (xs : List K) → NeverDescends K.cmp xs → IsGrouped K.eq xs }
 {}
 
-/// The number of binary digits of m is the least d with m below the d-th power of two. So a search that halves n places asks
-/// at most `digits n` questions.
+/// The number of binary digits of m is the least d with m below the d-th power of two.
 #[inline]
 pub fn digits_is_least()
     ensures above { (m : ℕ) → m < 2 ^ digits m }

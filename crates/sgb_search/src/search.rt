@@ -50,11 +50,13 @@ impl<'a, T, B: Ord + Drop, F: FnMut(&T) -> B> Probe<Keyed<'a, T, B>> for F {
 /// The slice should be sorted so that the comparator answers `Less` of its first elements, then `Equal`, then `Greater`, each
 /// perhaps of none. Then there is an `Ok` exactly if some element is `Equal`; which of several is given is left open. And
 /// `Err(i)` has `Less` before place i and `Greater` from i on, so that the slice stays sorted if the element is inserted
-/// there. On any other slice `Ok` is an `Equal` place all the same, and `Err` a place between `Less` and `Greater`.
+/// there. On any other slice, where the comparator answers by its argument alone, `Ok` is an `Equal` place all the same, and
+/// `Err` a place between `Less` and `Greater`, or at an end.
 ///
 /// The comparator has to be such that it may be called on each element, in every state that its answers can lead to.
 /// Whatever it answers, a search that gives place i asks at most `2 * digits(i + 1) + 1` questions, where `digits` is the
-/// number of binary digits, so it is cheap where the place is near the beginning; it asks none of an empty slice.
+/// number of binary digits, so it is cheap where the place is near the beginning; it asks none of an empty slice. The contract
+/// speaks of the run of calls that found the place; that no call comes after it is read in the code.
 ///
 /// ```
 /// let slice = [0, 1, 1, 1, 1, 2, 3, 5, 8, 13, 21, 34, 55];

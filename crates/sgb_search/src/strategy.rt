@@ -16,7 +16,7 @@ pub trait GroupSearch {
         ensures { IsSought (λ s i. P.may_probe s context.now i) (λ s i o t. P.probed s context.now i o t) cost len probe.old result probe.new };
 }
 
-/// Halves all places: at most `digits(n - 1)` questions for a group of n elements that remain.
+/// Halves all places: at most `digits(n - 1)` questions where n elements remain.
 #[derive(Drop)]
 pub struct Halving {}
 

@@ -13,6 +13,9 @@ pub use Rattle.sgb_search.specs.Apart
 pub use Rattle.sgb_search.specs.Jumps
 pub use Rattle.sgb_search.specs.JumpingCalls
 pub use Rattle.sgb_search.specs.Digits
+pub use Rattle.sgb_search.specs.Halving
+pub use Rattle.sgb_search.specs.Galloping
+pub use Rattle.sgb_search.specs.Seeking
 pub use Rattle.sgb_search.specs.Search
 pub use Rattle.sgb_linear_group.specs.Linear
 pub use Rattle.sgb_linear_group.specs.LinearMut

@@ -6,7 +6,7 @@ ghost use Rattle.sgb_search.specs.Search.{NeverDescends};
 /// Whether no neighbouring pair of the slice descends. Then it is grouped for `==`, so that the binary and exponential
 /// iterators find the groups that the linear ones find. A slice may be grouped and not sorted, as `[2, 1]` is.
 ///
-/// It compares each neighbouring pair from the front on, by `cmp`, up to the first that descends.
+/// It compares each neighbouring pair from the front on, by `<=`, up to the first that descends.
 ///
 /// ```
 /// is_sorted_for_groups(&[1, 1, 2]); // true
