@@ -124,7 +124,7 @@ module _ {J T : Type 0} (judge : Ghosts J T) (xs : List T) where
         run = q.1;
         outward = like_outward rs q.0 q.2;
         few = subst (λ (m : ℕ). IsWithin cost m (place_of r + 1) (length q.0)) n (subst (λ (m : ℕ). IsWithin cost (len + 1) (place_of r + 1) m) (sym (like_length rs q.0 q.2)) h.few);
-        ends = ends_by rs q.0 q.2 cost.again len r n h.place;
+        ends = ends_by rs q.0 q.2 cost.may_contradict len r n h.place;
       }
 
   place_is : (r : Result ℕ ℕ) (i : ℕ) → (r ≡ Ok i) ⊎ (r ≡ Err i) → place_of r ≡ i

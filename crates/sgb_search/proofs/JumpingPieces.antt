@@ -132,7 +132,7 @@ module _ {T J : Type 0} (g : Ghosts J T) (cost : SearchCost) (p : T → T → Bo
   -- of calls on a judge that answers by its arguments alone
   pub ends_locally : (allowed : T × T → Type 0) (xs : List T) → ((q : T × T) → IsOutward xs q → allowed q) → (j : J) (n : ℕ) (k : J) → AnswersBy g.may_ask g.answers allowed (on_pairs p) j → Jumps xs g cost j n k → IsLocalEnd xs p n
   ends_locally allowed xs sub j n k by h =
-      local_end g p xs h.questions (by.at h.questions k h.run (all_each _ _ (λ r. sub r.0) h.questions h.outward)) cost.again n h.ends
+      local_end g p xs h.questions (by.at h.questions k h.run (all_each _ _ (λ r. sub r.0) h.questions h.outward)) cost.may_contradict n h.ends
 
   first_taken : (s : Groups T J) (group : List T) (t : Groups T J) → IsSettledApart g s p → IsFrontJump g cost s group t → TakesFirst p s.remainder (Some group) t.remainder
   first_taken s [] t m h = absurd (omega (arith, h.nonempty))

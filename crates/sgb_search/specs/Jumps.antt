@@ -12,15 +12,15 @@ pub record SearchCost : Type 0 where
   -- the most questions of all calls on n elements
   pub walk : ℕ → ℕ
   -- both answers may come about one element at the end of the group
-  pub again : Bool
+  pub may_contradict : Bool
 
 -- by halving the places beside the outermost element
 abbrev pub halving : SearchCost
-halving = record { call = λ n g. digits (n - 1); walk = λ n. n * digits n; again = false }
+halving = record { call = λ n g. digits (n - 1); walk = λ n. n * digits n; may_contradict = false }
 
 -- by galloping over them from the outermost element on
 abbrev pub galloping : SearchCost
-galloping = record { call = λ n g. 2 * digits g + 1; walk = λ n. 3 * n; again = true }
+galloping = record { call = λ n g. 2 * digits g + 1; walk = λ n. 3 * n; may_contradict = true }
 
 -- m questions are within the cost of a call that takes g of n elements, and no more than it takes off the cost of all calls
 pub record IsWithin (cost : SearchCost) (n g m : ℕ) : Type 0 where
@@ -51,7 +51,7 @@ module _ {T : Type 0} (xs : List T) where
 
   -- the first g end there by the answers: both of the above; or, where they may, both answers came about one of the two elements there
   abbrev pub EndsBy : Bool → List ((T × T) × Bool) → ℕ → Type 0
-  EndsBy again qs g = (IsInner qs g × IsBeyond qs g) ⊎ ((again ≡ true) × (((1 < g) × BothWays qs (g - 1)) ⊎ BothWays qs g))
+  EndsBy both qs g = (IsInner qs g × IsBeyond qs g) ⊎ ((both ≡ true) × (((1 < g) × BothWays qs (g - 1)) ⊎ BothWays qs g))
 
   -- the questions of a call that takes the first g elements, from the state j of the judge to the state k
   pub record Jumps {J : Type 0} (judge : Ghosts J T) (cost : SearchCost) (j : J) (g : ℕ) (k : J) : Type 0 where
@@ -59,7 +59,7 @@ module _ {T : Type 0} (xs : List T) where
     pub run : IsRun judge.may_ask judge.answers j questions k
     pub outward : AllByRecursion (λ r. IsOutward r.0) questions
     pub few : IsWithin cost (length xs) g (length questions)
-    pub ends : EndsBy cost.again questions g
+    pub ends : EndsBy cost.may_contradict questions g
 
   -- by p the first g elements end at a local boundary: the innermost agrees with the outermost, and the element beyond does not
   pub record IsLocalEnd (p : T → T → Bool) (g : ℕ) : Type 0 where

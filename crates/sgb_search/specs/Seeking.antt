@@ -11,16 +11,16 @@ use Rattle.sgb_search.specs.Jumps.{SearchCost, IsWithin}
 module _ {S : Type 0} (may : S → ℕ → Type 0) (gives : S → ℕ → Ordering → S → Type 0) where
   -- what an answer tells: of `Ok`, that the place answered Equal; of `Err`, both its ends, or that one of the two places there answered in two ways
   abbrev pub IsSoughtPlace : Bool → ℕ → List (ℕ × Ordering) → Result ℕ ℕ → Type 0
-  IsSoughtPlace again len rs (Ok i) = Contains rs (i, Equal)
-  IsSoughtPlace again len rs (Err i) =
-      (i ≤ len) × ((IsLowEnd may gives rs 0 i × IsHighEnd may gives rs len i) ⊎ ((again ≡ true) × (((0 < i) × TwoAnswers rs (i - 1)) ⊎ TwoAnswers rs i)))
+  IsSoughtPlace both len rs (Ok i) = Contains rs (i, Equal)
+  IsSoughtPlace both len rs (Err i) =
+      (i ≤ len) × ((IsLowEnd may gives rs 0 i × IsHighEnd may gives rs len i) ⊎ ((both ≡ true) × (((0 < i) × TwoAnswers rs (i - 1)) ⊎ TwoAnswers rs i)))
 
   -- the run of a search of the places below len
   pub record SoughtBy (cost : SearchCost) (len : ℕ) (s : S) (r : Result ℕ ℕ) (t : S) (rs : List (ℕ × Ordering)) : Type 0 where
     pub run : IsRun may gives s rs t
     pub within : AllByRecursion (λ r. IsBetween 0 len r.0) rs
     pub few : IsWithin cost (len + 1) (place_of r + 1) (length rs)
-    pub place : IsSoughtPlace cost.again len rs r
+    pub place : IsSoughtPlace cost.may_contradict len rs r
 
   -- there is such a run
   abbrev pub IsSought : SearchCost → ℕ → S → Result ℕ ℕ → S → Type 0
