@@ -8,8 +8,9 @@ use Rattle.sgb_search.specs.Runs.{IsRunOf, AsksWithin}
 use Rattle.sgb_search.specs.Neighbours.{neighbours}
 use Rattle.sgb_search.specs.Ends.{CutsFront, CutsBack}
 use Rattle.sgb_search.specs.Split.{TakesFirst, TakesLast}
-use Rattle.sgb_search.specs.LinearCalls.{FrontCall, BackCall, AsksEachOnce}
+use Rattle.sgb_search.specs.LinearCalls.{AsksFront, AsksBack, FrontCall, BackCall, AsksEachOnce}
 use Rattle.sgb_search.proofs.LinearPairs.{front_asks_once, back_asks_once}
+use Rattle.sgb_search.proofs.Calls as calls
 use Rattle.sgb_search.proofs.LinearQueue as list
 use Rattle.sgb_linear_str_group.specs.Texts.{TextGroups, in_characters, IsSettledText, FrontTextCall, BackTextCall}
 
@@ -38,12 +39,12 @@ module _ {J : Type 0} (g : Ghosts J ℕ) where
     pub front_part : (s : Q) (r : Option I) (t : Q) → FrontTextCall g (seen s) (option_map bytes r) (seen t) → CutsFront (chars (seen s).text) (option_map (λ x. chars (bytes x)) r) (chars (seen t).text)
     front_part s r t h =
         subst (λ o. CutsFront (chars (seen s).text) o (chars (seen t).text)) (shown r)
-        (list.front_part g (in_characters (seen s)) (option_map chars (option_map bytes r)) (in_characters (seen t)) (front_call (seen s) (seen t) (option_map bytes r) h))
+        (calls.front_part (AsksFront g) (in_characters (seen s)) (option_map chars (option_map bytes r)) (in_characters (seen t)) (front_call (seen s) (seen t) (option_map bytes r) h))
 
     pub back_part : (s : Q) (r : Option I) (t : Q) → BackTextCall g (seen s) (option_map bytes r) (seen t) → CutsBack (chars (seen s).text) (option_map (λ x. chars (bytes x)) r) (chars (seen t).text)
     back_part s r t h =
         subst (λ o. CutsBack (chars (seen s).text) o (chars (seen t).text)) (shown r)
-        (list.back_part g (in_characters (seen s)) (option_map chars (option_map bytes r)) (in_characters (seen t)) (back_call (seen s) (seen t) (option_map bytes r) h))
+        (calls.back_part (AsksBack g) (in_characters (seen s)) (option_map chars (option_map bytes r)) (in_characters (seen t)) (back_call (seen s) (seen t) (option_map bytes r) h))
 
     -- and by bytes
     pub front_bytes : (s : Q) (r : Option I) (t : Q) → FrontTextCall g (seen s) (option_map bytes r) (seen t) → CutsFront (seen s).text (option_map bytes r) (seen t).text

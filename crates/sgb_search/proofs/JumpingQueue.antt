@@ -12,17 +12,6 @@ use Rattle.sgb_search.proofs.Runs.{run_of_none, run_of_more}
 use Rattle.sgb_search.proofs.JumpingPieces.{front_gives_piece, back_gives_piece}
 
 module _ {T J : Type 0} (g : Ghosts J T) (cost : SearchCost) where
-  some : (xs : List T) → 0 < length xs → xs ≡ [] → ⊥
-  some xs l e = omega (arith, l, ap length e)
-
-  pub front_part : (s : Groups T J) (r : Option (List T)) (t : Groups T J) → FrontJump g cost s r t → CutsFront s.remainder r t.remainder
-  front_part s None t h = (h.0, ap (λ u. u.remainder) h.1 ∙ h.0)
-  front_part s (Some x) t h = (some x h.nonempty, h.cut)
-
-  pub back_part : (s : Groups T J) (r : Option (List T)) (t : Groups T J) → BackJump g cost s r t → CutsBack s.remainder r t.remainder
-  back_part s None t h = (h.0, ap (λ u. u.remainder) h.1 ∙ h.0)
-  back_part s (Some x) t h = (some x h.nonempty, h.cut)
-
   pub front_piece : (s : Groups T J) (r : Option (List T)) (t : Groups T J) (p : T → T → Bool) → FrontJump g cost s r t → IsSettledApart g s p → TakesFirst p s.remainder r t.remainder × IsSettledApart g t p
   front_piece s r t p h m = front_gives_piece g cost p s t r m h
 
@@ -35,12 +24,6 @@ module _ {T J : Type 0} (g : Ghosts J T) (cost : SearchCost) where
 
   abbrev due : Groups T J → ℕ
   due s = cost.walk (length s.remainder)
-
-  pub asked_none : (s : Groups T J) → asked s s 0
-  asked_none s = run_of_none g.may_ask g.answers s.judge
-
-  pub asked_more : (s t u : Groups T J) (k m : ℕ) → asked s t k → asked t u m → asked s u (k + m)
-  asked_more s t u k m = run_of_more g.may_ask g.answers s.judge t.judge u.judge k m
 
   nothing_asked : (s t : Groups T J) → t ≡ s → AsksWithin asked due false s t
   nothing_asked s t e = record { number = 0; asks = ([], ap (λ u. u.judge) e, refl); most = omega (arith, ap due e); all = λ never. cc never }

@@ -12,17 +12,6 @@ use Rattle.sgb_search.proofs.LinearPieces.{front_gives_piece, back_gives_piece}
 use Rattle.sgb_search.proofs.LinearPairs.{front_asks_once, back_asks_once, count_asked}
 
 module _ {T J : Type 0} (g : Ghosts J T) where
-  some : (xs : List T) → 0 < length xs → xs ≡ [] → ⊥
-  some xs l e = omega (arith, l, ap length e)
-
-  pub front_part : (s : Groups T J) (r : Option (List T)) (t : Groups T J) → FrontCall g s r t → CutsFront s.remainder r t.remainder
-  front_part s None t h = (h.0, ap (λ u. u.remainder) h.1 ∙ h.0)
-  front_part s (Some x) t h = (some x h.nonempty, h.cut)
-
-  pub back_part : (s : Groups T J) (r : Option (List T)) (t : Groups T J) → BackCall g s r t → CutsBack s.remainder r t.remainder
-  back_part s None t h = (h.0, ap (λ u. u.remainder) h.1 ∙ h.0)
-  back_part s (Some x) t h = (some x h.nonempty, h.cut)
-
   pub front_piece : (s : Groups T J) (r : Option (List T)) (t : Groups T J) (p : T → T → Bool) → FrontCall g s r t → IsSettled g s p → TakesFirst p s.remainder r t.remainder × IsSettled g t p
   front_piece s r t p h m = front_gives_piece g p s t r m h
 
@@ -35,12 +24,6 @@ module _ {T J : Type 0} (g : Ghosts J T) where
 
   abbrev due : Groups T J → ℕ
   due s = length (neighbours s.remainder)
-
-  pub asked_none : (s : Groups T J) → asked s s 0
-  asked_none s = run_of_none g.may_ask g.answers s.judge
-
-  pub asked_more : (s t u : Groups T J) (k m : ℕ) → asked s t k → asked t u m → asked s u (k + m)
-  asked_more s t u k m = run_of_more g.may_ask g.answers s.judge t.judge u.judge k m
 
   within : (s t : Groups T J) → AsksEachOnce g s t → AsksWithin asked due true s t
   within s t a = let n = count_asked g s t a in record { number = length a.questions; asks = (a.questions, a.run, refl); most = omega (arith, n); all = λ _. n }

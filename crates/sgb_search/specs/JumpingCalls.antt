@@ -1,10 +1,11 @@
--- What a call gives that jumps: on a binary or exponential iterator.
-use Rattle.std.specs.Prelude.{◌≡◌, ◌<◌, Bool, List, [], ◌++◌, length, reverse, Option, MatchOption}
+-- What a call asks and gives that jumps: on a binary or exponential iterator.
+use Rattle.std.specs.Prelude.{ℕ, Bool, List, reverse, Option}
 use Rattle.sgb_search.specs.declared.judge.Judge.{Ghosts}
 use Rattle.sgb_search.specs.Apart.{IsGrouped}
 use Rattle.sgb_search.specs.Jumps.{SearchCost, Jumps}
 use Rattle.sgb_search.specs.Judges.{MayAskApart, AnswersApart}
 use Rattle.sgb_search.specs.Groups.{Groups}
+use Rattle.sgb_search.specs.Calls as calls
 
 module _ {T J : Type 0} (g : Ghosts J T) where
   -- the judge may be asked about every two different places of what remains, in both orders, now and after any such questions
@@ -21,22 +22,25 @@ module _ {T J : Type 0} (g : Ghosts J T) where
     pub grouped : IsGrouped p s.remainder
 
   module _ (cost : SearchCost) where
-    -- the group is a nonempty beginning of the remainder, and t has the rest
-    pub record IsFrontJump (s : Groups T J) (group : List T) (t : Groups T J) : Type 0 where
-      pub nonempty : 0 < length group
-      pub cut : s.remainder ≡ group ++ t.remainder
-      pub asked : Jumps s.remainder g cost s.judge (length group) t.judge
+    -- the first n elements are found by a jump
+    abbrev pub JumpsOver : List T → ℕ → J → J → Type 0
+    JumpsOver xs n j k = Jumps xs g cost j n k
 
-    -- the same at the back
-    pub record IsBackJump (s : Groups T J) (group : List T) (t : Groups T J) : Type 0 where
-      pub nonempty : 0 < length group
-      pub cut : s.remainder ≡ t.remainder ++ group
-      pub asked : Jumps (reverse s.remainder) g cost s.judge (length group) t.judge
+    -- the last n are, with the elements read from the back
+    abbrev pub JumpsBackOver : List T → ℕ → J → J → Type 0
+    JumpsBackOver xs n j k = Jumps (reverse xs) g cost j n k
 
-    -- a call at the front: it gives a group there, or `None` exactly where nothing remains, and then nothing is asked and nothing changes
+    -- a call at the front
     abbrev pub FrontJump : Groups T J → Option (List T) → Groups T J → Type 0
-    FrontJump s group t = MatchOption group ((s.remainder ≡ []) × (t ≡ s)) (λ x. IsFrontJump s x t)
+    FrontJump = calls.FrontCall JumpsOver
 
     -- a call at the back
     abbrev pub BackJump : Groups T J → Option (List T) → Groups T J → Type 0
-    BackJump s group t = MatchOption group ((s.remainder ≡ []) × (t ≡ s)) (λ x. IsBackJump s x t)
+    BackJump = calls.BackCall JumpsBackOver
+
+    -- such a call that gives a group
+    abbrev pub IsFrontJump : Groups T J → List T → Groups T J → Type 0
+    IsFrontJump = calls.IsFrontGroup JumpsOver
+
+    abbrev pub IsBackJump : Groups T J → List T → Groups T J → Type 0
+    IsBackJump = calls.IsBackGroup JumpsBackOver

@@ -5,6 +5,7 @@ pub mod Runs
 pub mod Apart
 pub mod Judges
 pub mod Groups
+pub mod Calls
 pub mod LinearCalls
 pub mod Digits
 pub mod Halving

@@ -1,10 +1,11 @@
--- What a linear call gives: by elements of a slice, and by characters of a text.
-use Rattle.std.specs.Prelude.{◌≡◌, ◌<◌, Bool, List, [], ◌++◌, length, map, Option, MatchOption, IsPermutation}
+-- What a linear call asks and gives: by elements of a slice, and by characters of a text.
+use Rattle.std.specs.Prelude.{◌≡◌, ℕ, Bool, List, ◌++◌, map, Option, IsPermutation}
 use Rattle.sgb_search.specs.declared.judge.Judge.{Ghosts}
 use Rattle.sgb_search.specs.Runs.{IsRun}
 use Rattle.sgb_search.specs.Neighbours.{neighbours, front_questions, back_questions}
 use Rattle.sgb_search.specs.Judges.{MayAskAlong, AnswersAlong}
 use Rattle.sgb_search.specs.Groups.{Groups}
+use Rattle.sgb_search.specs.Calls as calls
 
 module _ {T J : Type 0} (g : Ghosts J T) where
   -- the judge may be asked about the neighbouring pairs that remain, now and after any such questions
@@ -15,25 +16,28 @@ module _ {T J : Type 0} (g : Ghosts J T) where
   abbrev pub IsSettled : Groups T J → (T → T → Bool) → Type 0
   IsSettled s p = AnswersAlong g s.remainder p s.judge
 
-  -- the group is a nonempty beginning of the remainder, t has the rest, and exactly the questions up to the group's end were asked
-  pub record IsFrontGroup (s : Groups T J) (group : List T) (t : Groups T J) : Type 0 where
-    pub nonempty : 0 < length group
-    pub cut : s.remainder ≡ group ++ t.remainder
-    pub asked : IsRun g.may_ask g.answers s.judge (front_questions s.remainder (length group)) t.judge
+  -- exactly the questions up to the end of the first n elements are asked
+  abbrev pub AsksFront : List T → ℕ → J → J → Type 0
+  AsksFront xs n j k = IsRun g.may_ask g.answers j (front_questions xs n) k
 
-  -- the same at the back
-  pub record IsBackGroup (s : Groups T J) (group : List T) (t : Groups T J) : Type 0 where
-    pub nonempty : 0 < length group
-    pub cut : s.remainder ≡ t.remainder ++ group
-    pub asked : IsRun g.may_ask g.answers s.judge (back_questions s.remainder (length group)) t.judge
+  -- the same of the last n
+  abbrev pub AsksBack : List T → ℕ → J → J → Type 0
+  AsksBack xs n j k = IsRun g.may_ask g.answers j (back_questions xs n) k
 
-  -- a call at the front: it gives the group there, or `None` exactly where nothing remains, and then nothing is asked and nothing changes
+  -- a call at the front
   abbrev pub FrontCall : Groups T J → Option (List T) → Groups T J → Type 0
-  FrontCall s group t = MatchOption group ((s.remainder ≡ []) × (t ≡ s)) (λ x. IsFrontGroup s x t)
+  FrontCall = calls.FrontCall AsksFront
 
   -- a call at the back
   abbrev pub BackCall : Groups T J → Option (List T) → Groups T J → Type 0
-  BackCall s group t = MatchOption group ((s.remainder ≡ []) × (t ≡ s)) (λ x. IsBackGroup s x t)
+  BackCall = calls.BackCall AsksBack
+
+  -- such a call that gives a group
+  abbrev pub IsFrontGroup : Groups T J → List T → Groups T J → Type 0
+  IsFrontGroup = calls.IsFrontGroup AsksFront
+
+  abbrev pub IsBackGroup : Groups T J → List T → Groups T J → Type 0
+  IsBackGroup = calls.IsBackGroup AsksBack
 
   -- from s to t the judge was asked about the neighbouring pairs that are gone, about each once
   pub record AsksEachOnce (s t : Groups T J) : Type 0 where

@@ -48,6 +48,21 @@ pub struct KeyJudge<F, K> {
     pub key: PhantomData<K>,
 }
 
+impl<F, K> KeyJudge<F, K> {
+    ghost use Rattle.sgb_search.specs.Judges.{key_judge};
+
+    /// A judge that asks for the keys of this function.
+    #[inline]
+    pub fn new(func: F) -> KeyJudge<F, K>
+        ensures { result ≡ key_judge func }
+    {
+        KeyJudge {
+            func,
+            key: PhantomData,
+        }
+    }
+}
+
 impl<T, K: PartialEq + Drop, F: FnMut(&T) -> K> Judge<T> for KeyJudge<F, K> {
     ghost use Rattle.sgb_search.specs.Judges.{by_key};
 

@@ -9,8 +9,9 @@ use Rattle.sgb_search.specs.Neighbours.{neighbours}
 use Rattle.sgb_search.specs.Groups.{Groups}
 use Rattle.sgb_search.proofs.Pairs.{length-neighbours}
 use Rattle.sgb_search.specs.LinearCalls.{AsksEachOnce}
-use Rattle.sgb_linear_group.specs.Linear.{GivesFront, GivesBack}
-use Rattle.sgb_linear_group.specs.LinearMut.{seen, GivesFrontMut, GivesBackMut}
+use Rattle.sgb_slice_group.specs.Linear.{GivesFront, GivesBack}
+use Rattle.sgb_slice_group.specs.Gives.{seen}
+use Rattle.sgb_slice_group.specs.LinearMut.{GivesFrontMut, GivesBackMut}
 use Rattle.sgb_loans.specs.GroupsMut.{GroupsMut}
 use Rattle.sgb_search.proofs.LinearPairs.{asks_none, asks_more, count_asked, front_asks_once, back_asks_once}
 use Rattle.slice_group_by.specs.declared.queue.End.{End}

@@ -8,6 +8,7 @@ pub use Rattle.sgb_search.specs.Ends
 pub use Rattle.sgb_search.specs.Runs
 pub use Rattle.sgb_search.specs.Judges
 pub use Rattle.sgb_search.specs.Groups
+pub use Rattle.sgb_search.specs.Calls
 pub use Rattle.sgb_search.specs.LinearCalls
 pub use Rattle.sgb_search.specs.Apart
 pub use Rattle.sgb_search.specs.Jumps
@@ -17,9 +18,10 @@ pub use Rattle.sgb_search.specs.Halving
 pub use Rattle.sgb_search.specs.Galloping
 pub use Rattle.sgb_search.specs.Seeking
 pub use Rattle.sgb_search.specs.Search
-pub use Rattle.sgb_linear_group.specs.Linear
-pub use Rattle.sgb_linear_group.specs.LinearMut
-pub use Rattle.sgb_jumping_group.specs.Jumping
+pub use Rattle.sgb_slice_group.specs.Gives
+pub use Rattle.sgb_slice_group.specs.Linear
+pub use Rattle.sgb_slice_group.specs.LinearMut
+pub use Rattle.sgb_slice_group.specs.Jumping
 pub use Rattle.sgb_linear_str_group.specs.Texts
 pub use Rattle.sgb_linear_str_group.specs.TextsMut
 pub use Rattle.sgb_loans.specs.GroupsMut

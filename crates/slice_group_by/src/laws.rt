@@ -18,8 +18,9 @@ ghost use Rattle.sgb_search.specs.Groups.{Groups};
 ghost use Rattle.slice_group_by.specs.declared.queue.End.{End};
 ghost use Rattle.slice_group_by.specs.declared.queue.End.TheVariants.{Front, Back};
 ghost use Rattle.sgb_search.specs.LinearCalls.{AsksEachOnce};
-ghost use Rattle.sgb_linear_group.specs.Linear.{GivesFront, GivesBack};
-ghost use Rattle.sgb_linear_group.specs.LinearMut.{seen, GivesFrontMut, GivesBackMut};
+ghost use Rattle.sgb_slice_group.specs.Linear.{GivesFront, GivesBack};
+ghost use Rattle.sgb_slice_group.specs.Gives.{seen};
+ghost use Rattle.sgb_slice_group.specs.LinearMut.{GivesFrontMut, GivesBackMut};
 ghost use Rattle.sgb_loans.specs.GroupsMut.{GroupsMut};
 ghost use Rattle.sgb_linear_str_group.specs.Texts.{TextGroups, in_characters, GivesFrontText, GivesBackText};
 ghost use Rattle.sgb_linear_str_group.specs.TextsMut.{TextGroupsMut, seen_text, GivesFrontTextMut, GivesBackTextMut};
@@ -29,13 +30,14 @@ ghost use Rattle.slice_group_by.specs.Plans.{run, IsRight, IsHalvingPlan};
 ghost use Rattle.slice_group_by.specs.Walk.{Partition, IsChain};
 ghost use Rattle.slice_group_by.specs.Queue.{at_end, answers, left};
 
-pub use crate::families::{families_agree, groups_end_locally};
+pub use crate::families::{
+    families_agree, families_agree_mut, groups_end_locally, groups_end_locally_mut,
+    reading_and_writing_agree,
+};
 pub use crate::plans::{Plan, refute};
 use crate::queue::GroupQueue;
 pub use crate::ranks::rank_groups;
 pub use crate::sorted::is_sorted_for_groups;
-use sgb_linear_group::groups::LinearGroups;
-use sgb_linear_group::groups_mut::LinearGroupsMut;
 use sgb_linear_str_group::groups::LinearStrGroups;
 use sgb_linear_str_group::groups_mut::LinearStrGroupsMut;
 use sgb_search::judge::Judge;
@@ -44,6 +46,8 @@ pub use sgb_search::laws::{
     always_callable_key, always_callable_key_apart, always_callable_on_elements, always_computes,
     ascending_is_grouped, digits_is_least, equality_judges, one_split, question_count,
 };
+use sgb_slice_group::groups::LinearGroups;
+use sgb_slice_group::groups_mut::LinearGroupsMut;
 
 /// One call on a queue that is settled for a test: it gives the outermost piece of the split of what remained, or `None`
 /// where there is no piece; the other pieces are the split of what remains; and the queue is settled again.

@@ -15,16 +15,15 @@
 #![tactic(auto)]
 
 mod families;
-mod jumping;
 pub mod laws;
-mod linear;
-mod linear_mut;
 mod linear_str;
 mod linear_str_mut;
 pub mod loans;
 mod plans;
 mod queue;
 mod ranks;
+mod slices;
+mod slices_mut;
 mod sorted;
 mod str_traits;
 #[cfg(test)]
@@ -34,16 +33,6 @@ mod traits;
 pub use plans::{Plan, refute};
 pub use queue::{End, GroupQueue, walk};
 pub use ranks::rank_groups;
-pub use sgb_jumping_group::binary_group::{BinaryGroup, BinaryGroupBy, BinaryGroupByKey};
-pub use sgb_jumping_group::exponential_group::{
-    ExponentialGroup, ExponentialGroupBy, ExponentialGroupByKey,
-};
-pub use sgb_linear_group::linear_group::LinearGroup;
-pub use sgb_linear_group::linear_group_by::LinearGroupBy;
-pub use sgb_linear_group::linear_group_by_key::LinearGroupByKey;
-pub use sgb_linear_group::linear_group_by_key_mut::LinearGroupByKeyMut;
-pub use sgb_linear_group::linear_group_by_mut::LinearGroupByMut;
-pub use sgb_linear_group::linear_group_mut::LinearGroupMut;
 pub use sgb_linear_str_group::linear_str_group::LinearStrGroup;
 pub use sgb_linear_str_group::linear_str_group_by::LinearStrGroupBy;
 pub use sgb_linear_str_group::linear_str_group_by_key::LinearStrGroupByKey;
@@ -53,6 +42,22 @@ pub use sgb_linear_str_group::linear_str_group_mut::LinearStrGroupMut;
 pub use sgb_search::search::{
     exponential_search, exponential_search_by, exponential_search_by_key,
 };
+pub use sgb_slice_group::jumping::binary::{BinaryGroup, BinaryGroupBy, BinaryGroupByKey};
+pub use sgb_slice_group::jumping::binary_mut::{
+    BinaryGroupByKeyMut, BinaryGroupByMut, BinaryGroupMut,
+};
+pub use sgb_slice_group::jumping::exponential::{
+    ExponentialGroup, ExponentialGroupBy, ExponentialGroupByKey,
+};
+pub use sgb_slice_group::jumping::exponential_mut::{
+    ExponentialGroupByKeyMut, ExponentialGroupByMut, ExponentialGroupMut,
+};
+pub use sgb_slice_group::linear::group::LinearGroup;
+pub use sgb_slice_group::linear::group_by::LinearGroupBy;
+pub use sgb_slice_group::linear::group_by_key::LinearGroupByKey;
+pub use sgb_slice_group::linear::group_by_key_mut::LinearGroupByKeyMut;
+pub use sgb_slice_group::linear::group_by_mut::LinearGroupByMut;
+pub use sgb_slice_group::linear::group_mut::LinearGroupMut;
 pub use sorted::is_sorted_for_groups;
 pub use str_traits::{StrGroupBy, StrGroupByMut};
 pub use traits::{GroupBy, GroupByMut};

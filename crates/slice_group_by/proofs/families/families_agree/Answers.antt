@@ -1,9 +1,5 @@
-use Rattle.sgb_search.specs.Jumps.{halving, galloping}
-use Rattle.slice_group_by.proofs.FamiliesAgree as agree
+use Rattle.slice_group_by.proofs.FamiliesAgree.{queues_agree, reading_takes}
 use Rattle.slice_group_by.proofs.families.families_agree.Goals as goal
 
-pub returns-clause-binary : goal.returns-clause-binary
-returns-clause-binary g c = agree.families_agree g.I.Judge g.J.Judge halving
-
-pub returns-clause-exponential : goal.returns-clause-exponential
-returns-clause-exponential g c = agree.families_agree g.I.Judge g.K.Judge galloping
+pub returns : goal.returns
+returns g c p = queues_agree p _ _ _ _ (reading_takes g.B.GroupCut g.I.Judge) _ _ _ _ (reading_takes g.C.GroupCut g.J.Judge)

@@ -1,5 +1,5 @@
 use Rattle.slice_group_by.specs.Queue.{at_end}
-use Rattle.sgb_linear_group.specs.Linear.{GivesFront, GivesBack}
+use Rattle.sgb_slice_group.specs.Linear.{GivesFront, GivesBack}
 use Rattle.slice_group_by.proofs.PairsAsked.{chain_asks_once, whole_asks, asks_once}
 use Rattle.slice_group_by.proofs.laws.each_pair_asked_once.Goals as goal
 

@@ -1,5 +1,6 @@
 use Rattle.slice_group_by.specs.Queue.{at_end}
-use Rattle.sgb_linear_group.specs.LinearMut.{seen, GivesFrontMut, GivesBackMut}
+use Rattle.sgb_slice_group.specs.Gives.{seen}
+use Rattle.sgb_slice_group.specs.LinearMut.{GivesFrontMut, GivesBackMut}
 use Rattle.slice_group_by.proofs.PairsAsked.{chain_asks_once, whole_asks, asks_once_mut}
 use Rattle.slice_group_by.proofs.laws.each_pair_asked_once_mut.Goals as goal
 

@@ -1,6 +1,6 @@
 use Rattle.std.proofs.Common.{length, ◌≡◌, ◌≤◌, ◌+◌, ◌++◌, nat_eq, []}
 use Rattle.sgb_search.specs.Split.{split}
-use Rattle.sgb_linear_group.specs.LinearMut.{IsSettledMut}
+use Rattle.sgb_slice_group.specs.LinearMut.{IsSettledMut}
 use Rattle.sgb_search.specs.Judges.{by_equality}
 use Rattle.slice_group_by.specs.Ranks.{ranks}
 use Rattle.slice_group_by.proofs.Numbered.{numbered}

@@ -1,0 +1,20 @@
+use Rattle.std.proofs.Common.{arith, ◌-◌, subst, sym}
+use Rattle.sgb_search.specs.Calls.{MayCall}
+use Rattle.sgb_search.specs.Groups.{Groups}
+use Rattle.sgb_slice_group.proofs.Cuts.{back_cut, callable_front}
+use Rattle.sgb_slice_group.proofs.groups.SliceGroups.take_back.Goals as goal
+
+pub back_length-len-requires-clause-callable : goal.back_length-len-requires-clause-callable
+back_length-len-requires-clause-callable g c = subst (λ (s : Groups g.row.T.Denot g.row.J.Denot). MayCall (g.C.GroupCut.allowed _) g.J.Judge s) (sym c.self.view_is) c.requires
+
+pub returns-clause-gives : goal.returns-clause-gives
+returns-clause-gives g c =
+    let s = c.self.inside in
+    let e = c.back_length-len.ensures in
+    back_cut (g.C.GroupCut.asks_back _ _ g.J.Judge) s.slice.now s.low s.high c.self.invariant.within _ _ c.back_length-len.result (s.high - c.back_length-len.result) (omega (arith, e.within, c.self.invariant.order)) e.nonempty (omega (arith, e.within, c.self.invariant.order)) e.asked _ c.self.view_is
+
+pub returns-clause-callable : goal.returns-clause-callable
+returns-clause-callable g c =
+    let s = c.self.inside in
+    let e = c.back_length-len.ensures in
+    callable_front g.J.Judge (g.C.GroupCut.allowed _) s.slice.now s.low s.high _ (g.C.GroupCut.allowed_first _) (s.high - c.back_length-len.result) (omega (arith, e.within, c.self.invariant.order)) (omega arith) e.callable

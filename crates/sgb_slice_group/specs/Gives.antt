@@ -1,0 +1,32 @@
+-- What the calls of an iterator over the groups of a slice give, for reading and for writing, whatever they ask.
+use Rattle.std.specs.Prelude.{◌≡◌, ℕ, true, false, List, Option, MatchOption, option_copied}
+use Rattle.std.specs.Option.{option_copied_mut}
+use Rattle.std.specs.Borrow.{Bor, MutBor}
+use Rattle.sgb_search.specs.declared.judge.Judge.{Ghosts}
+use Rattle.sgb_search.specs.Groups.{Groups}
+use Rattle.sgb_search.specs.Calls.{MayCall, FrontCall, BackCall}
+use Rattle.sgb_loans.specs.GroupsMut.{GroupsMut, HandsOut}
+
+-- what an iterator for reading shows of the same
+abbrev pub seen : {T J : Type 0} → GroupsMut T J → Groups T J
+seen s = record { remainder = s.remainder; judge = s.judge }
+
+abbrev pub MayCallMut : {T J : Type 0} → (List T → T × T → Type 0) → Ghosts J T → GroupsMut T J → Type 0
+MayCallMut allowed g s = MayCall allowed g (seen s)
+
+module _ {T J : Type 0} (asks : List T → ℕ → J → J → Type 0) where
+  -- what `next` gives: what a call at the front gives
+  abbrev pub GivesFront : Groups T J → Option (Bor (List T)) → Groups T J → Type 0
+  GivesFront s group t = FrontCall asks s (option_copied group) t
+
+  -- what `next_back` gives
+  abbrev pub GivesBack : Groups T J → Option (Bor (List T)) → Groups T J → Type 0
+  GivesBack s group t = BackCall asks s (option_copied group) t
+
+  -- what `next` gives for writing: the same, and the group is out then; or nothing, and then nothing changes
+  abbrev pub GivesFrontMut : GroupsMut T J → Option (MutBor (List T)) → GroupsMut T J → Type 0
+  GivesFrontMut s group t = FrontCall asks (seen s) (option_copied_mut group) (seen t) × MatchOption group (t ≡ s) (λ x. HandsOut true s.loans x.ghost_name t.loans)
+
+  -- what `next_back` gives for writing
+  abbrev pub GivesBackMut : GroupsMut T J → Option (MutBor (List T)) → GroupsMut T J → Type 0
+  GivesBackMut s group t = BackCall asks (seen s) (option_copied_mut group) (seen t) × MatchOption group (t ≡ s) (λ x. HandsOut false s.loans x.ghost_name t.loans)

@@ -1,0 +1,4 @@
+pub mod Gives
+pub mod Linear
+pub mod LinearMut
+pub mod Jumping

@@ -1,0 +1,31 @@
+//! What can be seen of groups by a key for reading, of any family.
+ghost use Rattle.std.specs.Prelude.{◌≡◌, length, nat_eq};
+
+use crate::groups::SliceGroups;
+use sgb_search::judge::KeyJudge;
+
+impl<'a, T, F, K, C> SliceGroups<'a, T, KeyJudge<F, K>, C> {
+    /// The elements that no call has handed out yet.
+    #[inline]
+    pub fn remainder(&self) -> &[T]
+        ensures { result.now ≡ self.now.remainder }
+    {
+        self.rest()
+    }
+
+    /// How many elements no call has handed out yet.
+    #[inline]
+    pub fn remainder_len(&self) -> usize
+        ensures { result ≡ length self.now.remainder }
+    {
+        self.len()
+    }
+
+    /// Whether all elements are handed out.
+    #[inline]
+    pub fn is_empty(&self) -> bool
+        ensures { result ≡ nat_eq (length self.now.remainder) 0 }
+    {
+        self.remainder_len() == 0
+    }
+}
