@@ -1,6 +1,9 @@
 //! The rows of binary and exponential groups.
-use crate::lines::{differs, write_groups};
-use slice_group_by::{BinaryGroup, BinaryGroupBy, End, ExponentialGroupBy, GroupBy, walk};
+use crate::lines::{differs, read, write_groups};
+use slice_group_by::{
+    BinaryGroup, BinaryGroupBy, End, ExponentialGroupBy, ExponentialGroupByMut, GroupBy,
+    GroupByMut, walk,
+};
 use std::cell::Cell;
 use std::io::{Error, Write};
 
@@ -66,6 +69,38 @@ pub(crate) fn row_6<W: Write>(out: &mut W) -> Result<bool, Error> {
         counted &= group == ROW_6[i] && questions.get() <= MOST[i];
     }
     write_groups(out, 6, &answers, &ROW_6, counted)
+}
+
+const ROW_7: [Group; 4] = [Some(&[3, 3]), Some(&[2, 2, 2]), Some(&[1, 1, 1]), None];
+
+fn four_in_reverse<'a>(slice: &'a mut &mut [i32]) -> [Option<&'a [i32]>; 4] {
+    let mut groups = slice.exponential_group_by_mut(|a, b| a == b).rev();
+    [
+        read(groups.next()),
+        read(groups.next()),
+        read(groups.next()),
+        read(groups.next()),
+    ]
+}
+
+// Groups of a sorted slice for writing by galloping, in reverse: at most five questions a call. They are counted on a
+// second iterator, from the back.
+pub(crate) fn row_7<W: Write>(out: &mut W) -> Result<bool, Error> {
+    let mut slice: &mut [i32] = &mut [1, 1, 1, 2, 2, 2, 3, 3];
+    let answers = four_in_reverse(&mut slice);
+    let mut other = [1, 1, 1, 2, 2, 2, 3, 3];
+    let questions = Cell::new(0usize);
+    let mut counting = ExponentialGroupByMut::new(&mut other, |a, b| {
+        questions.set(questions.get().wrapping_add(1));
+        a == b
+    });
+    let mut counted = true;
+    for wanted in &ROW_7 {
+        questions.set(0);
+        let group = read(counting.next_back());
+        counted &= group == *wanted && questions.get() <= 5;
+    }
+    write_groups(out, 7, &answers, &ROW_7, counted)
 }
 
 // A slice that is not grouped: the group ends at a local boundary.

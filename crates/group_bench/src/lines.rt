@@ -58,6 +58,14 @@ pub(crate) fn write_answers<W: Write>(
     writeln!(out)
 }
 
+// A group for writing, to be read from now on.
+pub(crate) fn read(group: Option<&mut [i32]>) -> Option<&[i32]> {
+    match group {
+        Some(group) => Some(group),
+        None => None,
+    }
+}
+
 #[cfg(test)]
 mod tests {
     use super::*;

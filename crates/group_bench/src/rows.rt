@@ -2,8 +2,8 @@
 //! exponential groups stand in `jumps`, those over texts in `texts`, and those of searches and plans in `searches`.
 ghost use Rattle.std.specs.Prelude.{◌<ℤ◌};
 
-use crate::jumps::{row_4, row_5, row_6, row_11, row_12, row_18};
-use crate::lines::{differs, write_answers, write_groups};
+use crate::jumps::{row_4, row_5, row_6, row_7, row_11, row_12, row_18};
+use crate::lines::{differs, read, write_answers, write_groups};
 use crate::searches::{row_8, row_15};
 use crate::texts::{row_9, row_10, row_16};
 use slice_group_by::{
@@ -23,6 +23,7 @@ pub fn run<W: Write>(out: &mut W) -> Result<bool, Error> {
     same &= row_4(out)?;
     same &= row_5(out)?;
     same &= row_6(out)?;
+    same &= row_7(out)?;
     same &= row_8(out)?;
     same &= row_9(out)?;
     same &= row_10(out)?;
@@ -135,14 +136,6 @@ fn row_14<W: Write>(out: &mut W) -> Result<bool, Error> {
     Ok(true)
 }
 
-// A group for writing, to be read from now on.
-fn read(group: Option<&mut [i32]>) -> Option<&[i32]> {
-    match group {
-        Some(group) => Some(group),
-        None => None,
-    }
-}
-
 const ROW_17: [Group; 2] = [Some(&[1, 2, 3, 4, 5]), None];
 
 // A predicate that may be called only where the left element is below the right one, from the back.
@@ -172,6 +165,7 @@ row 3: [1, 2, 3] [2, 3] None\n\
 row 4: None None\n\
 row 5: [1] None None\n\
 row 6: [1, 1, 1] [3, 3] [2, 2, 2] None None\n\
+row 7: [3, 3] [2, 2, 2] [1, 1, 1] None\n\
 row 8: Ok(9) Err(7) Err(13) in 1..=4 Err(0) Ok(9) Err(7) Err(13) in 1..=4\n\
 row 9: aaaa bbbbb 饰饰 cccc None\n\
 row 10: ab\n\
@@ -186,7 +180,7 @@ row 18: [1]\n";
 
     #[test]
     fn writes_the_lines(rt: HostRuntime) {
-        let mut bytes = [0u8; 530];
+        let mut bytes = [0u8; 569];
         assert_eq!(rt; bytes.len(), LINES.len());
         let mut rest: &mut [u8] = &mut bytes;
         assert!(rt; matches!(run(&mut rest), Ok(true)));
@@ -195,8 +189,8 @@ row 18: [1]\n";
 
     #[test]
     fn ends_at_a_fault_of_the_writer(rt: HostRuntime) {
-        for room in 0..530 {
-            let mut bytes = [0u8; 530];
+        for room in 0..569 {
+            let mut bytes = [0u8; 569];
             let mut rest: &mut [u8] = &mut bytes[..room];
             assert!(rt; run(&mut rest).is_err(), "with room for {room} bytes");
         }
