@@ -1,2 +1,3 @@
 pub mod Joins
 pub mod Waiting
+pub mod KeptTotals

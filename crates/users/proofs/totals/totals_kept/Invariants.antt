@@ -1,0 +1,20 @@
+use Rattle.std.proofs.Common.{◌≡◌, ◌≤◌, ◌++◌, [], map, nat_eq, length}
+use Rattle.slice_group_by.specs.Judges.{by_key}
+use Rattle.slice_group_by.specs.Jumping.{IsSettledApartMut}
+use Rattle.slice_group_by.specs.Split.{split, joined}
+use Rattle.users.specs.Join.{same_key}
+use Rattle.users.specs.Totals.{total, kept}
+use Rattle.users.proofs.totals.totals_kept.Given as goal
+
+abbrev pub invariant-loop-group : goal.invariant-loop-group
+invariant-loop-group g l = record {
+  settled : IsSettledApartMut (by_key g.F.FnMut nat_eq) l.groups same_key;
+  fits : total l.groups.remainder ≤ 4294967295;
+  root : l.groups.loans.root ≡ l.initial.groups.loans.root;
+  cuts : l.groups.loans.cuts ≡ [];
+  after : l.groups.loans.after ≡ [];
+  done : l.groups.loans.before ++ joined (map kept (split same_key l.groups.remainder)) ≡ joined (map kept (split same_key l.initial.groups.remainder));
+}
+
+abbrev pub decreases-loop-group : goal.decreases-loop-group
+decreases-loop-group g l = length l.groups.remainder

@@ -1,0 +1,71 @@
+//! A slice of keys and counts that ascends by the key, with a total kept for each key.
+ghost use Rattle.std.specs.Prelude.{◌≡◌, ◌≤◌, [], map, nat_eq};
+ghost use Rattle.std.specs.Ordering.{nat_cmp};
+ghost use Rattle.slice_group_by.specs.Judges.{by_key};
+ghost use Rattle.slice_group_by.specs.Jumping.{IsCallableApartMut, IsSettledApartMut};
+ghost use Rattle.slice_group_by.specs.Search.{NeverDescends};
+ghost use Rattle.slice_group_by.specs.Split.{split, joined};
+ghost use Rattle.users.specs.Join.{same_key};
+ghost use Rattle.users.specs.Totals.{total, kept};
+
+use crate::merge_join::Entry;
+use slice_group_by::ExponentialGroupByKeyMut;
+use slice_group_by::laws::{ascending_is_grouped, calls_take_pieces};
+use slice_group_by::loans::{Ended, settle};
+
+fn total_of(group: &[Entry]) -> u32
+    requires { total group.now ≤ 4294967295 }
+    ensures { result ≡ total group.now }
+{
+    group.iter().map(|e| e.1).sum()
+}
+
+// Keeps the total of each group that is still to come.
+fn totals_kept<'a, F: FnMut(&Entry) -> u32>(
+    mut groups: ExponentialGroupByKeyMut<'a, Entry, F, u32>,
+) -> Ended<'a, Entry>
+    requires callable { IsCallableApartMut (by_key F.FnMut nat_eq) groups }
+    requires settled { IsSettledApartMut (by_key F.FnMut nat_eq) groups same_key }
+    requires fits { total groups.remainder ≤ 4294967295 }
+    requires before { groups.loans.before ≡ [] }
+    requires after { groups.loans.after ≡ [] }
+    requires cuts { groups.loans.cuts ≡ [] }
+    ensures name { result.name ≡ groups.entry.loans.root }
+    ensures value { result.value ≡ joined (map kept (split same_key groups.entry.remainder)) }
+{
+    calls_take_pieces(&groups);
+    while let Some(group) = groups.next() {
+        group[0].1 = total_of(group);
+        groups.note_front(Ended::of(group));
+    }
+    groups.finish()
+}
+
+fn totalled(slice: &mut [Entry]) -> Ended<'_, Entry>
+    requires sorted { NeverDescends nat_cmp (map (λ e. e.0) slice.old) }
+    requires fits { total slice.old ≤ 4294967295 }
+    ensures name { result.name ≡ slice.entry.ghost_name }
+    ensures value { result.value ≡ joined (map kept (split same_key slice.old)) }
+{
+    ascending_is_grouped::<Entry, u32>();
+    totals_kept(ExponentialGroupByKeyMut::new(slice, |e| e.0))
+}
+
+/// Keeps in the first element of each group of equal keys the sum of the group's counts. The other elements stay.
+pub fn keep_totals(slice: &mut [Entry])
+    requires sorted { NeverDescends nat_cmp (map (λ e. e.0) slice.old) }
+    requires fits { total slice.old ≤ 4294967295 }
+    ensures { slice.new ≡ joined (map kept (split same_key slice.old)) }
+{
+    settle(slice, |part| totalled(part));
+}
+
+#[test]
+fn keeps_totals(rt: HostRuntime) {
+    let mut slice = [(1, 7), (1, 8), (3, 9), (4, 0), (4, 5), (4, 6)];
+    keep_totals(&mut slice);
+    assert_eq!(rt; slice, [(1, 15), (1, 8), (3, 9), (4, 11), (4, 5), (4, 6)]);
+    let mut none: [Entry; 0] = [];
+    keep_totals(&mut none);
+    assert_eq!(rt; none.len(), 0);
+}
