@@ -9,3 +9,4 @@ mod debug;
 mod exponential;
 mod questions;
 mod units;
+mod writing;

@@ -11,9 +11,11 @@ ghost use Rattle.slice_group_by.specs.Queue.{answers};
 
 use crate::laws::{ascending_is_grouped, equality_judges, groups_end_locally, sees_pieces};
 use crate::{
-    BinaryGroup, End, ExponentialGroup, ExponentialGroupByKey, GroupBy, LinearGroup,
-    is_sorted_for_groups, walk,
+    BinaryGroup, BinaryGroupByKeyMut, BinaryGroupMut, End, ExponentialGroup, ExponentialGroupByKey,
+    ExponentialGroupMut, GroupBy, GroupByMut, LinearGroup, LinearGroupMut, is_sorted_for_groups,
+    walk,
 };
+use std::slice::from_mut;
 
 // The same calls on each family, over a slice that is sorted.
 fn walk_families<'a, T: Ord>(
@@ -34,6 +36,37 @@ fn walk_families<'a, T: Ord>(
     walk(&mut LinearGroup::new(slice), ends, linear);
     walk(&mut BinaryGroup::new(slice), ends, binary);
     walk(&mut ExponentialGroup::new(slice), ends, exponential);
+}
+
+// The same calls for writing give what the calls for reading give.
+fn walk_families_mut<'a, T: Ord>(
+    slice: &'a [T],
+    first: &'a mut [T],
+    second: &'a mut [T],
+    third: &'a mut [T],
+    ends: &[End],
+    reading: &mut [Option<&'a [T]>],
+    linear: &mut [Option<&'a mut [T]>],
+    binary: &mut [Option<&'a mut [T]>],
+    exponential: &mut [Option<&'a mut [T]>],
+)
+    requires sorted { NeverDescends T.cmp slice.now }
+    requires first { first.old ≡ slice.now }
+    requires second { second.old ≡ slice.now }
+    requires third { third.old ≡ slice.now }
+    requires reading { length reading.old ≡ length ends.now }
+    requires linear { length linear.old ≡ length ends.now }
+    requires binary { length binary.old ≡ length ends.now }
+    requires exponential { length exponential.old ≡ length ends.now }
+    ensures linear { map (option_map (λ group. group.now)) linear.new ≡ map (option_map (λ group. group.now)) reading.new }
+    ensures binary { map (option_map (λ group. group.now)) binary.new ≡ map (option_map (λ group. group.now)) reading.new }
+    ensures exponential { map (option_map (λ group. group.now)) exponential.new ≡ map (option_map (λ group. group.now)) reading.new }
+{
+    ascending_is_grouped::<T, T>();
+    walk(&mut LinearGroup::new(slice), ends, reading);
+    walk(&mut LinearGroupMut::new(first), ends, linear);
+    walk(&mut BinaryGroupMut::new(second), ends, binary);
+    walk(&mut ExponentialGroupMut::new(third), ends, exponential);
 }
 
 // By a predicate for which the slice is grouped.
@@ -202,4 +235,69 @@ fn methods(rt: HostRuntime) {
         )
     );
     assert!(rt; matches!(slice.exponential_group().next_back(), Some([22])));
+}
+
+fn holds(group: Option<&mut [u8]>, wanted: &[u8]) -> bool {
+    match group {
+        Some(group) => *group == *wanted,
+        None => false,
+    }
+}
+
+// Each method for writing by a key, and by equality, from both ends; and the two by a predicate.
+#[test]
+fn methods_mut(rt: HostRuntime) {
+    let mut array = [10, 11, 20, 21, 22];
+    let mut slice: &mut [u8] = &mut array;
+    let mut linear = slice.linear_group_by_key_mut(|x| *x / 10);
+    assert!(rt; holds(linear.next(), &[10, 11]));
+    assert!(rt; holds(linear.next_back(), &[20, 21, 22]));
+    assert!(rt; linear.next().is_none());
+    let mut binary = slice.binary_group_by_key_mut(|x| *x / 10);
+    assert!(rt; holds(binary.next(), &[10, 11]));
+    assert!(rt; holds(binary.next_back(), &[20, 21, 22]));
+    assert!(rt; binary.next().is_none());
+    let mut exponential = slice.exponential_group_by_key_mut(|x| *x / 10);
+    assert!(rt; holds(exponential.next(), &[10, 11]));
+    assert!(rt; holds(exponential.next_back(), &[20, 21, 22]));
+    assert!(rt; exponential.next().is_none());
+    let mut binary = slice.binary_group_by_mut(|a, b| *a / 10 == *b / 10);
+    assert!(rt; holds(binary.next(), &[10, 11]));
+    let mut exponential = slice.exponential_group_by_mut(|a, b| *a / 10 == *b / 10);
+    assert!(rt; holds(exponential.next_back(), &[20, 21, 22]));
+}
+
+#[test]
+fn equal_methods_mut(rt: HostRuntime) {
+    let mut array = [1, 1, 2];
+    let mut slice: &mut [u8] = &mut array;
+    let mut linear = slice.linear_group_mut();
+    assert!(rt; holds(linear.next(), &[1, 1]));
+    assert!(rt; holds(linear.next_back(), &[2]));
+    assert!(rt; linear.next().is_none());
+    let mut binary = slice.binary_group_mut();
+    assert!(rt; holds(binary.next(), &[1, 1]));
+    assert!(rt; holds(binary.next_back(), &[2]));
+    assert!(rt; binary.next().is_none());
+    let mut exponential = slice.exponential_group_mut();
+    assert!(rt; holds(exponential.next(), &[1, 1]));
+    assert!(rt; holds(exponential.next_back(), &[2]));
+    assert!(rt; exponential.next().is_none());
+}
+
+// A walk over groups for writing, one call at a time, whose groups are written after it.
+#[test]
+fn walks_for_writing(rt: HostRuntime) {
+    let mut array = [10u8, 11, 20];
+    let mut groups = BinaryGroupByKeyMut::new(&mut array, |x| *x / 10);
+    let mut last: Option<&mut [u8]> = None;
+    let mut first: Option<&mut [u8]> = None;
+    walk(&mut groups, &[End::Back], from_mut(&mut last));
+    walk(&mut groups, &[End::Front], from_mut(&mut first));
+    assert!(rt; groups.is_empty());
+    if let Some(last) = last {
+        last.fill(7);
+    }
+    assert!(rt; holds(first, &[10, 11]));
+    assert_eq!(rt; array, [10, 11, 7]);
 }
