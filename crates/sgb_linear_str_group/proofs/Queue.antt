@@ -12,7 +12,7 @@ use Rattle.sgb_search.specs.LinearCalls.{AsksFront, AsksBack, FrontCall, BackCal
 use Rattle.sgb_search.proofs.LinearPairs.{front_asks_once, back_asks_once}
 use Rattle.sgb_search.proofs.Calls as calls
 use Rattle.sgb_search.proofs.LinearQueue as list
-use Rattle.sgb_linear_str_group.specs.Texts.{TextGroups, in_characters, IsSettledText, FrontTextCall, BackTextCall}
+use Rattle.sgb_linear_str_group.specs.Texts.{TextGroups, in_characters, IsCallableText, IsSettledText, FrontTextCall, BackTextCall}
 
 module _ {J : Type 0} (g : Ghosts J ℕ) where
   -- a call on a text is one on the list of its characters
@@ -66,6 +66,13 @@ module _ {J : Type 0} (g : Ghosts J ℕ) where
     back_piece s r t p h m =
         subst (λ o. TakesLast p (chars (seen s).text) o (chars (seen t).text) × IsSettledText g (seen t) p) (shown r)
         (list.back_piece g (in_characters (seen s)) (option_map chars (option_map bytes r)) (in_characters (seen t)) p (back_call (seen s) (seen t) (option_map bytes r) h) m)
+
+    -- what may be asked before a call may be asked after it
+    pub front_keeps : (s : Q) (r : Option I) (t : Q) → FrontTextCall g (seen s) (option_map bytes r) (seen t) → IsCallableText g (seen s) → IsCallableText g (seen t)
+    front_keeps s r t h = list.front_keeps g (in_characters (seen s)) (option_map chars (option_map bytes r)) (in_characters (seen t)) (front_call (seen s) (seen t) (option_map bytes r) h)
+
+    pub back_keeps : (s : Q) (r : Option I) (t : Q) → BackTextCall g (seen s) (option_map bytes r) (seen t) → IsCallableText g (seen s) → IsCallableText g (seen t)
+    back_keeps s r t h = list.back_keeps g (in_characters (seen s)) (option_map chars (option_map bytes r)) (in_characters (seen t)) (back_call (seen s) (seen t) (option_map bytes r) h)
 
     -- n questions were asked, and the pairs of characters that remain are due
     abbrev asked : Q → Q → ℕ → Type 0

@@ -1,14 +1,16 @@
 -- The laws of a queue for calls that jump, at each end.
-use Rattle.std.proofs.Common.{◌≡◌, ℕ, ◌+◌, ◌-◌, ◌<◌, Bool, false, List, [], length, Option, None, Some, refl, ap, ◌∙◌, arith, length-append, reverse}
+use Rattle.std.proofs.Common.{◌≡◌, ℕ, ◌-◌, Bool, false, List, [], length, Option, None, Some, refl, sym, subst, ap, arith, length-append, reverse}
 use Rattle.std.proofs.lemmas.List.{length-reverse}
 use Rattle.sgb_search.specs.declared.judge.Judge.{Ghosts}
 use Rattle.sgb_search.specs.Runs.{IsRunOf, AsksWithin}
-use Rattle.sgb_search.specs.Ends.{CutsFront, CutsBack}
 use Rattle.sgb_search.specs.Split.{TakesFirst, TakesLast}
 use Rattle.sgb_search.specs.Groups.{Groups}
 use Rattle.sgb_search.specs.Jumps.{SearchCost, Jumps}
-use Rattle.sgb_search.specs.JumpingCalls.{IsSettledApart, FrontJump, BackJump}
-use Rattle.sgb_search.proofs.Runs.{run_of_none, run_of_more}
+use Rattle.sgb_search.specs.JumpingCalls.{IsCallableApart, IsSettledApart, FrontJump, BackJump}
+use Rattle.sgb_search.specs.Apart.{AreApart}
+use Rattle.sgb_search.proofs.Apart.{apart_of_first, apart_of_rest, outward_apart, outward_apart_back}
+use Rattle.sgb_search.proofs.Each.{all_each}
+use Rattle.sgb_search.proofs.Runs.{may_after}
 use Rattle.sgb_search.proofs.JumpingPieces.{front_gives_piece, back_gives_piece}
 
 module _ {T J : Type 0} (g : Ghosts J T) (cost : SearchCost) where
@@ -17,6 +19,17 @@ module _ {T J : Type 0} (g : Ghosts J T) (cost : SearchCost) where
 
   pub back_piece : (s : Groups T J) (r : Option (List T)) (t : Groups T J) (p : T → T → Bool) → BackJump g cost s r t → IsSettledApart g s p → TakesLast p s.remainder r t.remainder × IsSettledApart g t p
   back_piece s r t p h m = back_gives_piece g cost p s t r m h
+
+  -- what may be asked before a call may be asked after it
+  pub front_keeps : (s : Groups T J) (r : Option (List T)) (t : Groups T J) → FrontJump g cost s r t → IsCallableApart g s → IsCallableApart g t
+  front_keeps s None t h may = subst (IsCallableApart g) (sym h.1) may
+  front_keeps s (Some x) t h may =
+      may_after _ _ (AreApart s.remainder) (AreApart t.remainder) (λ q n. rw h.cut (apart_of_rest x t.remainder q n)) s.judge _ t.judge h.asked.run (all_each _ _ (λ r. outward_apart s.remainder r.0) h.asked.questions h.asked.outward) may
+
+  pub back_keeps : (s : Groups T J) (r : Option (List T)) (t : Groups T J) → BackJump g cost s r t → IsCallableApart g s → IsCallableApart g t
+  back_keeps s None t h may = subst (IsCallableApart g) (sym h.1) may
+  back_keeps s (Some x) t h may =
+      may_after _ _ (AreApart s.remainder) (AreApart t.remainder) (λ q n. rw h.cut (apart_of_first t.remainder x q n)) s.judge _ t.judge h.asked.run (all_each _ _ (λ r. outward_apart_back s.remainder r.0) h.asked.questions h.asked.outward) may
 
   -- n questions were asked, and those of a walk over what remains are due
   abbrev asked : Groups T J → Groups T J → ℕ → Type 0

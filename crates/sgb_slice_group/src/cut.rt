@@ -1,7 +1,7 @@
 //! How an iterator finds the group at an end of what remains.
 ghost use Rattle.std.specs.Prelude.{ℕ, ◌-◌, ◌<◌, ◌≤◌, Bool, List, ◌++◌, length, Option, slice_range};
 ghost use Rattle.sgb_search.specs.declared.judge.Judge.{Ghosts};
-ghost use Rattle.sgb_search.specs.Calls.{FrontCall, BackCall};
+ghost use Rattle.sgb_search.specs.Calls.{FrontCall, BackCall, MayCall};
 ghost use Rattle.sgb_search.specs.Groups.{Groups};
 ghost use Rattle.sgb_search.specs.Runs.{MayAskAll, IsRunOf, AsksWithin};
 ghost use Rattle.sgb_search.specs.Split.{TakesFirst, TakesLast};
@@ -44,6 +44,11 @@ pub trait GroupCut {
 
     ghost back_piece: { (T J : Type 0) (g : Ghosts J T) (s : Groups T J) (group : Option (List T)) (t : Groups T J) (p : T → T → Bool) → BackCall (asks_back T J g) s group t → settled T J g s p
         → TakesLast p s.remainder group t.remainder × settled T J g t p };
+
+    // Where a call may be made, one may be made after it.
+    ghost front_keeps: { (T J : Type 0) (g : Ghosts J T) (s : Groups T J) (group : Option (List T)) (t : Groups T J) → FrontCall (asks_front T J g) s group t → MayCall (allowed T) g s → MayCall (allowed T) g t };
+
+    ghost back_keeps: { (T J : Type 0) (g : Ghosts J T) (s : Groups T J) (group : Option (List T)) (t : Groups T J) → BackCall (asks_back T J g) s group t → MayCall (allowed T) g s → MayCall (allowed T) g t };
 
     // Whatever is answered, a call asks no more than it takes off what is due.
     ghost front_asks: { (T J : Type 0) (g : Ghosts J T) (s : Groups T J) (group : Option (List T)) (t : Groups T J) → FrontCall (asks_front T J g) s group t
@@ -104,6 +109,10 @@ impl GroupCut for Scan {
 
     ghost back_piece = { λ T J. laws.back_piece };
 
+    ghost front_keeps = { λ T J. laws.front_keeps };
+
+    ghost back_keeps = { λ T J. laws.back_keeps };
+
     ghost front_asks = { λ T J. laws.front_asks };
 
     ghost back_asks = { λ T J. laws.back_asks };
@@ -151,6 +160,10 @@ impl<S: GroupSearch> GroupCut for Jump<S> {
     ghost front_piece = { λ T J g. laws.front_piece g S.cost };
 
     ghost back_piece = { λ T J g. laws.back_piece g S.cost };
+
+    ghost front_keeps = { λ T J g. laws.front_keeps g S.cost };
+
+    ghost back_keeps = { λ T J g. laws.back_keeps g S.cost };
 
     ghost front_asks = { λ T J g. laws.front_asks g S.cost };
 

@@ -58,6 +58,13 @@ part_at Back (Some g) xs ys fs bs z t h =
     ∙ sym (append_assoc (joined fs ++ z) (joined (reverse bs)) g) ∙ ap (λ l. l ++ g) h ∙ sym t.1
 
 module _ {Q I : Type 0} (gives : End → Q → Option I → Q → Type 0) where
+  -- what each call keeps, the calls keep
+  pub chain_keeps : (can : Q → Type 0) → ((e : End) (q : Q) (o : Option I) (t : Q) → gives e q o t → can q → can t) → (q : Q) (es : List End) (os : List (Option I)) (t : Q) → IsChain gives q es os t → can q → can t
+  chain_keeps can keeps q [] [] t c may = subst can (sym c) may
+  chain_keeps can keeps q [] (o ∷ os) t c may = absurd c
+  chain_keeps can keeps q (e ∷ es) [] t c may = absurd c
+  chain_keeps can keeps q (e ∷ es) (o ∷ os) t c may = chain_keeps can keeps c.0 es os t c.2 (keeps e q o c.0 c.1 may)
+
   -- one call more, after the others
   pub chain_push : (q : Q) (es : List End) (os : List (Option I)) (m : Q) (e : End) (o : Option I) (r : Q) → IsChain gives q es os m → gives e m o r → IsChain gives q (es ++ e ∷ []) (os ++ o ∷ []) r
   chain_push q [] [] m e o r c s = (r, subst (λ x. gives e x o r) c s, refl)

@@ -71,6 +71,14 @@ pub fn calls_take_pieces<Q: GroupQueue>(_queue: &Q)
         → Q.gives e q (Some group) t → Q.is_settled q p → IsAccepted p (Q.shows group) }
 {}
 
+/// Where a call may be made, one may be made after it, whatever it gave, also `None`: so the condition of `new` is all that is
+/// ever asked.
+#[inline]
+pub fn calls_may_go_on<Q: GroupQueue>(_queue: &Q)
+    ensures call { (e : End) (q t : Q) (group : Option Q.Item) → Q.gives e q group t → Q.can_pop q → Q.can_pop t }
+    ensures calls { (q t : Q) (ends : List End) (out : List (Option Q.Item)) → IsChain Q.gives q ends out t → Q.can_pop q → Q.can_pop t }
+{}
+
 /// A list of calls on a queue, made one by one, as a loop of a caller makes them: what `walk` promises of its calls.
 #[inline]
 pub fn chains_answer<Q: GroupQueue>(_queue: &Q)

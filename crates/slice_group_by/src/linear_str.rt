@@ -49,6 +49,8 @@ impl<'a, J: Judge<char> + Drop> GroupQueue for LinearStrGroups<'a, J> {
 
     ghost piece = { each_end _ (laws.front_piece J.Judge (λ s. s) (λ group. group.now)) (laws.back_piece J.Judge (λ s. s) (λ group. group.now)) };
 
+    ghost keeps = { each_end _ (laws.front_keeps J.Judge (λ s. s) (λ group. group.now)) (laws.back_keeps J.Judge (λ s. s) (λ group. group.now)) };
+
     ghost asked_none = { λ q. run_of_none J.may_ask J.answers q.judge };
 
     ghost asked_more = { λ q r t. run_of_more J.may_ask J.answers q.judge r.judge t.judge };

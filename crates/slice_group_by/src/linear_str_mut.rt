@@ -49,6 +49,8 @@ impl<'a, J: Judge<char> + Drop> GroupQueue for LinearStrGroupsMut<'a, J> {
 
     ghost piece = { each_end _ (λ s group t p h. laws.front_piece J.Judge seen_text (λ x. x.now) s group t p h.0) (λ s group t p h. laws.back_piece J.Judge seen_text (λ x. x.now) s group t p h.0) };
 
+    ghost keeps = { each_end _ (λ s group t h. laws.front_keeps J.Judge seen_text (λ x. x.now) s group t h.0) (λ s group t h. laws.back_keeps J.Judge seen_text (λ x. x.now) s group t h.0) };
+
     ghost asked_none = { λ q. run_of_none J.may_ask J.answers q.judge };
 
     ghost asked_more = { λ q r t. run_of_more J.may_ask J.answers q.judge r.judge t.judge };

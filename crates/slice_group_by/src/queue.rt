@@ -73,6 +73,9 @@ pub trait GroupQueue {
         → gives e q group t → is_settled q p
         → TakesPiece e p (remainder q) (option_map shows group) (remainder t) × is_settled t p };
 
+    // Where a call may be made, one may be made after it.
+    ghost keeps: { (e : End) (q : Self) (group : Option Self.Item) (t : Self) → gives e q group t → can_pop q → can_pop t };
+
     // Questions add up, and a call asks no more of them than it takes off those due.
     ghost asked_none: { (q : Self) → asked q q 0 };
 

@@ -49,6 +49,8 @@ impl<'a, T, J: Judge<T> + Drop, C: GroupCut> GroupQueue for SliceGroups<'a, T, J
 
     ghost piece = { each_end _ (λ s group t. C.front_piece T J J.Judge s (option_copied group) t) (λ s group t. C.back_piece T J J.Judge s (option_copied group) t) };
 
+    ghost keeps = { each_end _ (λ s group t. C.front_keeps T J J.Judge s (option_copied group) t) (λ s group t. C.back_keeps T J J.Judge s (option_copied group) t) };
+
     ghost asked_none = { λ q. run_of_none J.may_ask J.answers q.judge };
 
     ghost asked_more = { λ q r s. run_of_more J.may_ask J.answers q.judge r.judge s.judge };

@@ -48,6 +48,8 @@ impl<'a, T, J: Judge<T> + Drop, C: GroupCut> GroupQueue for SliceGroupsMut<'a, T
 
     ghost piece = { each_end _ (λ s group t p h. C.front_piece T J J.Judge (seen s) (option_copied_mut group) (seen t) p h.0) (λ s group t p h. C.back_piece T J J.Judge (seen s) (option_copied_mut group) (seen t) p h.0) };
 
+    ghost keeps = { each_end _ (λ s group t h. C.front_keeps T J J.Judge (seen s) (option_copied_mut group) (seen t) h.0) (λ s group t h. C.back_keeps T J J.Judge (seen s) (option_copied_mut group) (seen t) h.0) };
+
     ghost asked_none = { λ q. run_of_none J.may_ask J.answers q.judge };
 
     ghost asked_more = { λ q r s. run_of_more J.may_ask J.answers q.judge r.judge s.judge };
