@@ -1,5 +1,5 @@
 -- What a linear call asks and gives: by elements of a slice, and by characters of a text.
-use Rattle.std.specs.Prelude.{◌≡◌, ℕ, Bool, List, ◌++◌, map, Option, IsPermutation}
+use Rattle.std.specs.Prelude.{ℕ, Bool, List, ◌++◌, map, Option, IsPermutation}
 use Rattle.sgb_search.specs.declared.judge.Judge.{Ghosts}
 use Rattle.sgb_search.specs.Runs.{IsRun}
 use Rattle.sgb_search.specs.Neighbours.{neighbours, front_questions, back_questions}

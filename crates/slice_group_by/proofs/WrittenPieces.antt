@@ -1,9 +1,8 @@
 -- Which piece a call on binary or exponential groups for writing gives, where the group is noted then: lemmas that a caller's proof search can be told to use.
-use Rattle.std.proofs.Common.{◌≡◌, Bool, List, ◌∷◌, Some, sym, ap, ◌∙◌, subst}
+use Rattle.std.proofs.Common.{◌≡◌, Bool, List, ◌∷◌, Some, sym, ap, ◌∙◌}
 use Rattle.std.specs.Borrow.{MutBor}
 use Rattle.sgb_search.specs.declared.judge.Judge.{Ghosts}
 use Rattle.sgb_search.specs.Split.{split, TakesFirst}
-use Rattle.sgb_search.specs.Groups.{Groups}
 use Rattle.sgb_search.specs.Jumps.{SearchCost}
 use Rattle.sgb_search.specs.JumpingCalls.{IsSettledApart}
 use Rattle.sgb_search.proofs.JumpingQueue.{front_piece}

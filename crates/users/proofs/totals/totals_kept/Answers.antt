@@ -1,4 +1,4 @@
-use Rattle.std.proofs.Common.{rules, arith, ap, ◌∙◌, ◌≡◌, ◌++◌, List}
+use Rattle.std.proofs.Common.{rules, arith, ap, ◌∙◌, ◌≡◌, ◌++◌}
 use Rattle.std.proofs.lemmas.List.Sums.{sum_by-append}
 use Rattle.slice_group_by.proofs.WrittenPieces.{written_piece, written_settled}
 use Rattle.users.specs.Totals.{kept}
