@@ -28,5 +28,5 @@ module _ {T J : Type 0} where
     BackCall s group t = MatchOption group ((s.remainder ≡ []) × (t ≡ s)) (λ x. IsBackGroup s x t)
 
   -- about xs a call may ask the pairs of allowed xs: the judge may be asked about those of what remains, now and after any such questions
-  abbrev pub MayCall : (List T → T × T → Type 0) → Ghosts J T → Groups T J → Type 0
-  MayCall allowed g s = MayAskAll g.may_ask g.answers (allowed s.remainder) s.judge
+  abbrev pub IsCallableBy : (List T → T × T → Type 0) → Ghosts J T → Groups T J → Type 0
+  IsCallableBy allowed g s = MayAskAll g.may_ask g.answers (allowed s.remainder) s.judge

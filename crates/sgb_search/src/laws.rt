@@ -1,5 +1,5 @@
 //! Laws of the definitions. Each is a function that does nothing: its contract is the law, and a caller cites it.
-ghost use Rattle.std.specs.Prelude.{◌≡◌, ℕ, ◌+◌, ◌-◌, ◌^◌, ◌<◌, ◌≤◌, Bool, List, length, map};
+ghost use Rattle.std.specs.Prelude.{◌≡◌, ℕ, ◌+◌, ◌-◌, ◌^◌, ◌<◌, ◌≤◌, ◌++◌, Bool, List, length, map};
 ghost use Rattle.std.specs.Fn.{ComputesKey};
 ghost use Rattle.sgb_search.specs.Digits.{digits};
 ghost use Rattle.sgb_search.specs.Apart.{IsGrouped};
@@ -94,6 +94,12 @@ pub fn always_computes<T, F: FnMut(&T) -> K, K>(_f: &F)
 pub fn ascending_is_grouped<T, K: Ord>()
     ensures by_key { (key : T → K) (xs : List T) → NeverDescends K.cmp (map key xs) → IsGrouped (λ x y. K.eq (key x) (key y)) xs }
     ensures by_itself { (xs : List K) → NeverDescends K.cmp xs → IsGrouped K.eq xs }
+{}
+
+/// A part of a grouped list is grouped.
+#[inline]
+pub fn parts_are_grouped<T>()
+    ensures { (p : T → T → Bool) (before part after : List T) → IsGrouped p (before ++ (part ++ after)) → IsGrouped p part }
 {}
 
 /// The number of binary digits of m is the least d with m below the d-th power of two.

@@ -4,15 +4,15 @@ use Rattle.std.specs.Option.{option_copied_mut}
 use Rattle.std.specs.Borrow.{Bor, MutBor}
 use Rattle.sgb_search.specs.declared.judge.Judge.{Ghosts}
 use Rattle.sgb_search.specs.Groups.{Groups}
-use Rattle.sgb_search.specs.Calls.{MayCall, FrontCall, BackCall}
+use Rattle.sgb_search.specs.Calls.{IsCallableBy, FrontCall, BackCall}
 use Rattle.sgb_loans.specs.GroupsMut.{GroupsMut, HandsOut}
 
 -- what an iterator for reading shows of the same
 abbrev pub seen : {T J : Type 0} → GroupsMut T J → Groups T J
 seen s = record { remainder = s.remainder; judge = s.judge }
 
-abbrev pub MayCallMut : {T J : Type 0} → (List T → T × T → Type 0) → Ghosts J T → GroupsMut T J → Type 0
-MayCallMut allowed g s = MayCall allowed g (seen s)
+abbrev pub IsCallableByMut : {T J : Type 0} → (List T → T × T → Type 0) → Ghosts J T → GroupsMut T J → Type 0
+IsCallableByMut allowed g s = IsCallableBy allowed g (seen s)
 
 module _ {T J : Type 0} (asks : List T → ℕ → J → J → Type 0) where
   -- what `next` gives: what a call at the front gives

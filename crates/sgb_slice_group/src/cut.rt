@@ -1,7 +1,7 @@
 //! How an iterator finds the group at an end of what remains.
 ghost use Rattle.std.specs.Prelude.{ℕ, ◌-◌, ◌<◌, ◌≤◌, Bool, List, ◌++◌, length, Option, slice_range};
 ghost use Rattle.sgb_search.specs.declared.judge.Judge.{Ghosts};
-ghost use Rattle.sgb_search.specs.Calls.{FrontCall, BackCall, MayCall};
+ghost use Rattle.sgb_search.specs.Calls.{FrontCall, BackCall, IsCallableBy};
 ghost use Rattle.sgb_search.specs.Groups.{Groups};
 ghost use Rattle.sgb_search.specs.Runs.{MayAskAll, IsRunOf, AsksWithin};
 ghost use Rattle.sgb_search.specs.Split.{TakesFirst, TakesLast};
@@ -46,9 +46,9 @@ pub trait GroupCut {
         → TakesLast p s.remainder group t.remainder × settled T J g t p };
 
     // Where a call may be made, one may be made after it.
-    ghost front_keeps: { (T J : Type 0) (g : Ghosts J T) (s : Groups T J) (group : Option (List T)) (t : Groups T J) → FrontCall (asks_front T J g) s group t → MayCall (allowed T) g s → MayCall (allowed T) g t };
+    ghost front_keeps: { (T J : Type 0) (g : Ghosts J T) (s : Groups T J) (group : Option (List T)) (t : Groups T J) → FrontCall (asks_front T J g) s group t → IsCallableBy (allowed T) g s → IsCallableBy (allowed T) g t };
 
-    ghost back_keeps: { (T J : Type 0) (g : Ghosts J T) (s : Groups T J) (group : Option (List T)) (t : Groups T J) → BackCall (asks_back T J g) s group t → MayCall (allowed T) g s → MayCall (allowed T) g t };
+    ghost back_keeps: { (T J : Type 0) (g : Ghosts J T) (s : Groups T J) (group : Option (List T)) (t : Groups T J) → BackCall (asks_back T J g) s group t → IsCallableBy (allowed T) g s → IsCallableBy (allowed T) g t };
 
     // Whatever is answered, a call asks no more than it takes off what is due.
     ghost front_asks: { (T J : Type 0) (g : Ghosts J T) (s : Groups T J) (group : Option (List T)) (t : Groups T J) → FrontCall (asks_front T J g) s group t

@@ -83,14 +83,14 @@ impl<'a, T, J, C> SliceGroups<'a, T, J, C> {
 }
 
 impl<'a, T, J: Judge<T>, C: GroupCut> SliceGroups<'a, T, J, C> {
-    ghost use Rattle.sgb_search.specs.Calls.{MayCall};
+    ghost use Rattle.sgb_search.specs.Calls.{IsCallableBy};
     ghost use Rattle.sgb_slice_group.specs.Gives.{GivesFront, GivesBack};
 
     #[inline]
     fn take_front(&mut self) -> Option<&'a [T]>
-        requires { MayCall (C.allowed T) J.Judge self.old }
+        requires { IsCallableBy (C.allowed T) J.Judge self.old }
         ensures gives { GivesFront (C.asks_front T J J.Judge) self.old result self.new }
-        ensures callable { MayCall (C.allowed T) J.Judge self.new }
+        ensures callable { IsCallableBy (C.allowed T) J.Judge self.new }
     {
         if self.low == self.high {
             return None;
@@ -104,9 +104,9 @@ impl<'a, T, J: Judge<T>, C: GroupCut> SliceGroups<'a, T, J, C> {
 
     #[inline]
     fn take_back(&mut self) -> Option<&'a [T]>
-        requires { MayCall (C.allowed T) J.Judge self.old }
+        requires { IsCallableBy (C.allowed T) J.Judge self.old }
         ensures gives { GivesBack (C.asks_back T J J.Judge) self.old result self.new }
-        ensures callable { MayCall (C.allowed T) J.Judge self.new }
+        ensures callable { IsCallableBy (C.allowed T) J.Judge self.new }
     {
         if self.low == self.high {
             return None;
@@ -122,10 +122,10 @@ impl<'a, T, J: Judge<T>, C: GroupCut> SliceGroups<'a, T, J, C> {
 impl<'a, T, J: Judge<T> + Drop, C: GroupCut> Iterator for SliceGroups<'a, T, J, C> {
     type Item = &'a [T];
 
-    ghost use Rattle.sgb_search.specs.Calls.{MayCall};
+    ghost use Rattle.sgb_search.specs.Calls.{IsCallableBy};
     ghost use Rattle.sgb_slice_group.specs.Gives.{GivesFront};
 
-    ghost can_next = { MayCall (C.allowed T) J.Judge };
+    ghost can_next = { IsCallableBy (C.allowed T) J.Judge };
 
     ghost next_gives = { GivesFront (C.asks_front T J J.Judge) };
 
@@ -153,10 +153,10 @@ impl<'a, T, J: Judge<T> + Drop, C: GroupCut> Iterator for SliceGroups<'a, T, J, 
 }
 
 impl<'a, T, J: Judge<T> + Drop, C: GroupCut> DoubleEndedIterator for SliceGroups<'a, T, J, C> {
-    ghost use Rattle.sgb_search.specs.Calls.{MayCall};
+    ghost use Rattle.sgb_search.specs.Calls.{IsCallableBy};
     ghost use Rattle.sgb_slice_group.specs.Gives.{GivesBack};
 
-    ghost can_next_back = { MayCall (C.allowed T) J.Judge };
+    ghost can_next_back = { IsCallableBy (C.allowed T) J.Judge };
 
     ghost next_back_gives = { GivesBack (C.asks_back T J J.Judge) };
 
@@ -170,7 +170,7 @@ impl<'a, T, J: Judge<T> + Drop, C: GroupCut> DoubleEndedIterator for SliceGroups
 impl<'a, T, J: Judge<T> + Drop, C: GroupCut> FusedIterator for SliceGroups<'a, T, J, C> {}
 
 impl<'a, T, J: Judge<T> + Drop, C: GroupCut> SliceGroups<'a, T, J, C> {
-    ghost use Rattle.sgb_search.specs.Calls.{MayCall};
+    ghost use Rattle.sgb_search.specs.Calls.{IsCallableBy};
     ghost use Rattle.sgb_slice_group.specs.Gives.{GivesBack};
 
     /// The last group of the remainder, or `None` where nothing remains: what `next_back` gives. The iterator is given up.
@@ -180,7 +180,7 @@ impl<'a, T, J: Judge<T> + Drop, C: GroupCut> SliceGroups<'a, T, J, C> {
     /// is not grouped, binary and exponential groups may end with another there.
     #[inline]
     pub fn last(mut self) -> Option<&'a [T]>
-        requires { MayCall (C.allowed T) J.Judge self }
+        requires { IsCallableBy (C.allowed T) J.Judge self }
         ensures { (t : Groups T J) × GivesBack (C.asks_back T J J.Judge) self.entry result t }
     {
         self.next_back()

@@ -75,13 +75,13 @@ impl<'a, T, J, C> SliceGroupsMut<'a, T, J, C> {
 }
 
 impl<'a, T, J: Judge<T>, C: GroupCut> SliceGroupsMut<'a, T, J, C> {
-    ghost use Rattle.sgb_slice_group.specs.Gives.{MayCallMut, GivesFrontMut, GivesBackMut};
+    ghost use Rattle.sgb_slice_group.specs.Gives.{IsCallableByMut, GivesFrontMut, GivesBackMut};
 
     #[inline]
     fn take_front(&mut self) -> Option<&'a mut [T]>
-        requires { MayCallMut (C.allowed T) J.Judge self.old }
+        requires { IsCallableByMut (C.allowed T) J.Judge self.old }
         ensures gives { GivesFrontMut (C.asks_front T J J.Judge) self.old result self.new }
-        ensures callable { MayCallMut (C.allowed T) J.Judge self.new }
+        ensures callable { IsCallableByMut (C.allowed T) J.Judge self.new }
     {
         let len = self.slice.len();
         if len == 0 {
@@ -96,9 +96,9 @@ impl<'a, T, J: Judge<T>, C: GroupCut> SliceGroupsMut<'a, T, J, C> {
 
     #[inline]
     fn take_back(&mut self) -> Option<&'a mut [T]>
-        requires { MayCallMut (C.allowed T) J.Judge self.old }
+        requires { IsCallableByMut (C.allowed T) J.Judge self.old }
         ensures gives { GivesBackMut (C.asks_back T J J.Judge) self.old result self.new }
-        ensures callable { MayCallMut (C.allowed T) J.Judge self.new }
+        ensures callable { IsCallableByMut (C.allowed T) J.Judge self.new }
     {
         let len = self.slice.len();
         if len == 0 {
@@ -177,9 +177,9 @@ impl<'a, T, J: Drop, C> SliceGroupsMut<'a, T, J, C> {
 impl<'a, T, J: Judge<T> + Drop, C: GroupCut> Iterator for SliceGroupsMut<'a, T, J, C> {
     type Item = &'a mut [T];
 
-    ghost use Rattle.sgb_slice_group.specs.Gives.{MayCallMut, GivesFrontMut};
+    ghost use Rattle.sgb_slice_group.specs.Gives.{IsCallableByMut, GivesFrontMut};
 
-    ghost can_next = { MayCallMut (C.allowed T) J.Judge };
+    ghost can_next = { IsCallableByMut (C.allowed T) J.Judge };
 
     ghost next_gives = { GivesFrontMut (C.asks_front T J J.Judge) };
 
@@ -207,9 +207,9 @@ impl<'a, T, J: Judge<T> + Drop, C: GroupCut> Iterator for SliceGroupsMut<'a, T, 
 }
 
 impl<'a, T, J: Judge<T> + Drop, C: GroupCut> DoubleEndedIterator for SliceGroupsMut<'a, T, J, C> {
-    ghost use Rattle.sgb_slice_group.specs.Gives.{MayCallMut, GivesBackMut};
+    ghost use Rattle.sgb_slice_group.specs.Gives.{IsCallableByMut, GivesBackMut};
 
-    ghost can_next_back = { MayCallMut (C.allowed T) J.Judge };
+    ghost can_next_back = { IsCallableByMut (C.allowed T) J.Judge };
 
     ghost next_back_gives = { GivesBackMut (C.asks_back T J J.Judge) };
 
@@ -224,7 +224,7 @@ impl<'a, T, J: Judge<T> + Drop, C: GroupCut> FusedIterator for SliceGroupsMut<'a
 
 impl<'a, T, J: Judge<T> + Drop, C: GroupCut> SliceGroupsMut<'a, T, J, C> {
     ghost use Rattle.sgb_loans.specs.GroupsMut.{GroupsMut};
-    ghost use Rattle.sgb_slice_group.specs.Gives.{MayCallMut, GivesBackMut};
+    ghost use Rattle.sgb_slice_group.specs.Gives.{IsCallableByMut, GivesBackMut};
 
     /// The last group of the remainder, or `None` where nothing remains: what `next_back` gives, by its questions. The
     /// iterator is given up. `Iterator::last` walks all groups from the front.
@@ -233,7 +233,7 @@ impl<'a, T, J: Judge<T> + Drop, C: GroupCut> SliceGroupsMut<'a, T, J, C> {
     /// `next_back`, take note of the group, and `finish`.
     #[inline]
     pub fn last(mut self) -> Option<&'a mut [T]>
-        requires { MayCallMut (C.allowed T) J.Judge self }
+        requires { IsCallableByMut (C.allowed T) J.Judge self }
         ensures { (t : GroupsMut T J) × GivesBackMut (C.asks_back T J J.Judge) self.entry result t }
     {
         self.next_back()

@@ -1,8 +1,10 @@
 -- What holds of each two elements side by side, by their places and by the list of neighbours.
-use Rattle.std.specs.Prelude.{◌≡◌, ◌≢◌, ℕ, ◌+◌, ◌<◌, Bool, true, false, List, [], ◌∷◌, length, Option, Some}
+use Rattle.std.specs.Prelude.{◌≡◌, ◌≢◌, ℕ, ◌+◌, ◌<◌, Bool, true, false, List, [], ◌∷◌, length, Option, Some, map}
 use Rattle.std.proofs.Common.{zero, suc, refl, ap, ◌∙◌, arith, subst}
 use Rattle.std.specs.List.{AllByRecursion, IsAllAdjacentAnswer, slice_index_or}
-use Rattle.std.specs.Ordering.{partial_le}
+use Rattle.std.specs.List.Sorted.{IsSortedByKey}
+use Rattle.std.specs.Cmp.{IsTotalOrder}
+use Rattle.std.specs.Ordering.{partial_le, is_lt, ordering_reverse}
 use Rattle.std.specs.declared.cmp.Ordering.{Ordering}
 use Rattle.std.specs.declared.cmp.Ordering.TheVariants.{Less, Equal, Greater}
 use Rattle.sgb_search.specs.Neighbours.{neighbours}
@@ -43,3 +45,20 @@ module _ {A : Type 0} (compare : A → A → Option Ordering) (cmp : A → A →
   never_descends_sorted [] false h all = absurd (omega (arith, h.1))
   never_descends_sorted (x ∷ xs) false h all =
       absurd (greater _ _ (h.2 x) _ refl (place_by_neighbours (λ x y. cmp x y ≢ Greater) (x ∷ xs) all h.0 (h.0 + 1) x (omega arith) h.1))
+
+-- what sorting by a key leaves never descends by it
+module _ {T K : Type 0} (cmp : K → K → Ordering) (total : IsTotalOrder cmp) (key : T → K) where
+  not_below : (o r : Ordering) → is_lt o ≡ false → r ≡ ordering_reverse o → r ≢ Greater
+  not_below Less r h e g = cc h
+  not_below Equal r h e g = cc (e, g)
+  not_below Greater r h e g = cc (e, g)
+
+  pub sort_ascends : (xs : List T) → IsSortedByKey key cmp xs → AllByRecursion (λ q. cmp (key q.0) (key q.1) ≢ Greater) (neighbours xs)
+  sort_ascends xs h =
+      neighbours_by_place (λ x y. cmp (key x) (key y) ≢ Greater) xs
+      (λ k j d e l. not_below _ _ (subst (λ (m : ℕ). is_lt (cmp (key (slice_index_or xs m d)) (key (slice_index_or xs k d))) ≡ false) {x = k + 1} {y = j} (omega arith) (h k d (omega arith) (omega arith))) (total.antisymm (key (slice_index_or xs k d)) (key (slice_index_or xs j d))))
+
+  pub keys_of_neighbours : (xs : List T) → AllByRecursion (λ q. cmp (key q.0) (key q.1) ≢ Greater) (neighbours xs) → NeverDescends cmp (map key xs)
+  keys_of_neighbours [] h = tt
+  keys_of_neighbours (x ∷ []) h = tt
+  keys_of_neighbours (x ∷ y ∷ ys) h = (h.0, keys_of_neighbours (y ∷ ys) h.1)

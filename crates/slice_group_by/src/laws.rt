@@ -37,14 +37,15 @@ pub use crate::families::{
 pub use crate::plans::{Plan, refute};
 use crate::queue::GroupQueue;
 pub use crate::ranks::rank_groups;
-pub use crate::sorted::is_sorted_for_groups;
+pub use crate::sorted::{is_sorted_for_groups, sorts_ascend};
 use sgb_linear_str_group::groups::LinearStrGroups;
 use sgb_linear_str_group::groups_mut::LinearStrGroupsMut;
 use sgb_search::judge::Judge;
 pub use sgb_search::laws::{
     always_callable, always_callable_apart, always_callable_char_key, always_callable_chars,
     always_callable_key, always_callable_key_apart, always_callable_on_elements, always_computes,
-    ascending_is_grouped, digits_is_least, equality_judges, one_split, question_count,
+    ascending_is_grouped, digits_is_least, equality_judges, one_split, parts_are_grouped,
+    question_count,
 };
 use sgb_slice_group::groups::LinearGroups;
 use sgb_slice_group::groups_mut::LinearGroupsMut;

@@ -8,7 +8,7 @@ impl<'a, T, J: Judge<T> + Drop, C: GroupCut> GroupQueue for SliceGroups<'a, T, J
     type Item = &'a [T];
 
     ghost use Rattle.std.specs.Prelude.{option_copied};
-    ghost use Rattle.sgb_search.specs.Calls.{MayCall};
+    ghost use Rattle.sgb_search.specs.Calls.{IsCallableBy};
     ghost use Rattle.sgb_search.specs.Runs.{IsRunOf};
     ghost use Rattle.sgb_search.proofs.Calls.{front_part, back_part};
     ghost use Rattle.sgb_search.proofs.Runs.{run_of_none, run_of_more};
@@ -31,7 +31,7 @@ impl<'a, T, J: Judge<T> + Drop, C: GroupCut> GroupQueue for SliceGroups<'a, T, J
 
     ghost exact = { C.exact };
 
-    ghost can_pop = { MayCall (C.allowed T) J.Judge };
+    ghost can_pop = { IsCallableBy (C.allowed T) J.Judge };
 
     #[inline]
     fn pop_front(&mut self) -> Option<&'a [T]> {

@@ -11,7 +11,7 @@ impl<'a, T, J: Judge<T> + Drop, C: GroupCut> GroupQueue for SliceGroupsMut<'a, T
     ghost use Rattle.sgb_search.specs.Runs.{IsRunOf};
     ghost use Rattle.sgb_search.proofs.Calls.{front_part, back_part, asks_seen};
     ghost use Rattle.sgb_search.proofs.Runs.{run_of_none, run_of_more};
-    ghost use Rattle.sgb_slice_group.specs.Gives.{seen, MayCallMut, GivesFrontMut, GivesBackMut};
+    ghost use Rattle.sgb_slice_group.specs.Gives.{seen, IsCallableByMut, GivesFrontMut, GivesBackMut};
     ghost use Rattle.slice_group_by.specs.Queue.{at_end, each_end};
 
     ghost Element = { T };
@@ -30,7 +30,7 @@ impl<'a, T, J: Judge<T> + Drop, C: GroupCut> GroupQueue for SliceGroupsMut<'a, T
 
     ghost exact = { C.exact };
 
-    ghost can_pop = { MayCallMut (C.allowed T) J.Judge };
+    ghost can_pop = { IsCallableByMut (C.allowed T) J.Judge };
 
     #[inline]
     fn pop_front(&mut self) -> Option<&'a mut [T]> {

@@ -1,5 +1,6 @@
 //! Whether a slice is sorted, and so grouped.
-ghost use Rattle.std.specs.Prelude.{◌≡◌, true};
+ghost use Rattle.std.specs.Prelude.{◌≡◌, List, map, true};
+ghost use Rattle.std.specs.List.Sorted.{IsSorted, IsSortedByKey};
 ghost use Rattle.sgb_search.specs.Apart.{IsGrouped};
 ghost use Rattle.sgb_search.specs.Search.{NeverDescends};
 
@@ -19,3 +20,10 @@ pub fn is_sorted_for_groups<T: Ord>(slice: &[T]) -> bool
 {
     slice.is_sorted()
 }
+
+/// What sorting leaves never descends: what `sort` ensures, and, by a key that its function computes, what `sort_by_key` does.
+#[inline]
+pub fn sorts_ascend<T, K: Ord>()
+    ensures by_itself { (xs : List K) → IsSorted K.cmp xs → NeverDescends K.cmp xs }
+    ensures by_key { (key : T → K) (xs : List T) → IsSortedByKey key K.cmp xs → NeverDescends K.cmp (map key xs) }
+{}

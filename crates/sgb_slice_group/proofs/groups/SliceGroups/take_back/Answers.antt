@@ -1,11 +1,11 @@
 use Rattle.std.proofs.Common.{arith, ◌-◌, subst, sym}
-use Rattle.sgb_search.specs.Calls.{MayCall}
+use Rattle.sgb_search.specs.Calls.{IsCallableBy}
 use Rattle.sgb_search.specs.Groups.{Groups}
 use Rattle.sgb_slice_group.proofs.Cuts.{back_cut, callable_front}
 use Rattle.sgb_slice_group.proofs.groups.SliceGroups.take_back.Goals as goal
 
 pub back_length-len-requires-clause-callable : goal.back_length-len-requires-clause-callable
-back_length-len-requires-clause-callable g c = subst (λ (s : Groups g.row.T.Denot g.row.J.Denot). MayCall (g.C.GroupCut.allowed _) g.J.Judge s) (sym c.self.view_is) c.requires
+back_length-len-requires-clause-callable g c = subst (λ (s : Groups g.row.T.Denot g.row.J.Denot). IsCallableBy (g.C.GroupCut.allowed _) g.J.Judge s) (sym c.self.view_is) c.requires
 
 pub returns-clause-gives : goal.returns-clause-gives
 returns-clause-gives g c =

@@ -1,11 +1,11 @@
 use Rattle.std.proofs.Common.{arith, ◌+◌, subst, sym, refl}
-use Rattle.sgb_search.specs.Calls.{MayCall}
+use Rattle.sgb_search.specs.Calls.{IsCallableBy}
 use Rattle.sgb_search.specs.Groups.{Groups}
 use Rattle.sgb_slice_group.proofs.Cuts.{front_cut, callable_rest}
 use Rattle.sgb_slice_group.proofs.groups.SliceGroups.take_front.Goals as goal
 
 pub front_length-len-requires-clause-callable : goal.front_length-len-requires-clause-callable
-front_length-len-requires-clause-callable g c = subst (λ (s : Groups g.row.T.Denot g.row.J.Denot). MayCall (g.C.GroupCut.allowed _) g.J.Judge s) (sym c.self.view_is) c.requires
+front_length-len-requires-clause-callable g c = subst (λ (s : Groups g.row.T.Denot g.row.J.Denot). IsCallableBy (g.C.GroupCut.allowed _) g.J.Judge s) (sym c.self.view_is) c.requires
 
 pub returns-clause-gives : goal.returns-clause-gives
 returns-clause-gives g c =

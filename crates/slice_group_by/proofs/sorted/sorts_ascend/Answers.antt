@@ -1,0 +1,8 @@
+use Rattle.slice_group_by.proofs.Adjacent.{sort_ascends, keys_of_neighbours}
+use Rattle.slice_group_by.proofs.sorted.sorts_ascend.Goals as goal
+
+pub returns-clause-by_itself : goal.returns-clause-by_itself
+returns-clause-by_itself g c xs h = sort_ascends g.K.Ord.cmp g.met.K.Ord.total (λ x. x) xs h
+
+pub returns-clause-by_key : goal.returns-clause-by_key
+returns-clause-by_key g c key xs h = keys_of_neighbours g.K.Ord.cmp g.met.K.Ord.total key xs (sort_ascends g.K.Ord.cmp g.met.K.Ord.total key xs h)
