@@ -9,7 +9,9 @@ ghost use Rattle.slice_group_by.specs.Search.{NeverDescends};
 ghost use Rattle.slice_group_by.specs.Split.{split};
 ghost use Rattle.slice_group_by.specs.Queue.{answers};
 
-use crate::laws::{ascending_is_grouped, equality_judges, groups_end_locally, sees_pieces};
+use crate::laws::{
+    ascending_is_grouped, equality_judges, groups_end_locally, sees_pieces, sorts_ascend,
+};
 use crate::{
     BinaryGroup, BinaryGroupByKeyMut, BinaryGroupMut, End, ExponentialGroup, ExponentialGroupByKey,
     ExponentialGroupMut, GroupBy, GroupByMut, LinearGroup, LinearGroupMut, is_sorted_for_groups,
@@ -102,6 +104,19 @@ fn count_sorted<T: Ord>(slice: &[T]) -> Option<usize>
     Some(groups.count())
 }
 
+// Sorts a slice, and says how many groups it has then.
+fn sort_and_count<T: Ord>(slice: &mut [T]) -> usize
+    ensures groups { result ≡ length (split T.eq slice.new) }
+    ensures sorted { NeverDescends T.cmp slice.new }
+{
+    sorts_ascend::<T, T>();
+    ascending_is_grouped::<T, T>();
+    slice.sort_unstable();
+    let groups = ExponentialGroup::new(slice);
+    sees_pieces(&groups);
+    groups.count()
+}
+
 // The first group of any slice ends at a local boundary, after few questions.
 fn first_len<T: PartialEq>(slice: &[T]) -> usize
     ensures none { length slice.now ≡ 0 → result ≡ 0 }
@@ -192,6 +207,9 @@ fn walks_families(rt: HostRuntime) {
 fn counts_sorted(rt: HostRuntime) {
     assert_eq!(rt; count_sorted(&[1, 1, 2, 5, 5]), Some(3));
     assert_eq!(rt; count_sorted(&[2, 1]), None);
+    let mut mixed = [3, 1, 3, 2, 1];
+    assert_eq!(rt; sort_and_count(&mut mixed), 3);
+    assert_eq!(rt; mixed, [1, 1, 2, 3, 3]);
     assert_eq!(rt; first_len(&[1, 1, 2]), 2);
     assert_eq!(rt; after_first(&[1, 1, 2]).next(), Some([2].as_slice()));
 }
