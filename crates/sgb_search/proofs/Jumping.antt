@@ -140,6 +140,3 @@ module _ {J T : Type 0} (judge : Ghosts J T) (xs : List T) where
     may_places len j n h rs k run all i b =
         let q = judged j rs k run in
         (omega (arith, b), λ x y ex ey. h q.0 k q.1 (all_each _ _ (λ r. sub r.0) q.0 (like_outward rs q.0 q.2)) (x, y) (sub (x, y) (ex, (i + 1, omega arith, ey))))
-
-    pub still_may : (cost : SearchCost) (j : J) (g : ℕ) (k : J) → Jumps xs judge cost j g k → MayAskAll judge.may_ask judge.answers allowed j → MayAskAll judge.may_ask judge.answers allowed k
-    still_may cost j g k h = may_after judge.may_ask judge.answers allowed allowed (λ q ok. ok) j h.questions k h.run (all_each _ _ (λ r. sub r.0) h.questions h.outward)

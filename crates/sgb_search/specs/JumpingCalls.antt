@@ -32,15 +32,15 @@ module _ {T J : Type 0} (g : Ghosts J T) where
 
     -- a call at the front
     abbrev pub FrontJump : Groups T J → Option (List T) → Groups T J → Type 0
-    FrontJump = calls.FrontCall JumpsOver
+    FrontJump = calls.CallAtFront JumpsOver
 
     -- a call at the back
     abbrev pub BackJump : Groups T J → Option (List T) → Groups T J → Type 0
-    BackJump = calls.BackCall JumpsBackOver
+    BackJump = calls.CallAtBack JumpsBackOver
 
     -- such a call that gives a group
     abbrev pub IsFrontJump : Groups T J → List T → Groups T J → Type 0
-    IsFrontJump = calls.IsFrontGroup JumpsOver
+    IsFrontJump = calls.IsGroupAtFront JumpsOver
 
     abbrev pub IsBackJump : Groups T J → List T → Groups T J → Type 0
-    IsBackJump = calls.IsBackGroup JumpsBackOver
+    IsBackJump = calls.IsGroupAtBack JumpsBackOver

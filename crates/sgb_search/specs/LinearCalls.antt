@@ -26,18 +26,18 @@ module _ {T J : Type 0} (g : Ghosts J T) where
 
   -- a call at the front
   abbrev pub FrontCall : Groups T J → Option (List T) → Groups T J → Type 0
-  FrontCall = calls.FrontCall AsksFront
+  FrontCall = calls.CallAtFront AsksFront
 
   -- a call at the back
   abbrev pub BackCall : Groups T J → Option (List T) → Groups T J → Type 0
-  BackCall = calls.BackCall AsksBack
+  BackCall = calls.CallAtBack AsksBack
 
   -- such a call that gives a group
   abbrev pub IsFrontGroup : Groups T J → List T → Groups T J → Type 0
-  IsFrontGroup = calls.IsFrontGroup AsksFront
+  IsFrontGroup = calls.IsGroupAtFront AsksFront
 
   abbrev pub IsBackGroup : Groups T J → List T → Groups T J → Type 0
-  IsBackGroup = calls.IsBackGroup AsksBack
+  IsBackGroup = calls.IsGroupAtBack AsksBack
 
   -- from s to t the judge was asked about the neighbouring pairs that are gone, about each once
   pub record AsksEachOnce (s t : Groups T J) : Type 0 where

@@ -96,7 +96,6 @@ pub fn front_length<T, J: Judge<T>, S: GroupSearch>(
     ensures nonempty { 0 < result }
     ensures within { result ≤ high - low }
     ensures asked { Jumps (slice_range slice.now low high) J.Judge S.cost judge.old result judge.new }
-    ensures callable { MayAskApart J.Judge (slice_range slice.now low high) judge.new }
 {
     match S::search(judge, &FromFront { slice, low, high }, high - low - 1) {
         Ok(place) | Err(place) => place + 1,
@@ -117,7 +116,6 @@ pub fn back_length<T, J: Judge<T>, S: GroupSearch>(
     ensures nonempty { 0 < result }
     ensures within { result ≤ high - low }
     ensures asked { Jumps (reverse (slice_range slice.now low high)) J.Judge S.cost judge.old result judge.new }
-    ensures callable { MayAskApart J.Judge (slice_range slice.now low high) judge.new }
 {
     match S::search(judge, &FromBack { slice, low, high }, high - low - 1) {
         Ok(place) | Err(place) => place + 1,

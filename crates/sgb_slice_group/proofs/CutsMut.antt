@@ -1,9 +1,8 @@
--- A group cut off a remainder for writing: the judge may go on.
+-- A slice taken out of an iterator for writing may be asked about as the remainder may.
 use Rattle.std.proofs.Common.{◌≡◌, ℕ, [], ◌-◌, List, ◌++◌, length, take, arith, refl, sym, ap, ◌∙◌, subst, take_all}
 use Rattle.std.specs.List.{slice_range}
 use Rattle.sgb_search.specs.declared.judge.Judge.{Ghosts}
 use Rattle.sgb_search.specs.Runs.{MayAskAll}
-use Rattle.sgb_search.proofs.Runs.{may_after}
 use Rattle.sgb_loans.specs.GroupsMut.{GroupsMut}
 use Rattle.sgb_slice_group.specs.Gives.{IsCallableByMut}
 
@@ -20,13 +19,3 @@ module _ {T J : Type 0} (g : Ghosts J T) (allowed : List T → T × T → Type 0
   callable_whole v s r e may =
       let here : MayAskAll g.may_ask g.answers (allowed v.remainder) v.judge = subst (λ (u : GroupsMut T J). MayAskAll g.may_ask g.answers (allowed u.remainder) u.judge) (sym e) may in
       subst (λ (l : List T). MayAskAll g.may_ask g.answers (allowed l) v.judge) (r ∙ sym same ∙ sym (range_is zs ws same)) here
-
-  module _ (xs ys : List T) (k : J) (cut : zs ≡ xs ++ ys) (may : MayAskAll g.may_ask g.answers (allowed (slice_range zs 0 (length ws))) k) where
-    all : MayAskAll g.may_ask g.answers (allowed (xs ++ ys)) k
-    all = subst (λ (l : List T). MayAskAll g.may_ask g.answers (allowed l) k) (range_is zs ws same ∙ cut) may
-
-    pub callable_after_front : ((xs ys : List T) (q : T × T) → allowed ys q → allowed (xs ++ ys) q) → MayAskAll g.may_ask g.answers (allowed ys) k
-    callable_after_front sub = may_after _ _ _ _ (sub xs ys) k [] k refl tt all
-
-    pub callable_after_back : ((xs ys : List T) (q : T × T) → allowed xs q → allowed (xs ++ ys) q) → MayAskAll g.may_ask g.answers (allowed xs) k
-    callable_after_back sub = may_after _ _ _ _ (sub xs ys) k [] k refl tt all

@@ -13,19 +13,19 @@ module _ {T J : Type 0} (g : Ghosts J T) where
   module _ (cost : SearchCost) where
     -- what `next` gives: what a call that jumps gives at the front
     abbrev pub JumpsFront : Groups T J → Option (Bor (List T)) → Groups T J → Type 0
-    JumpsFront = gives.GivesFront (JumpsOver g cost)
+    JumpsFront = gives.GivesAtFront (JumpsOver g cost)
 
     -- what `next_back` gives
     abbrev pub JumpsBack : Groups T J → Option (Bor (List T)) → Groups T J → Type 0
-    JumpsBack = gives.GivesBack (JumpsBackOver g cost)
+    JumpsBack = gives.GivesAtBack (JumpsBackOver g cost)
 
     -- what `next` gives for writing: the same, and the group is out then; or nothing, and then nothing changes
     abbrev pub JumpsFrontMut : GroupsMut T J → Option (MutBor (List T)) → GroupsMut T J → Type 0
-    JumpsFrontMut = gives.GivesFrontMut (JumpsOver g cost)
+    JumpsFrontMut = gives.GivesAtFrontMut (JumpsOver g cost)
 
     -- what `next_back` gives for writing
     abbrev pub JumpsBackMut : GroupsMut T J → Option (MutBor (List T)) → GroupsMut T J → Type 0
-    JumpsBackMut = gives.GivesBackMut (JumpsBackOver g cost)
+    JumpsBackMut = gives.GivesAtBackMut (JumpsBackOver g cost)
 
   abbrev pub IsCallableApartMut : GroupsMut T J → Type 0
   IsCallableApartMut s = IsCallableApart g (seen s)

@@ -9,8 +9,8 @@ use Rattle.sgb_slice_group.specs.Gives as gives
 module _ {T J : Type 0} (g : Ghosts J T) where
   -- what `next` gives: what a linear call at the front gives
   abbrev pub GivesFront : Groups T J → Option (Bor (List T)) → Groups T J → Type 0
-  GivesFront = gives.GivesFront (AsksFront g)
+  GivesFront = gives.GivesAtFront (AsksFront g)
 
   -- what `next_back` gives
   abbrev pub GivesBack : Groups T J → Option (Bor (List T)) → Groups T J → Type 0
-  GivesBack = gives.GivesBack (AsksBack g)
+  GivesBack = gives.GivesAtBack (AsksBack g)

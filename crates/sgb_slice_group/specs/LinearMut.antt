@@ -16,8 +16,8 @@ module _ {T J : Type 0} (g : Ghosts J T) where
 
   -- what `next` gives: what a linear call at the front gives for reading, and the group is out then; or nothing, and then nothing changes
   abbrev pub GivesFrontMut : GroupsMut T J → Option (MutBor (List T)) → GroupsMut T J → Type 0
-  GivesFrontMut = gives.GivesFrontMut (AsksFront g)
+  GivesFrontMut = gives.GivesAtFrontMut (AsksFront g)
 
   -- what `next_back` gives
   abbrev pub GivesBackMut : GroupsMut T J → Option (MutBor (List T)) → GroupsMut T J → Type 0
-  GivesBackMut = gives.GivesBackMut (AsksBack g)
+  GivesBackMut = gives.GivesAtBackMut (AsksBack g)

@@ -1,7 +1,7 @@
 //! How an iterator finds the group at an end of what remains.
-ghost use Rattle.std.specs.Prelude.{ℕ, ◌-◌, ◌<◌, ◌≤◌, Bool, List, ◌++◌, length, Option, slice_range};
+ghost use Rattle.std.specs.Prelude.{ℕ, ◌-◌, ◌<◌, ◌≤◌, Bool, List, length, Option, slice_range};
 ghost use Rattle.sgb_search.specs.declared.judge.Judge.{Ghosts};
-ghost use Rattle.sgb_search.specs.Calls.{FrontCall, BackCall, IsCallableBy};
+ghost use Rattle.sgb_search.specs.Calls.{CallAtFront, CallAtBack, IsCallableBy};
 ghost use Rattle.sgb_search.specs.Groups.{Groups};
 ghost use Rattle.sgb_search.specs.Runs.{MayAskAll, IsRunOf, AsksWithin};
 ghost use Rattle.sgb_search.specs.Split.{TakesFirst, TakesLast};
@@ -30,31 +30,26 @@ pub trait GroupCut {
     // The most questions that calls can ask that take all elements.
     ghost due: { (T : Type 0) → List T → ℕ };
 
-    // They ask exactly as many.
+    // Whether they ask exactly as many.
     ghost exact: { Bool };
 
-    // When less remains, no other pairs are allowed.
-    ghost allowed_rest: { (T : Type 0) (xs ys : List T) (q : T × T) → allowed T ys q → allowed T (xs ++ ys) q };
-
-    ghost allowed_first: { (T : Type 0) (xs ys : List T) (q : T × T) → allowed T xs q → allowed T (xs ++ ys) q };
-
     // A call on a settled iterator takes the piece there of the split, and leaves it settled.
-    ghost front_piece: { (T J : Type 0) (g : Ghosts J T) (s : Groups T J) (group : Option (List T)) (t : Groups T J) (p : T → T → Bool) → FrontCall (asks_front T J g) s group t → settled T J g s p
+    ghost front_piece: { (T J : Type 0) (g : Ghosts J T) (s : Groups T J) (group : Option (List T)) (t : Groups T J) (p : T → T → Bool) → CallAtFront (asks_front T J g) s group t → settled T J g s p
         → TakesFirst p s.remainder group t.remainder × settled T J g t p };
 
-    ghost back_piece: { (T J : Type 0) (g : Ghosts J T) (s : Groups T J) (group : Option (List T)) (t : Groups T J) (p : T → T → Bool) → BackCall (asks_back T J g) s group t → settled T J g s p
+    ghost back_piece: { (T J : Type 0) (g : Ghosts J T) (s : Groups T J) (group : Option (List T)) (t : Groups T J) (p : T → T → Bool) → CallAtBack (asks_back T J g) s group t → settled T J g s p
         → TakesLast p s.remainder group t.remainder × settled T J g t p };
 
     // Where a call may be made, one may be made after it.
-    ghost front_keeps: { (T J : Type 0) (g : Ghosts J T) (s : Groups T J) (group : Option (List T)) (t : Groups T J) → FrontCall (asks_front T J g) s group t → IsCallableBy (allowed T) g s → IsCallableBy (allowed T) g t };
+    ghost front_keeps: { (T J : Type 0) (g : Ghosts J T) (s : Groups T J) (group : Option (List T)) (t : Groups T J) → CallAtFront (asks_front T J g) s group t → IsCallableBy (allowed T) g s → IsCallableBy (allowed T) g t };
 
-    ghost back_keeps: { (T J : Type 0) (g : Ghosts J T) (s : Groups T J) (group : Option (List T)) (t : Groups T J) → BackCall (asks_back T J g) s group t → IsCallableBy (allowed T) g s → IsCallableBy (allowed T) g t };
+    ghost back_keeps: { (T J : Type 0) (g : Ghosts J T) (s : Groups T J) (group : Option (List T)) (t : Groups T J) → CallAtBack (asks_back T J g) s group t → IsCallableBy (allowed T) g s → IsCallableBy (allowed T) g t };
 
     // Whatever is answered, a call asks no more than it takes off what is due.
-    ghost front_asks: { (T J : Type 0) (g : Ghosts J T) (s : Groups T J) (group : Option (List T)) (t : Groups T J) → FrontCall (asks_front T J g) s group t
+    ghost front_asks: { (T J : Type 0) (g : Ghosts J T) (s : Groups T J) (group : Option (List T)) (t : Groups T J) → CallAtFront (asks_front T J g) s group t
         → AsksWithin (λ q r n. IsRunOf g.may_ask g.answers n q.judge r.judge) (λ q. due T q.remainder) exact s t };
 
-    ghost back_asks: { (T J : Type 0) (g : Ghosts J T) (s : Groups T J) (group : Option (List T)) (t : Groups T J) → BackCall (asks_back T J g) s group t
+    ghost back_asks: { (T J : Type 0) (g : Ghosts J T) (s : Groups T J) (group : Option (List T)) (t : Groups T J) → CallAtBack (asks_back T J g) s group t
         → AsksWithin (λ q r n. IsRunOf g.may_ask g.answers n q.judge r.judge) (λ q. due T q.remainder) exact s t };
 
     /// How many elements the first group of those from `low` up to `high` has.
@@ -64,8 +59,7 @@ pub trait GroupCut {
         requires callable { MayAskAll J.may_ask J.answers (allowed T (slice_range slice.now low high)) judge.old }
         ensures nonempty { 0 < result }
         ensures within { result ≤ high - low }
-        ensures asked { asks_front T J J.Judge (slice_range slice.now low high) result judge.old judge.new }
-        ensures callable { MayAskAll J.may_ask J.answers (allowed T (slice_range slice.now low high)) judge.new };
+        ensures asked { asks_front T J J.Judge (slice_range slice.now low high) result judge.old judge.new };
 
     /// How many elements the last group of those from `low` up to `high` has.
     fn back_length<T, J: Judge<T>>(slice: &[T], low: usize, high: usize, judge: &mut J) -> usize
@@ -74,8 +68,7 @@ pub trait GroupCut {
         requires callable { MayAskAll J.may_ask J.answers (allowed T (slice_range slice.now low high)) judge.old }
         ensures nonempty { 0 < result }
         ensures within { result ≤ high - low }
-        ensures asked { asks_back T J J.Judge (slice_range slice.now low high) result judge.old judge.new }
-        ensures callable { MayAskAll J.may_ask J.answers (allowed T (slice_range slice.now low high)) judge.new };
+        ensures asked { asks_back T J J.Judge (slice_range slice.now low high) result judge.old judge.new };
 }
 
 /// Asks about one neighbouring pair after another, from the end on, up to the first that is refused.
@@ -86,7 +79,6 @@ impl GroupCut for Scan {
     ghost use Rattle.std.specs.Prelude.{true};
     ghost use Rattle.sgb_search.specs.Neighbours.{AreNeighbours, neighbours};
     ghost use Rattle.sgb_search.specs.LinearCalls.{AsksFront, AsksBack, IsSettled};
-    ghost use Rattle.sgb_search.proofs.Pairs.{neighbours_of_first, neighbours_of_rest};
     ghost use Rattle.sgb_search.proofs.LinearQueue as laws;
 
     ghost allowed = { λ T. AreNeighbours };
@@ -100,10 +92,6 @@ impl GroupCut for Scan {
     ghost due = { λ T xs. length (neighbours xs) };
 
     ghost exact = { true };
-
-    ghost allowed_rest = { λ T. neighbours_of_rest };
-
-    ghost allowed_first = { λ T. neighbours_of_first };
 
     ghost front_piece = { λ T J. laws.front_piece };
 
@@ -138,7 +126,6 @@ impl<S: GroupSearch> GroupCut for Jump<S> {
     ghost use Rattle.std.specs.Prelude.{false};
     ghost use Rattle.sgb_search.specs.Apart.{AreApart};
     ghost use Rattle.sgb_search.specs.JumpingCalls.{JumpsOver, JumpsBackOver, IsSettledApart};
-    ghost use Rattle.sgb_search.proofs.Apart.{apart_of_first, apart_of_rest};
     ghost use Rattle.sgb_search.proofs.JumpingQueue as laws;
 
     ghost allowed = { λ T. AreApart };
@@ -152,10 +139,6 @@ impl<S: GroupSearch> GroupCut for Jump<S> {
     ghost due = { λ T xs. S.cost.walk (length xs) };
 
     ghost exact = { false };
-
-    ghost allowed_rest = { λ T. apart_of_rest };
-
-    ghost allowed_first = { λ T. apart_of_first };
 
     ghost front_piece = { λ T J g. laws.front_piece g S.cost };
 

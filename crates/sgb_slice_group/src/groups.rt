@@ -84,12 +84,12 @@ impl<'a, T, J, C> SliceGroups<'a, T, J, C> {
 
 impl<'a, T, J: Judge<T>, C: GroupCut> SliceGroups<'a, T, J, C> {
     ghost use Rattle.sgb_search.specs.Calls.{IsCallableBy};
-    ghost use Rattle.sgb_slice_group.specs.Gives.{GivesFront, GivesBack};
+    ghost use Rattle.sgb_slice_group.specs.Gives.{GivesAtFront, GivesAtBack};
 
     #[inline]
     fn take_front(&mut self) -> Option<&'a [T]>
         requires { IsCallableBy (C.allowed T) J.Judge self.old }
-        ensures gives { GivesFront (C.asks_front T J J.Judge) self.old result self.new }
+        ensures gives { GivesAtFront (C.asks_front T J J.Judge) self.old result self.new }
         ensures callable { IsCallableBy (C.allowed T) J.Judge self.new }
     {
         if self.low == self.high {
@@ -105,7 +105,7 @@ impl<'a, T, J: Judge<T>, C: GroupCut> SliceGroups<'a, T, J, C> {
     #[inline]
     fn take_back(&mut self) -> Option<&'a [T]>
         requires { IsCallableBy (C.allowed T) J.Judge self.old }
-        ensures gives { GivesBack (C.asks_back T J J.Judge) self.old result self.new }
+        ensures gives { GivesAtBack (C.asks_back T J J.Judge) self.old result self.new }
         ensures callable { IsCallableBy (C.allowed T) J.Judge self.new }
     {
         if self.low == self.high {
@@ -123,11 +123,11 @@ impl<'a, T, J: Judge<T> + Drop, C: GroupCut> Iterator for SliceGroups<'a, T, J, 
     type Item = &'a [T];
 
     ghost use Rattle.sgb_search.specs.Calls.{IsCallableBy};
-    ghost use Rattle.sgb_slice_group.specs.Gives.{GivesFront};
+    ghost use Rattle.sgb_slice_group.specs.Gives.{GivesAtFront};
 
     ghost can_next = { IsCallableBy (C.allowed T) J.Judge };
 
-    ghost next_gives = { GivesFront (C.asks_front T J J.Judge) };
+    ghost next_gives = { GivesAtFront (C.asks_front T J J.Judge) };
 
     ghost remaining = { groups_left };
 
@@ -154,11 +154,11 @@ impl<'a, T, J: Judge<T> + Drop, C: GroupCut> Iterator for SliceGroups<'a, T, J, 
 
 impl<'a, T, J: Judge<T> + Drop, C: GroupCut> DoubleEndedIterator for SliceGroups<'a, T, J, C> {
     ghost use Rattle.sgb_search.specs.Calls.{IsCallableBy};
-    ghost use Rattle.sgb_slice_group.specs.Gives.{GivesBack};
+    ghost use Rattle.sgb_slice_group.specs.Gives.{GivesAtBack};
 
     ghost can_next_back = { IsCallableBy (C.allowed T) J.Judge };
 
-    ghost next_back_gives = { GivesBack (C.asks_back T J J.Judge) };
+    ghost next_back_gives = { GivesAtBack (C.asks_back T J J.Judge) };
 
     /// The last group of the remainder, or `None` where nothing remains.
     #[inline]
@@ -171,7 +171,7 @@ impl<'a, T, J: Judge<T> + Drop, C: GroupCut> FusedIterator for SliceGroups<'a, T
 
 impl<'a, T, J: Judge<T> + Drop, C: GroupCut> SliceGroups<'a, T, J, C> {
     ghost use Rattle.sgb_search.specs.Calls.{IsCallableBy};
-    ghost use Rattle.sgb_slice_group.specs.Gives.{GivesBack};
+    ghost use Rattle.sgb_slice_group.specs.Gives.{GivesAtBack};
 
     /// The last group of the remainder, or `None` where nothing remains: what `next_back` gives. The iterator is given up.
     ///
@@ -181,7 +181,7 @@ impl<'a, T, J: Judge<T> + Drop, C: GroupCut> SliceGroups<'a, T, J, C> {
     #[inline]
     pub fn last(mut self) -> Option<&'a [T]>
         requires { IsCallableBy (C.allowed T) J.Judge self }
-        ensures { (t : Groups T J) × GivesBack (C.asks_back T J J.Judge) self.entry result t }
+        ensures { (t : Groups T J) × GivesAtBack (C.asks_back T J J.Judge) self.entry result t }
     {
         self.next_back()
     }

@@ -75,12 +75,12 @@ impl<'a, T, J, C> SliceGroupsMut<'a, T, J, C> {
 }
 
 impl<'a, T, J: Judge<T>, C: GroupCut> SliceGroupsMut<'a, T, J, C> {
-    ghost use Rattle.sgb_slice_group.specs.Gives.{IsCallableByMut, GivesFrontMut, GivesBackMut};
+    ghost use Rattle.sgb_slice_group.specs.Gives.{IsCallableByMut, GivesAtFrontMut, GivesAtBackMut};
 
     #[inline]
     fn take_front(&mut self) -> Option<&'a mut [T]>
         requires { IsCallableByMut (C.allowed T) J.Judge self.old }
-        ensures gives { GivesFrontMut (C.asks_front T J J.Judge) self.old result self.new }
+        ensures gives { GivesAtFrontMut (C.asks_front T J J.Judge) self.old result self.new }
         ensures callable { IsCallableByMut (C.allowed T) J.Judge self.new }
     {
         let len = self.slice.len();
@@ -97,7 +97,7 @@ impl<'a, T, J: Judge<T>, C: GroupCut> SliceGroupsMut<'a, T, J, C> {
     #[inline]
     fn take_back(&mut self) -> Option<&'a mut [T]>
         requires { IsCallableByMut (C.allowed T) J.Judge self.old }
-        ensures gives { GivesBackMut (C.asks_back T J J.Judge) self.old result self.new }
+        ensures gives { GivesAtBackMut (C.asks_back T J J.Judge) self.old result self.new }
         ensures callable { IsCallableByMut (C.allowed T) J.Judge self.new }
     {
         let len = self.slice.len();
@@ -177,11 +177,11 @@ impl<'a, T, J: Drop, C> SliceGroupsMut<'a, T, J, C> {
 impl<'a, T, J: Judge<T> + Drop, C: GroupCut> Iterator for SliceGroupsMut<'a, T, J, C> {
     type Item = &'a mut [T];
 
-    ghost use Rattle.sgb_slice_group.specs.Gives.{IsCallableByMut, GivesFrontMut};
+    ghost use Rattle.sgb_slice_group.specs.Gives.{IsCallableByMut, GivesAtFrontMut};
 
     ghost can_next = { IsCallableByMut (C.allowed T) J.Judge };
 
-    ghost next_gives = { GivesFrontMut (C.asks_front T J J.Judge) };
+    ghost next_gives = { GivesAtFrontMut (C.asks_front T J J.Judge) };
 
     ghost remaining = { groups_mut_left };
 
@@ -207,11 +207,11 @@ impl<'a, T, J: Judge<T> + Drop, C: GroupCut> Iterator for SliceGroupsMut<'a, T, 
 }
 
 impl<'a, T, J: Judge<T> + Drop, C: GroupCut> DoubleEndedIterator for SliceGroupsMut<'a, T, J, C> {
-    ghost use Rattle.sgb_slice_group.specs.Gives.{IsCallableByMut, GivesBackMut};
+    ghost use Rattle.sgb_slice_group.specs.Gives.{IsCallableByMut, GivesAtBackMut};
 
     ghost can_next_back = { IsCallableByMut (C.allowed T) J.Judge };
 
-    ghost next_back_gives = { GivesBackMut (C.asks_back T J J.Judge) };
+    ghost next_back_gives = { GivesAtBackMut (C.asks_back T J J.Judge) };
 
     /// The last group of the remainder, or `None` where nothing remains.
     #[inline]
@@ -224,7 +224,7 @@ impl<'a, T, J: Judge<T> + Drop, C: GroupCut> FusedIterator for SliceGroupsMut<'a
 
 impl<'a, T, J: Judge<T> + Drop, C: GroupCut> SliceGroupsMut<'a, T, J, C> {
     ghost use Rattle.sgb_loans.specs.GroupsMut.{GroupsMut};
-    ghost use Rattle.sgb_slice_group.specs.Gives.{IsCallableByMut, GivesBackMut};
+    ghost use Rattle.sgb_slice_group.specs.Gives.{IsCallableByMut, GivesAtBackMut};
 
     /// The last group of the remainder, or `None` where nothing remains: what `next_back` gives, by its questions. The
     /// iterator is given up. `Iterator::last` walks all groups from the front.
@@ -234,7 +234,7 @@ impl<'a, T, J: Judge<T> + Drop, C: GroupCut> SliceGroupsMut<'a, T, J, C> {
     #[inline]
     pub fn last(mut self) -> Option<&'a mut [T]>
         requires { IsCallableByMut (C.allowed T) J.Judge self }
-        ensures { (t : GroupsMut T J) × GivesBackMut (C.asks_back T J J.Judge) self.entry result t }
+        ensures { (t : GroupsMut T J) × GivesAtBackMut (C.asks_back T J J.Judge) self.entry result t }
     {
         self.next_back()
     }

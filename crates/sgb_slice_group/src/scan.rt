@@ -20,7 +20,6 @@ pub(crate) fn front_end<T, J: Judge<T>>(
     ensures after { low < result }
     ensures upto { result ≤ high }
     ensures asked { IsRun J.may_ask J.answers judge.old (front_questions (slice_range slice.now low high) (result - low)) judge.new }
-    ensures callable { MayAskAlong J.Judge (slice_range slice.now low high) judge.new }
 {
     let mut end = low + 1;
     while end < high {
@@ -47,7 +46,6 @@ pub(crate) fn back_start<T, J: Judge<T>>(
     ensures from { low ≤ result }
     ensures before { result < high }
     ensures asked { IsRun J.may_ask J.answers judge.old (back_questions (slice_range slice.now low high) (high - result)) judge.new }
-    ensures callable { MayAskAlong J.Judge (slice_range slice.now low high) judge.new }
 {
     let mut start = high - 1;
     while start > low {

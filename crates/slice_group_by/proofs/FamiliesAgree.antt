@@ -9,7 +9,7 @@ use Rattle.sgb_search.specs.Groups.{Groups}
 use Rattle.sgb_search.specs.Split.{split}
 use Rattle.sgb_loans.specs.GroupsMut.{GroupsMut}
 use Rattle.sgb_slice_group.specs.declared.cut.GroupCut.{Ghosts as CutGhosts}
-use Rattle.sgb_slice_group.specs.Gives.{seen, GivesFront, GivesBack, GivesFrontMut, GivesBackMut}
+use Rattle.sgb_slice_group.specs.Gives.{seen, GivesAtFront, GivesAtBack, GivesAtFrontMut, GivesAtBackMut}
 use Rattle.slice_group_by.specs.declared.queue.End.{End}
 use Rattle.slice_group_by.specs.Queue.{at_end, each_end, answers}
 use Rattle.slice_group_by.specs.Walk.{IsChain, TakesPiece}
@@ -33,13 +33,13 @@ module _ {T : Type 0} where
 -- the calls of the groups of a slice do, for reading and for writing
 module _ {C T J : Type 0} (c : CutGhosts C) (g : Ghosts J T) where
   abbrev pub reads : End → Groups T J → Option (Bor (List T)) → Groups T J → Type 0
-  reads = at_end (GivesFront (c.asks_front T J g)) (GivesBack (c.asks_back T J g))
+  reads = at_end (GivesAtFront (c.asks_front T J g)) (GivesAtBack (c.asks_back T J g))
 
   pub reading_takes : TakesPieces reads (λ s. s.remainder) (λ x. x.now) (c.settled T J g)
   reading_takes = each_end _ (λ s x t p. c.front_piece T J g s (option_copied x) t p) (λ s x t p. c.back_piece T J g s (option_copied x) t p)
 
   abbrev pub writes : End → GroupsMut T J → Option (MutBor (List T)) → GroupsMut T J → Type 0
-  writes = at_end (GivesFrontMut (c.asks_front T J g)) (GivesBackMut (c.asks_back T J g))
+  writes = at_end (GivesAtFrontMut (c.asks_front T J g)) (GivesAtBackMut (c.asks_back T J g))
 
   pub writing_takes : TakesPieces writes (λ s. s.remainder) (λ x. x.now) (λ s. c.settled T J g (seen s))
   writing_takes = each_end _ (λ s x t p h. c.front_piece T J g (seen s) (option_copied_mut x) (seen t) p h.0) (λ s x t p h. c.back_piece T J g (seen s) (option_copied_mut x) (seen t) p h.0)

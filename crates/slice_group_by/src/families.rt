@@ -4,7 +4,7 @@ ghost use Rattle.std.specs.Borrow.{Bor, MutBor};
 ghost use Rattle.sgb_search.specs.Groups.{Groups};
 ghost use Rattle.sgb_search.specs.Jumps.{IsLocalEnd};
 ghost use Rattle.sgb_search.specs.JumpingCalls.{ComputesApart};
-ghost use Rattle.sgb_slice_group.specs.Gives.{seen, GivesFront, GivesBack, GivesFrontMut, GivesBackMut};
+ghost use Rattle.sgb_slice_group.specs.Gives.{seen, GivesAtFront, GivesAtBack, GivesAtFrontMut, GivesAtBackMut};
 ghost use Rattle.sgb_slice_group.specs.Jumping.{JumpsFront, JumpsBack, JumpsFrontMut, JumpsBackMut, ComputesApartMut};
 ghost use Rattle.sgb_loans.specs.GroupsMut.{GroupsMut};
 ghost use Rattle.slice_group_by.specs.declared.queue.End.{End};
@@ -26,8 +26,8 @@ pub fn families_agree<T, I: Judge<T>, B: GroupCut, J: Judge<T>, C: GroupCut>(
 )
     ensures { (p : T → T → Bool) (q q' : Groups T I) (r r' : Groups T J) (ends : List End) (out other : List (Option (Bor (List T))))
         → B.settled T I I.Judge q p → C.settled T J J.Judge r p → q.remainder ≡ r.remainder
-        → IsChain (at_end (GivesFront (B.asks_front T I I.Judge)) (GivesBack (B.asks_back T I I.Judge))) q ends out q'
-        → IsChain (at_end (GivesFront (C.asks_front T J J.Judge)) (GivesBack (C.asks_back T J J.Judge))) r ends other r'
+        → IsChain (at_end (GivesAtFront (B.asks_front T I I.Judge)) (GivesAtBack (B.asks_back T I I.Judge))) q ends out q'
+        → IsChain (at_end (GivesAtFront (C.asks_front T J J.Judge)) (GivesAtBack (C.asks_back T J J.Judge))) r ends other r'
         → map (option_map (λ group. group.now)) out ≡ map (option_map (λ group. group.now)) other }
 {}
 
@@ -39,8 +39,8 @@ pub fn families_agree_mut<T, I: Judge<T>, B: GroupCut, J: Judge<T>, C: GroupCut>
 )
     ensures { (p : T → T → Bool) (q q' : GroupsMut T I) (r r' : GroupsMut T J) (ends : List End) (out other : List (Option (MutBor (List T))))
         → B.settled T I I.Judge (seen q) p → C.settled T J J.Judge (seen r) p → q.remainder ≡ r.remainder
-        → IsChain (at_end (GivesFrontMut (B.asks_front T I I.Judge)) (GivesBackMut (B.asks_back T I I.Judge))) q ends out q'
-        → IsChain (at_end (GivesFrontMut (C.asks_front T J J.Judge)) (GivesBackMut (C.asks_back T J J.Judge))) r ends other r'
+        → IsChain (at_end (GivesAtFrontMut (B.asks_front T I I.Judge)) (GivesAtBackMut (B.asks_back T I I.Judge))) q ends out q'
+        → IsChain (at_end (GivesAtFrontMut (C.asks_front T J J.Judge)) (GivesAtBackMut (C.asks_back T J J.Judge))) r ends other r'
         → map (option_map (λ group. group.now)) out ≡ map (option_map (λ group. group.now)) other }
 {}
 
@@ -53,8 +53,8 @@ pub fn reading_and_writing_agree<T, I: Judge<T>, B: GroupCut, J: Judge<T>, C: Gr
 )
     ensures { (p : T → T → Bool) (q q' : Groups T I) (r r' : GroupsMut T J) (ends : List End) (out : List (Option (Bor (List T)))) (other : List (Option (MutBor (List T))))
         → B.settled T I I.Judge q p → C.settled T J J.Judge (seen r) p → q.remainder ≡ r.remainder
-        → IsChain (at_end (GivesFront (B.asks_front T I I.Judge)) (GivesBack (B.asks_back T I I.Judge))) q ends out q'
-        → IsChain (at_end (GivesFrontMut (C.asks_front T J J.Judge)) (GivesBackMut (C.asks_back T J J.Judge))) r ends other r'
+        → IsChain (at_end (GivesAtFront (B.asks_front T I I.Judge)) (GivesAtBack (B.asks_back T I I.Judge))) q ends out q'
+        → IsChain (at_end (GivesAtFrontMut (C.asks_front T J J.Judge)) (GivesAtBackMut (C.asks_back T J J.Judge))) r ends other r'
         → map (option_map (λ group. group.now)) out ≡ map (option_map (λ group. group.now)) other }
 {}
 

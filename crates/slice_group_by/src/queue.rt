@@ -43,7 +43,7 @@ pub trait GroupQueue {
     // The most questions that all calls to come can ask.
     ghost due: { Self → ℕ };
 
-    // All calls to come ask exactly as many.
+    // Whether all calls to come ask exactly as many.
     ghost exact: { Bool };
 
     // What a call may ask may be asked, in every state that the answers can lead to.
@@ -85,6 +85,7 @@ pub trait GroupQueue {
         → AsksWithin asked due exact q t };
 }
 
+#[inline]
 fn pop_at<Q: GroupQueue>(queue: &mut Q, end: &End) -> Option<Q::Item>
     requires { Q.can_pop queue.old }
     ensures gives { Q.gives end.now queue.old result queue.new }

@@ -12,7 +12,7 @@ impl<'a, T, J: Judge<T> + Drop, C: GroupCut> GroupQueue for SliceGroups<'a, T, J
     ghost use Rattle.sgb_search.specs.Runs.{IsRunOf};
     ghost use Rattle.sgb_search.proofs.Calls.{front_part, back_part};
     ghost use Rattle.sgb_search.proofs.Runs.{run_of_none, run_of_more};
-    ghost use Rattle.sgb_slice_group.specs.Gives.{GivesFront, GivesBack};
+    ghost use Rattle.sgb_slice_group.specs.Gives.{GivesAtFront, GivesAtBack};
     ghost use Rattle.slice_group_by.specs.Queue.{at_end, each_end};
 
     ghost Element = { T };
@@ -23,7 +23,7 @@ impl<'a, T, J: Judge<T> + Drop, C: GroupCut> GroupQueue for SliceGroups<'a, T, J
 
     ghost is_settled = { C.settled T J J.Judge };
 
-    ghost gives = { at_end (GivesFront (C.asks_front T J J.Judge)) (GivesBack (C.asks_back T J J.Judge)) };
+    ghost gives = { at_end (GivesAtFront (C.asks_front T J J.Judge)) (GivesAtBack (C.asks_back T J J.Judge)) };
 
     ghost asked = { λ q r n. IsRunOf J.may_ask J.answers n q.judge r.judge };
 

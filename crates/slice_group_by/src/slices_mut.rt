@@ -11,7 +11,7 @@ impl<'a, T, J: Judge<T> + Drop, C: GroupCut> GroupQueue for SliceGroupsMut<'a, T
     ghost use Rattle.sgb_search.specs.Runs.{IsRunOf};
     ghost use Rattle.sgb_search.proofs.Calls.{front_part, back_part, asks_seen};
     ghost use Rattle.sgb_search.proofs.Runs.{run_of_none, run_of_more};
-    ghost use Rattle.sgb_slice_group.specs.Gives.{seen, IsCallableByMut, GivesFrontMut, GivesBackMut};
+    ghost use Rattle.sgb_slice_group.specs.Gives.{seen, IsCallableByMut, GivesAtFrontMut, GivesAtBackMut};
     ghost use Rattle.slice_group_by.specs.Queue.{at_end, each_end};
 
     ghost Element = { T };
@@ -22,7 +22,7 @@ impl<'a, T, J: Judge<T> + Drop, C: GroupCut> GroupQueue for SliceGroupsMut<'a, T
 
     ghost is_settled = { λ q. C.settled T J J.Judge (seen q) };
 
-    ghost gives = { at_end (GivesFrontMut (C.asks_front T J J.Judge)) (GivesBackMut (C.asks_back T J J.Judge)) };
+    ghost gives = { at_end (GivesAtFrontMut (C.asks_front T J J.Judge)) (GivesAtBackMut (C.asks_back T J J.Judge)) };
 
     ghost asked = { λ q r n. IsRunOf J.may_ask J.answers n q.judge r.judge };
 

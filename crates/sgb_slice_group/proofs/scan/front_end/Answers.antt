@@ -9,10 +9,6 @@ pub ask-together-requires : goal.ask-together-requires
 ask-together-requires g c =
     may_now _ _ _ _ _ c.loop-end.invariant.callable (are_neighbours c.args.slice.now c.args.low c.args.high c.loop-end.end _ _ (omega arith) (omega arith) (omega arith) c.index-slice-end.is c.index-slice-end-in-loop-end.is)
 
-pub returns-then-not-together-clause-callable : goal.returns-then-not-together-clause-callable
-returns-then-not-together-clause-callable g c =
-    may_next _ _ _ _ _ _ _ c.loop-end.invariant.callable (are_neighbours c.args.slice.now c.args.low c.args.high c.loop-end.end _ _ (omega arith) (omega arith) (omega arith) c.index-slice-end.is c.index-slice-end-in-loop-end.is) c.if-not-together.ensures
-
 pub returns-then-not-together-clause-asked : goal.returns-then-not-together-clause-asked
 returns-then-not-together-clause-asked g c =
     let near = are_neighbours c.args.slice.now c.args.low c.args.high c.loop-end.end _ _ (omega arith) (omega arith) (omega arith) c.index-slice-end.is c.index-slice-end-in-loop-end.is in

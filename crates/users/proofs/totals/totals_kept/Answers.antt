@@ -1,6 +1,6 @@
 use Rattle.std.proofs.Common.{rules, arith, ap, ◌∙◌, ◌≡◌, ◌++◌}
 use Rattle.std.proofs.lemmas.List.Sums.{sum_by-append}
-use Rattle.slice_group_by.proofs.WrittenPieces.{written_piece, written_settled}
+use Rattle.slice_group_by.proofs.WrittenPieces.{jumping_piece, jumping_settled}
 use Rattle.users.specs.Totals.{kept}
 use Rattle.users.proofs.KeptTotals.{one_more, set_is_kept}
 use Rattle.users.proofs.totals.totals_kept.Goals as goal
@@ -15,10 +15,10 @@ loop-group-preserved g c =
     let note = c.note_front.ensures in
     let value : c.of.result.value ≡ kept c.in-Some.group.now = c.of.ensures.value ∙ set_is_kept c.in-Some.group.now c.total_of.result c.total_of.ensures in
     record {
-      settled = written_settled _ _ _ c.loop-group.groups c.next.new.self c.note_front.new.self c.in-Some.group steps note.remainder i.settled note.judge;
+      settled = jumping_settled _ _ _ c.loop-group.groups c.next.new.self c.note_front.new.self c.in-Some.group steps note.remainder note.judge i.settled;
       fits = grind (arith, sum_by-append);
       root = search rules;
       cuts = search rules;
       after = search rules;
-      done = one_more _ _ _ _ _ _ _ i.done (written_piece _ _ _ c.loop-group.groups c.next.new.self c.note_front.new.self c.in-Some.group steps note.remainder i.settled) (note.before ∙ ap (λ l. l ++ c.of.result.value) steps.1.before) value;
+      done = one_more _ _ _ _ _ _ _ i.done (jumping_piece _ _ _ c.loop-group.groups c.next.new.self c.note_front.new.self c.in-Some.group steps note.remainder i.settled) (note.before ∙ ap (λ l. l ++ c.of.result.value) steps.1.before) value;
     }

@@ -1,7 +1,8 @@
-use Rattle.std.proofs.Common.{arith, ◌-◌, subst, sym}
+use Rattle.std.specs.List.{slice_range}
+use Rattle.std.proofs.Common.{Some, arith, ◌-◌, subst, sym}
 use Rattle.sgb_search.specs.Calls.{IsCallableBy}
 use Rattle.sgb_search.specs.Groups.{Groups}
-use Rattle.sgb_slice_group.proofs.Cuts.{back_cut, callable_front}
+use Rattle.sgb_slice_group.proofs.Cuts.{back_cut}
 use Rattle.sgb_slice_group.proofs.groups.SliceGroups.take_back.Goals as goal
 
 pub back_length-len-requires-clause-callable : goal.back_length-len-requires-clause-callable
@@ -16,5 +17,4 @@ returns-clause-gives g c =
 pub returns-clause-callable : goal.returns-clause-callable
 returns-clause-callable g c =
     let s = c.self.inside in
-    let e = c.back_length-len.ensures in
-    callable_front g.J.Judge (g.C.GroupCut.allowed _) s.slice.now s.low s.high _ (g.C.GroupCut.allowed_first _) (s.high - c.back_length-len.result) (omega (arith, e.within, c.self.invariant.order)) (omega arith) e.callable
+    g.C.GroupCut.back_keeps _ _ g.J.Judge _ (Some (slice_range s.slice.now (s.high - c.back_length-len.result) s.high)) _ (returns-clause-gives g c) c.requires

@@ -1,7 +1,8 @@
-use Rattle.std.proofs.Common.{arith, ◌+◌, subst, sym, refl}
+use Rattle.std.specs.List.{slice_range}
+use Rattle.std.proofs.Common.{Some, arith, ◌+◌, subst, sym, refl}
 use Rattle.sgb_search.specs.Calls.{IsCallableBy}
 use Rattle.sgb_search.specs.Groups.{Groups}
-use Rattle.sgb_slice_group.proofs.Cuts.{front_cut, callable_rest}
+use Rattle.sgb_slice_group.proofs.Cuts.{front_cut}
 use Rattle.sgb_slice_group.proofs.groups.SliceGroups.take_front.Goals as goal
 
 pub front_length-len-requires-clause-callable : goal.front_length-len-requires-clause-callable
@@ -16,5 +17,4 @@ returns-clause-gives g c =
 pub returns-clause-callable : goal.returns-clause-callable
 returns-clause-callable g c =
     let s = c.self.inside in
-    let e = c.front_length-len.ensures in
-    callable_rest g.J.Judge (g.C.GroupCut.allowed _) s.slice.now s.low s.high _ (g.C.GroupCut.allowed_rest _) (s.low + c.front_length-len.result) (omega arith) (omega (arith, e.within, c.self.invariant.order)) e.callable
+    g.C.GroupCut.front_keeps _ _ g.J.Judge _ (Some (slice_range s.slice.now s.low (s.low + c.front_length-len.result))) _ (returns-clause-gives g c) c.requires
