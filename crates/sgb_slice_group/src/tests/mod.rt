@@ -1,4 +1,5 @@
 //! What no contract says, and small cases.
+mod aliases;
 mod binary;
 mod by_key;
 mod by_predicate;

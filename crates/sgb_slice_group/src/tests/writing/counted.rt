@@ -70,3 +70,12 @@ fn thousand_last(rt: HostRuntime) {
     let exponential = ExponentialGroupMut::new(&mut slice);
     assert!(rt; is_thousand(exponential.last()) && calls.replace(0) <= 21);
 }
+
+// By halving it would be ten calls.
+#[test]
+fn short_group_of_a_long_slice(rt: HostRuntime) {
+    let calls = Cell::new(0usize);
+    let mut slice = numbers(1, &calls);
+    let mut groups = ExponentialGroupMut::new(&mut slice);
+    assert!(rt; groups.next().is_some_and(|group| group.len() == 1) && calls.get() <= 3);
+}
