@@ -10,7 +10,6 @@ use Rattle.sgb_search.specs.Halving.{MayProbe, IsLowEnd, IsHighEnd}
 use Rattle.sgb_search.specs.Galloping.{TwoAnswers, place_of}
 use Rattle.sgb_search.specs.Jumps.{SearchCost, IsWithin, IsOutward, Asked, BothWays, IsInner, IsBeyond, EndsBy, Jumps}
 use Rattle.sgb_search.specs.Seeking.{IsSoughtPlace, IsSought, MayAskAt, AnsweredAt, side}
-use Rattle.sgb_search.proofs.Runs.{may_after}
 use Rattle.sgb_search.proofs.Each.{all_contains, all_each}
 
 contains_head : {X : Type 0} (x : X) (xs : List X) → Contains (x ∷ xs) x

@@ -1,8 +1,8 @@
 //! What decides whether two elements belong together, and the definitions that every group stands on.
 //!
 //! The definitions are in `specs/`, and are meant to be read first: `Split` (what the groups are), `Neighbours`
-//! (which questions a linear call asks), `Runs` (what a list of questions does to the state of a judge), `LinearCalls` (what a
-//! linear call gives of a list), `Apart` (which slices are grouped), `Jumps` and `JumpingCalls` (what a binary or exponential
+//! (which questions a linear call asks), `Runs` (what a list of questions does to the state of a judge), `Calls` and
+//! `LinearCalls` (what a call gives of a list, and what a linear one asks), `Apart` (which slices are grouped), `Jumps` and `JumpingCalls` (what a binary or exponential
 //! call asks and gives), `Search` (what the searches find).
 #![tactic(auto)]
 

@@ -1,5 +1,5 @@
 -- A slice taken out of an iterator for writing may be asked about as the remainder may.
-use Rattle.std.proofs.Common.{◌≡◌, ℕ, [], ◌-◌, List, ◌++◌, length, take, arith, refl, sym, ap, ◌∙◌, subst, take_all}
+use Rattle.std.proofs.Common.{◌≡◌, ℕ, ◌-◌, List, length, take, arith, sym, ap, ◌∙◌, subst, take_all}
 use Rattle.std.specs.List.{slice_range}
 use Rattle.sgb_search.specs.declared.judge.Judge.{Ghosts}
 use Rattle.sgb_search.specs.Runs.{MayAskAll}

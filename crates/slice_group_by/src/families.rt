@@ -18,7 +18,7 @@ use sgb_slice_group::groups::{JumpingGroups, SliceGroups};
 use sgb_slice_group::groups_mut::{JumpingGroupsMut, SliceGroupsMut};
 
 /// The families agree: linear, binary and exponential groups, any two, that are settled for one test, of equal remainders, give
-/// equal groups to equal lists of calls, by whatever judges.
+/// equal groups to equal lists of calls, by whatever judges. It follows from what `walk` and `chains_answer` say of each.
 #[inline]
 pub fn families_agree<T, I: Judge<T>, B: GroupCut, J: Judge<T>, C: GroupCut>(
     _one: &SliceGroups<'_, T, I, B>,

@@ -1,9 +1,9 @@
 //! Groups of neighbouring elements of a slice, without copying, from either end.
 //!
 //! A group ends where two neighbouring elements do not belong together. The groups of a slice are nonempty, and cover it.
-//! Those of linear iterators are the same from the front and from the back: the pieces of its one `split`. So are those of
-//! binary and exponential iterators on a slice that is grouped, as a sorted one is for `==`; they search for the end of a group,
-//! and do not ask about each pair of neighbours.
+//! Where the closure answers by its arguments alone, those of linear iterators are the same from the front and from the
+//! back: the pieces of the one `split`. So are those of binary and exponential iterators on a slice that is grouped, as a
+//! sorted one is for `==`; they search for the end of a group, and do not ask about each pair of neighbours.
 //!
 //! ```
 //! let mut groups = LinearGroup::new(&[1, 1, 1, 3, 3, 2, 2, 2]);

@@ -52,6 +52,8 @@ fn totalled(slice: &mut [Entry]) -> Ended<'_, Entry>
 }
 
 /// Keeps in the first element of each group of equal keys the sum of the group's counts. The other elements stay.
+///
+/// An entry is a key and a count. The slice has to ascend by the key, and all counts together have to fit 32 bits.
 pub fn keep_totals(slice: &mut [Entry])
     requires sorted { NeverDescends nat_cmp (map (λ e. e.0) slice.old) }
     requires fits { total slice.old ≤ 4294967295 }

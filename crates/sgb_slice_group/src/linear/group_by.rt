@@ -24,9 +24,9 @@ impl<'a, T, P: FnMut(&T, &T) -> bool> LinearGroups<'a, T, PredicateJudge<P>> {
     ///
     /// The predicate has to be such that it may be called on each neighbouring pair of the slice, left element first, in
     /// every state that its answers can lead to; nothing is asked of it for a slice of at most one element. A closure
-    /// whose body may run on all elements, in every state, meets this at once. One with a `requires`, as `a < b`, meets it where the slice is
-    /// known to have only such neighbours. A caller that is handed the closure takes `P.IsAlwaysCallable predicate` as a
-    /// `requires`, and calls `laws::always_callable`.
+    /// whose body may run on all elements, in every state, meets this at once. One with a `requires`, as `a < b`, meets it
+    /// where the slice is known to have only such neighbours. A caller that is handed the closure takes
+    /// `P.IsAlwaysCallable predicate` as a `requires`, and calls `laws::always_callable`.
     ///
     /// The result is settled for each test that the predicate computes.
     #[inline]
