@@ -16,7 +16,8 @@ use std::fmt;
 /// ```
 pub type BinaryGroup<'a, T> = JumpingGroups<'a, T, EqualityJudge, Halving>;
 
-/// An iterator over the groups of a slice by a predicate, for which the slice should be grouped.
+/// An iterator over the groups of a slice by a predicate, for which the slice should be grouped: a call asks at most
+/// `digits(n - 1)` questions, where n elements remain.
 ///
 /// ```
 /// let mut groups = BinaryGroupBy::new(&[1, 1, 2], |a, b| a == b);
@@ -26,7 +27,8 @@ pub type BinaryGroup<'a, T> = JumpingGroups<'a, T, EqualityJudge, Halving>;
 /// ```
 pub type BinaryGroupBy<'a, T, P> = JumpingGroups<'a, T, PredicateJudge<P>, Halving>;
 
-/// An iterator over the groups of a slice by a key, for which the slice should be grouped.
+/// An iterator over the groups of a slice by a key, for which the slice should be grouped: a call asks at most
+/// `digits(n - 1)` questions, where n elements remain, each two calls of the key function.
 ///
 /// ```
 /// let mut groups = BinaryGroupByKey::new(&[10, 11, 20, 21, 22], |x| *x / 10);

@@ -16,7 +16,8 @@ use std::fmt;
 /// ```
 pub type ExponentialGroup<'a, T> = JumpingGroups<'a, T, EqualityJudge, Galloping>;
 
-/// An iterator over the groups of a slice by a predicate, for which the slice should be grouped.
+/// An iterator over the groups of a slice by a predicate, for which the slice should be grouped: a call that gives a group
+/// of g asks at most `2 * digits(g) + 1` questions, from both ends.
 ///
 /// ```
 /// let mut groups = ExponentialGroupBy::new(&[1, 1, 2], |a, b| a == b);
@@ -26,7 +27,8 @@ pub type ExponentialGroup<'a, T> = JumpingGroups<'a, T, EqualityJudge, Galloping
 /// ```
 pub type ExponentialGroupBy<'a, T, P> = JumpingGroups<'a, T, PredicateJudge<P>, Galloping>;
 
-/// An iterator over the groups of a slice by a key, for which the slice should be grouped.
+/// An iterator over the groups of a slice by a key, for which the slice should be grouped: a call that gives a group of g
+/// asks at most `2 * digits(g) + 1` questions, from both ends, each two calls of the key function.
 ///
 /// ```
 /// let mut groups = ExponentialGroupByKey::new(&[10, 11, 20, 21, 22], |x| *x / 10);

@@ -6,7 +6,8 @@ use sgb_search::judge::{EqualityJudge, KeyJudge, PredicateJudge};
 use sgb_search::strategy::Galloping;
 use std::fmt;
 
-/// An iterator over the groups of equal elements of a slice for writing, which should be grouped.
+/// An iterator over the groups of equal elements of a slice for writing, which should be grouped. A call asks what one of
+/// `ExponentialGroup` asks.
 ///
 /// ```
 /// let mut array = [1, 1, 1, 2, 2, 2, 3, 3];
@@ -17,7 +18,8 @@ use std::fmt;
 /// ```
 pub type ExponentialGroupMut<'a, T> = JumpingGroupsMut<'a, T, EqualityJudge, Galloping>;
 
-/// An iterator over the groups of a slice by a predicate for writing, for which the slice should be grouped.
+/// An iterator over the groups of a slice by a predicate for writing, for which the slice should be grouped. A call asks
+/// what one of `ExponentialGroupBy` asks, of the elements as they are then.
 ///
 /// ```
 /// let mut array = [1, 1, 2, 2];
@@ -29,7 +31,8 @@ pub type ExponentialGroupMut<'a, T> = JumpingGroupsMut<'a, T, EqualityJudge, Gal
 /// ```
 pub type ExponentialGroupByMut<'a, T, P> = JumpingGroupsMut<'a, T, PredicateJudge<P>, Galloping>;
 
-/// An iterator over the groups of a slice by a key for writing, for which the slice should be grouped.
+/// An iterator over the groups of a slice by a key for writing, for which the slice should be grouped. A call asks what
+/// one of `ExponentialGroupByKey` asks, of the elements as they are then.
 ///
 /// ```
 /// let mut array = [10, 11, 20, 21, 22];
