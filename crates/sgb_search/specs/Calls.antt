@@ -27,6 +27,6 @@ module _ {T J : Type 0} where
     abbrev pub CallAtBack : Groups T J → Option (List T) → Groups T J → Type 0
     CallAtBack s group t = MatchOption group ((s.remainder ≡ []) × (t ≡ s)) (λ x. IsGroupAtBack s x t)
 
-  -- about xs a call may ask the pairs of allowed xs: the judge may be asked about those of what remains, now and after any such questions
+  -- allowed xs are the pairs that a call may ask about where xs remains: the judge may be asked about each, now and after any such questions
   abbrev pub IsCallableBy : (List T → T × T → Type 0) → Ghosts J T → Groups T J → Type 0
   IsCallableBy allowed g s = MayAskAll g.may_ask g.answers (allowed s.remainder) s.judge

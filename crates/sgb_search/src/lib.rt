@@ -2,8 +2,8 @@
 //!
 //! The definitions are in `specs/`, and are meant to be read first: `Split` (what the groups are), `Neighbours`
 //! (which questions a linear call asks), `Runs` (what a list of questions does to the state of a judge), `Calls` and
-//! `LinearCalls` (what a call gives of a list, and what a linear one asks), `Apart` (which slices are grouped), `Jumps` and `JumpingCalls` (what a binary or exponential
-//! call asks and gives), `Search` (what the searches find).
+//! `LinearCalls` (what a call gives of a list, and what a linear one asks), `Apart` (which slices are grouped), `Jumps` and
+//! `JumpingCalls` (what a binary or exponential call asks and gives), `Search` (what the searches find).
 #![tactic(auto)]
 
 pub mod cut;

@@ -11,6 +11,7 @@ use Rattle.sgb_loans.specs.GroupsMut.{GroupsMut, HandsOut}
 abbrev pub seen : {T J : Type 0} → GroupsMut T J → Groups T J
 seen s = record { remainder = s.remainder; judge = s.judge }
 
+-- a call may be made, as for reading
 abbrev pub IsCallableByMut : {T J : Type 0} → (List T → T × T → Type 0) → Ghosts J T → GroupsMut T J → Type 0
 IsCallableByMut allowed g s = IsCallableBy allowed g (seen s)
 

@@ -27,11 +27,14 @@ module _ {T J : Type 0} (g : Ghosts J T) where
     abbrev pub JumpsBackMut : GroupsMut T J → Option (MutBor (List T)) → GroupsMut T J → Type 0
     JumpsBackMut = gives.GivesAtBackMut (JumpsBackOver g cost)
 
+  -- a call for writing may be made, as for reading
   abbrev pub IsCallableApartMut : GroupsMut T J → Type 0
   IsCallableApartMut s = IsCallableApart g (seen s)
 
+  -- the judge answers as the test says, as for reading
   abbrev pub ComputesApartMut : GroupsMut T J → (T → T → Bool) → Type 0
   ComputesApartMut s p = ComputesApart g (seen s) p
 
+  -- and what remains is grouped for it
   abbrev pub IsSettledApartMut : GroupsMut T J → (T → T → Bool) → Type 0
   IsSettledApartMut s p = IsSettledApart g (seen s) p

@@ -8,9 +8,11 @@ use Rattle.sgb_slice_group.specs.Gives as gives
 use Rattle.sgb_slice_group.specs.Gives.{seen}
 
 module _ {T J : Type 0} (g : Ghosts J T) where
+  -- a call may be made, as for reading
   abbrev pub IsCallableMut : GroupsMut T J → Type 0
   IsCallableMut s = IsCallable g (seen s)
 
+  -- the judge answers as the test says, as for reading
   abbrev pub IsSettledMut : GroupsMut T J → (T → T → Bool) → Type 0
   IsSettledMut s p = IsSettled g (seen s) p
 

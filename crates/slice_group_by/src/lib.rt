@@ -29,6 +29,7 @@ mod str_traits;
 #[cfg(test)]
 mod tests;
 mod traits;
+mod traits_mut;
 
 pub use plans::{Plan, refute};
 pub use queue::{End, GroupQueue, walk};
@@ -60,4 +61,5 @@ pub use sgb_slice_group::linear::group_by_mut::LinearGroupByMut;
 pub use sgb_slice_group::linear::group_mut::LinearGroupMut;
 pub use sorted::is_sorted_for_groups;
 pub use str_traits::{StrGroupBy, StrGroupByMut};
-pub use traits::{GroupBy, GroupByMut};
+pub use traits::GroupBy;
+pub use traits_mut::GroupByMut;
