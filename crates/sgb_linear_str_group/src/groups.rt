@@ -1,5 +1,7 @@
 //! Linear groups of a text for reading, over any judge of characters.
-ghost use Rattle.std.specs.Prelude.{◌≡◌, ℕ, Bool, length, nat_eq};
+ghost use Rattle.std.specs.Prelude.{◌≡◌, ℕ, Bool, length, nat_eq, IfSome};
+ghost use Rattle.std.specs.Iterator.{UpTo};
+ghost use Rattle.std.specs.Iterator.SizeHint.{IsWithinCount};
 ghost use Rattle.sgb_linear_str_group.specs.Texts.{TextGroups, text_groups_left};
 
 use crate::scan::{back_start, front_end};
@@ -131,6 +133,16 @@ impl<'a, J: Judge<char> + Drop> Iterator for LinearStrGroups<'a, J> {
     #[inline]
     fn next(&mut self) -> Option<&'a str> {
         self.take_front()
+    }
+
+    /// `(0, None)`, which says nothing of how many groups come.
+    #[inline]
+    fn size_hint(&self) -> (usize, Option<usize>)
+        ensures value { result ≡ (0, None) }
+        ensures lower { IsWithinCount result.0 (text_groups_left self.now) }
+        ensures upper { IfSome result.1 (UpTo (text_groups_left self.now)) }
+    {
+        (0, None)
     }
 }
 

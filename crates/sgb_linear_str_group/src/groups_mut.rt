@@ -1,5 +1,7 @@
 //! Linear groups of a text's bytes for writing, over any judge of characters.
-ghost use Rattle.std.specs.Prelude.{◌≡◌, ℕ, Bool, true, false, [], ◌∷◌, ◌++◌, drop, length, nat_eq};
+ghost use Rattle.std.specs.Prelude.{◌≡◌, ℕ, Bool, true, false, [], ◌∷◌, ◌++◌, drop, length, nat_eq, IfSome};
+ghost use Rattle.std.specs.Iterator.{UpTo};
+ghost use Rattle.std.specs.Iterator.SizeHint.{IsWithinCount};
 ghost use Rattle.std.specs.Str.{IsUtf8};
 ghost use Rattle.sgb_loans.specs.GroupsMut.{NothingOut};
 ghost use Rattle.sgb_linear_str_group.specs.TextsMut.{TextGroupsMut, text_groups_mut_left};
@@ -189,6 +191,16 @@ impl<'a, J: Judge<char> + Drop> Iterator for LinearStrGroupsMut<'a, J> {
     #[inline]
     fn next(&mut self) -> Option<&'a mut [u8]> {
         self.take_front()
+    }
+
+    /// `(0, None)`, which says nothing of how many groups come.
+    #[inline]
+    fn size_hint(&self) -> (usize, Option<usize>)
+        ensures value { result ≡ (0, None) }
+        ensures lower { IsWithinCount result.0 (text_groups_mut_left self.now) }
+        ensures upper { IfSome result.1 (UpTo (text_groups_mut_left self.now)) }
+    {
+        (0, None)
     }
 }
 

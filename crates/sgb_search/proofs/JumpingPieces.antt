@@ -1,8 +1,8 @@
 -- A call that jumps ends at a local boundary; on a settled iterator it gives the outermost piece, and leaves it settled.
-use Rattle.std.specs.Prelude.{◌≡◌, ℕ, ◌+◌, ◌-◌, ◌<◌, Bool, true, false, List, [], ◌∷◌, ◌++◌, length, reverse, refl, Option, None, Some, slice_get}
+use Rattle.std.specs.Prelude.{◌≡◌, ℕ, ◌+◌, ◌-◌, ◌<◌, ◌≤◌, Bool, true, false, List, [], ◌∷◌, ◌++◌, length, reverse, refl, Option, None, Some, slice_get}
 use Rattle.std.proofs.Common.{sym, ap, subst, arith, ◌∙◌, inl, inr, get_or, length-append, append_assoc}
 use Rattle.std.specs.List.{AllByRecursion}
-use Rattle.std.proofs.lemmas.List.{append-nil}
+use Rattle.std.proofs.lemmas.List.{append-nil, length-reverse}
 use Rattle.std.proofs.lemmas.Option.{slice_get-get_or, slice_get_within}
 use Rattle.sgb_search.specs.declared.judge.Judge.{Ghosts}
 use Rattle.sgb_search.specs.Runs.{AnswersBy}
@@ -41,10 +41,10 @@ module _ {J T : Type 0} (judge : Ghosts J T) (p : T → T → Bool) (xs : List T
   beyond_says g (inl e) x y ex ey = absurd (omega (arith, slice_get_within xs g y ey))
   beyond_says g (inr a) x y ex ey = asked_says g false a x y ex ey
 
-  local_end : (again : Bool) (g : ℕ) → EndsBy xs again qs g → IsLocalEnd xs p g
-  local_end again g (inl e) = record { inner = inner_says g e.0; beyond = beyond_says g e.1 }
-  local_end again g (inr (a, inl b)) = absurd (never_both (g - 1) b.1)
-  local_end again g (inr (a, inr b)) = absurd (never_both g b)
+  local_end : (again : Bool) (g : ℕ) → 0 < g → g ≤ length xs → EndsBy xs again qs g → IsLocalEnd xs p g
+  local_end again g some fits (inl e) = record { nonempty = some; within = fits; inner = inner_says g e.0; beyond = beyond_says g e.1 }
+  local_end again g some fits (inr (a, inl b)) = absurd (never_both (g - 1) b.1)
+  local_end again g some fits (inr (a, inr b)) = absurd (never_both g b)
 
 -- the local boundary of a grouped list is where the first piece ends
 module _ {T : Type 0} (p : T → T → Bool) where
@@ -129,15 +129,25 @@ module _ {T : Type 0} (p : T → T → Bool) where
         cc (wrong, no))
 
 module _ {T J : Type 0} (g : Ghosts J T) (cost : SearchCost) (p : T → T → Bool) where
-  -- of calls on a judge that answers by its arguments alone
-  pub ends_locally : (allowed : T × T → Type 0) (xs : List T) → ((q : T × T) → IsOutward xs q → allowed q) → (j : J) (n : ℕ) (k : J) → AnswersBy g.may_ask g.answers allowed (on_pairs p) j → Jumps xs g cost j n k → IsLocalEnd xs p n
-  ends_locally allowed xs sub j n k by h =
-      local_end g p xs h.questions (by.at h.questions k h.run (all_each _ _ (λ r. sub r.0) h.questions h.outward)) cost.may_contradict n h.ends
+  ends_locally : (allowed : T × T → Type 0) (xs : List T) → ((q : T × T) → IsOutward xs q → allowed q) → (j : J) (n : ℕ) (k : J) → 0 < n → n ≤ length xs → AnswersBy g.may_ask g.answers allowed (on_pairs p) j → Jumps xs g cost j n k → IsLocalEnd xs p n
+  ends_locally allowed xs sub j n k some fits by h =
+      local_end g p xs h.questions (by.at h.questions k h.run (all_each _ _ (λ r. sub r.0) h.questions h.outward)) cost.may_contradict n some fits h.ends
+
+  -- calls on a judge that answers by its arguments alone
+  pub front_ends_locally : (s : Groups T J) (group : List T) (t : Groups T J) → ComputesApart g s p → IsFrontJump g cost s group t → IsLocalEnd s.remainder p (length group)
+  front_ends_locally s group t m h =
+      let fits : length group ≤ length s.remainder = rw h.cut (omega (arith, length-append group t.remainder)) in
+      ends_locally (AreApart s.remainder) s.remainder (outward_apart s.remainder) s.judge (length group) t.judge h.nonempty fits m h.asked
+
+  pub back_ends_locally : (s : Groups T J) (group : List T) (t : Groups T J) → ComputesApart g s p → IsBackJump g cost s group t → IsLocalEnd (reverse s.remainder) p (length group)
+  back_ends_locally s group t m h =
+      let fits : length group ≤ length (reverse s.remainder) = rw h.cut (omega (arith, length-append t.remainder group, length-reverse (t.remainder ++ group))) in
+      ends_locally (AreApart s.remainder) (reverse s.remainder) (outward_apart_back s.remainder) s.judge (length group) t.judge h.nonempty fits m h.asked
 
   first_taken : (s : Groups T J) (group : List T) (t : Groups T J) → IsSettledApart g s p → IsFrontJump g cost s group t → TakesFirst p s.remainder (Some group) t.remainder
   first_taken s [] t m h = absurd (omega (arith, h.nonempty))
   first_taken s (x ∷ xs) t m h =
-      let l = ends_locally (AreApart s.remainder) s.remainder (outward_apart s.remainder) s.judge _ t.judge m.computes h.asked in
+      let l = front_ends_locally s (x ∷ xs) t m.computes h in
       let l' = rw h.cut at l in
       let m' = rw h.cut at m.grouped in
       rw h.cut (takes_first p x xs t.remainder (front_accepted p x xs t.remainder m' l') (front_refused p x xs t.remainder m' l'))
@@ -145,7 +155,7 @@ module _ {T J : Type 0} (g : Ghosts J T) (cost : SearchCost) (p : T → T → Bo
   last_taken : (s : Groups T J) (group : List T) (t : Groups T J) → IsSettledApart g s p → IsBackJump g cost s group t → TakesLast p s.remainder (Some group) t.remainder
   last_taken s [] t m h = absurd (omega (arith, h.nonempty))
   last_taken s (x ∷ xs) t m h =
-      let l = ends_locally (AreApart s.remainder) (reverse s.remainder) (outward_apart_back s.remainder) s.judge _ t.judge m.computes h.asked in
+      let l = back_ends_locally s (x ∷ xs) t m.computes h in
       let l' = rw h.cut at l in
       let m' = rw h.cut at m.grouped in
       rw h.cut (takes_last p t.remainder x xs (back_accepted p t.remainder x xs m' l') (back_refused p t.remainder x xs m' l'))

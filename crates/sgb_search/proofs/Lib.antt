@@ -6,6 +6,7 @@ pub mod Ranges
 pub mod Scanning
 pub mod Equality
 pub mod Closures
+pub mod OnElements
 pub mod Calls
 pub mod LinearPieces
 pub mod LinearPairs

@@ -42,15 +42,24 @@ module _ {S Q A : Type 0} (may : S → Q → Type 0) (gives : S → Q → A → 
   may_ask_by allowed I asks keeps s i [] t run all q ok = asks t q (subst I (sym run) i) ok
   may_ask_by allowed I asks keeps s i (r ∷ rs) t run all q ok = may_ask_by allowed I asks keeps run.1.0 (keeps s r.0 r.1 run.1.0 i all.0 run.1.1) rs t run.1.2 all.1 q ok
 
-  -- what one question answers and keeps, every run does
-  pub answers_by : (allowed : Q → Type 0) (answer : Q → A) (I : S → Type 0) → ((s : S) (q : Q) (a : A) (t : S) → I s → gives s q a t → (a ≡ answer q) × I t) → (s : S) → I s → AnswersBy may gives allowed answer s
-  answers_by allowed answer I step s i = record { at = along s i }
+  pub answers_next : (allowed : Q → Type 0) (answer : Q → A) (s : S) (q : Q) (a : A) (t : S) → AnswersBy may gives allowed answer s → allowed q → may s q → gives s q a t → (a ≡ answer q) × AnswersBy may gives allowed answer t
+  answers_next allowed answer s q a t by ok m e =
+      let run : IsRun may gives s ((q, a) ∷ []) t = (m, (t, e, refl)) in
+      ((by.at ((q, a) ∷ []) t run (ok, tt)).0, answers_after allowed allowed (λ q n. n) answer s ((q, a) ∷ []) t run (ok, tt) by)
+
+  -- what one allowed question answers and keeps, every run does
+  pub answers_allowed_by : (allowed : Q → Type 0) (answer : Q → A) (I : S → Type 0) → ((s : S) (q : Q) (a : A) (t : S) → I s → allowed q → may s q → gives s q a t → (a ≡ answer q) × I t) → (s : S) → I s → AnswersBy may gives allowed answer s
+  answers_allowed_by allowed answer I step s i = record { at = along s i }
     where
       along : (s : S) → I s → (rs : List (Q × A)) (t : S) → IsRun may gives s rs t → AllByRecursion (λ r. allowed r.0) rs → AllByRecursion (λ r. r.1 ≡ answer r.0) rs
       along s i [] t run all = tt
       along s i (r ∷ rs) t run all =
-          let k = step s r.0 r.1 run.1.0 i run.1.1 in
+          let k = step s r.0 r.1 run.1.0 i all.0 run.0 run.1.1 in
           (k.0, along run.1.0 k.1 rs t run.1.2 all.1)
+
+  -- the same of one that answers so and keeps it, allowed or not
+  pub answers_by : (allowed : Q → Type 0) (answer : Q → A) (I : S → Type 0) → ((s : S) (q : Q) (a : A) (t : S) → I s → gives s q a t → (a ≡ answer q) × I t) → (s : S) → I s → AnswersBy may gives allowed answer s
+  answers_by allowed answer I step = answers_allowed_by allowed answer I (λ s q a t i ok m. step s q a t i)
 
   -- the same where a question leaves the state as it is
   pub answers_same : (allowed : Q → Type 0) (answer : Q → A) (s : S) → ((q : Q) (a : A) (t : S) → gives s q a t → (a ≡ answer q) × (t ≡ s)) → AnswersBy may gives allowed answer s

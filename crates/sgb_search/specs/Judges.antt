@@ -39,6 +39,10 @@ by_predicate g = record {
 abbrev pub predicate_judge : {P : Type 0} → P → PredicateJudge P
 predicate_judge predicate = record { predicate = predicate }
 
+-- in every state that its answers can lead to, the predicate may be called on each allowed pair
+abbrev pub MayCallOnPairs : {P T : Type 0} → Mut P (Bor T × (Bor T × Unit {0})) Bool → (T × T → Type 0) → P → Type 0
+MayCallOnPairs g allowed f = MayAskAll (λ p q. TakesAtTwo g p q.0 q.1) (λ p q b p'. CalledAtTwo g p q.0 q.1 b p') allowed f
+
 -- takes f x: the key function may be called at x; calls f x k f': that call may give k, and leaves f'
 module _ {F T K : Type 0} (takes : F → T → Type 0) (calls : F → T → K → F → Type 0) where
   -- the two calls for the keys may be made, the second wherever the first leads

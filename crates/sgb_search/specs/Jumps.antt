@@ -61,7 +61,9 @@ module _ {T : Type 0} (xs : List T) where
     pub few : IsWithin cost (length xs) g (length questions)
     pub ends : EndsBy cost.may_contradict questions g
 
-  -- by p the first g elements end at a local boundary: the innermost agrees with the outermost, and the element beyond does not
+  -- by p the first g elements, one or more, end at a local boundary: the innermost agrees with the outermost, and the element beyond does not
   pub record IsLocalEnd (p : T → T → Bool) (g : ℕ) : Type 0 where
+    pub nonempty : 0 < g
+    pub within : g ≤ length xs
     pub inner : (x y : T) → 1 < g → slice_get xs 0 ≡ Some x → slice_get xs (g - 1) ≡ Some y → p x y ≡ true
     pub beyond : (x y : T) → slice_get xs 0 ≡ Some x → slice_get xs g ≡ Some y → p x y ≡ false

@@ -1,13 +1,13 @@
 //! Laws of the definitions. Each is a function that does nothing: its contract is the law, and a caller cites it.
 ghost use Rattle.std.specs.Prelude.{◌≡◌, ℕ, ◌+◌, ◌-◌, ◌^◌, ◌<◌, ◌≤◌, ◌++◌, Bool, List, length, map};
-ghost use Rattle.std.specs.Fn.{ComputesKey};
+ghost use Rattle.std.specs.Fn.{ComputesKey, TakesAtTwo};
 ghost use Rattle.sgb_search.specs.Digits.{digits};
-ghost use Rattle.sgb_search.specs.Apart.{IsGrouped};
+ghost use Rattle.sgb_search.specs.Apart.{AreApart, IsGrouped};
 ghost use Rattle.sgb_search.specs.Search.{MayCall, Computes, NeverDescends};
 ghost use Rattle.sgb_search.specs.Split.{IsSplit, split, refused_pairs};
-ghost use Rattle.sgb_search.specs.Neighbours.{neighbours, front_questions, back_questions};
+ghost use Rattle.sgb_search.specs.Neighbours.{neighbours, AreNeighbours, front_questions, back_questions};
 ghost use Rattle.sgb_search.specs.Runs.{IsRunOf};
-ghost use Rattle.sgb_search.specs.Judges.{MayAskAlong, AnswersAlong, MayAskApart, AnswersApart, by_predicate, predicate_judge, by_key, key_judge, by_char_predicate, char_predicate_judge, by_char_key, char_key_judge, by_equality};
+ghost use Rattle.sgb_search.specs.Judges.{MayAskAlong, AnswersAlong, MayAskApart, AnswersApart, by_predicate, predicate_judge, MayCallOnPairs, by_key, key_judge, by_char_predicate, char_predicate_judge, by_char_key, char_key_judge, by_equality};
 ghost use Rattle.sgb_search.specs.declared.judge.EqualityJudge.{EqualityJudge};
 
 /// Each list has exactly one split for a test. It has one piece more than the test refuses pairs, and none if it is
@@ -52,6 +52,34 @@ pub fn always_callable_apart<T, P: FnMut(&T, &T) -> bool>()
 #[inline]
 pub fn always_callable_key_apart<T, F: FnMut(&T) -> K, K: PartialEq + Drop>()
     ensures { (xs : List T) (func : F) → F.IsAlwaysCallable func → MayAskApart (by_key F.FnMut K.eq) xs (key_judge func) }
+{}
+
+/// A key function that may be called on each element of a slice, which is what the searches ask of theirs, may be asked about
+/// its neighbouring pairs, and about every two different places, in both orders; and it may be called on each element of a part.
+#[inline]
+pub fn callable_on_elements<T, F: FnMut(&T) -> K, K: PartialEq + Drop>()
+    ensures along { (xs : List T) (func : F) → MayCall F.FnMut xs func → MayAskAlong (by_key F.FnMut K.eq) xs (key_judge func) }
+    ensures apart { (xs : List T) (func : F) → MayCall F.FnMut xs func → MayAskApart (by_key F.FnMut K.eq) xs (key_judge func) }
+    ensures part { (before part after : List T) (func : F) → MayCall F.FnMut (before ++ (part ++ after)) func → MayCall F.FnMut part func }
+{}
+
+/// A key function that computes a key of each element of a slice: the judge by key answers whether those keys are equal, of
+/// neighbouring pairs and of every two different places; and it computes the key of each element of a part.
+#[inline]
+pub fn computes_on_elements<T, F: FnMut(&T) -> K, K: PartialEq + Drop>()
+    ensures along { (xs : List T) (key : T → K) (func : F) → Computes F.FnMut xs key func → AnswersAlong (by_key F.FnMut K.eq) xs (λ x y. K.eq (key x) (key y)) (key_judge func) }
+    ensures apart { (xs : List T) (key : T → K) (func : F) → Computes F.FnMut xs key func → AnswersApart (by_key F.FnMut K.eq) xs (λ x y. K.eq (key x) (key y)) (key_judge func) }
+    ensures part { (before part after : List T) (key : T → K) (func : F) → Computes F.FnMut (before ++ (part ++ after)) key func → Computes F.FnMut part key func }
+{}
+
+/// A predicate that may be called on each neighbouring pair of a slice, the left element first, or on every two different places,
+/// in both orders, may be asked about them. So may one that may be called on them in each of its states.
+#[inline]
+pub fn callable_on_pairs<T, P: FnMut(&T, &T) -> bool>()
+    ensures along { (xs : List T) (predicate : P) → MayCallOnPairs P.FnMut (AreNeighbours xs) predicate → MayAskAlong (by_predicate P.FnMut) xs (predicate_judge predicate) }
+    ensures apart { (xs : List T) (predicate : P) → MayCallOnPairs P.FnMut (AreApart xs) predicate → MayAskApart (by_predicate P.FnMut) xs (predicate_judge predicate) }
+    ensures always_along { (xs : List T) → ((p : P) (q : T × T) → AreNeighbours xs q → TakesAtTwo P.FnMut p q.0 q.1) → (predicate : P) → MayCallOnPairs P.FnMut (AreNeighbours xs) predicate }
+    ensures always_apart { (xs : List T) → ((p : P) (q : T × T) → AreApart xs q → TakesAtTwo P.FnMut p q.0 q.1) → (predicate : P) → MayCallOnPairs P.FnMut (AreApart xs) predicate }
 {}
 
 /// A predicate of characters that may always be called may be asked about the neighbouring characters of every text.

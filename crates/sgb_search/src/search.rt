@@ -80,9 +80,9 @@ where
 /// Searches a slice for an element: `Ok` of a place where an equal element stands, or `Err` of a place where it could be
 /// inserted.
 ///
-/// The slice should be sorted. Then there is an `Ok` exactly if an equal element is there, and `Err(i)` has lesser elements
-/// before place i and greater ones from i on. On any slice the element at an `Ok` is equal. It compares by `x.cmp(elem)`, as
-/// often as `exponential_search_by` asks.
+/// The slice should be sorted, or at least have the lesser elements first, then equal ones, then greater ones. Then there is
+/// an `Ok` exactly if an equal element is there, and `Err(i)` has lesser elements before place i and greater ones from i on.
+/// On any slice the element at an `Ok` is equal. It compares by `x.cmp(elem)`, as often as `exponential_search_by` asks.
 ///
 /// ```
 /// let slice = [0, 1, 1, 1, 1, 2, 3, 5, 8, 13, 21, 34, 55];
@@ -94,7 +94,8 @@ where
 pub fn exponential_search<T: Ord>(slice: &[T], elem: &T) -> Result<usize, usize>
     ensures bound { IsSearchInRange result (length slice.now) }
     ensures boundary { IsLocalAnswer (λ x. T.cmp x elem.now) slice.now result }
-    ensures found { NeverDescends T.cmp slice.now → FindsIn (λ x. T.cmp x elem.now) slice.now result }
+    ensures found { IsLessEqualGreater (λ x. T.cmp x elem.now) slice.now → FindsIn (λ x. T.cmp x elem.now) slice.now result }
+    ensures sorted { NeverDescends T.cmp slice.now → FindsIn (λ x. T.cmp x elem.now) slice.now result }
 {
     exponential_search_by(slice, |x| x.cmp(elem))
 }
@@ -118,7 +119,8 @@ where
     ensures bound { IsSearchInRange result (length slice.now) }
     ensures questions { IsSearch (TakesAt F.FnMut) (ComparesKey F.FnMut B.cmp b.now) slice.now f result }
     ensures boundary { (key : T → B) → Computes F.FnMut slice.now key f → IsLocalAnswer (λ x. B.cmp (key x) b.now) slice.now result }
-    ensures found { (key : T → B) → Computes F.FnMut slice.now key f → NeverDescends B.cmp (map key slice.now) → FindsIn (λ x. B.cmp (key x) b.now) slice.now result }
+    ensures found { (key : T → B) → Computes F.FnMut slice.now key f → IsLessEqualGreater (λ x. B.cmp (key x) b.now) slice.now → FindsIn (λ x. B.cmp (key x) b.now) slice.now result }
+    ensures sorted { (key : T → B) → Computes F.FnMut slice.now key f → NeverDescends B.cmp (map key slice.now) → FindsIn (λ x. B.cmp (key x) b.now) slice.now result }
 {
     gallop(&mut f, &Keyed { slice, key: b }, slice.len())
 }

@@ -40,10 +40,10 @@ from_end_taken Back x (y ∷ []) h = cc h
 from_end_taken Back x (y ∷ z ∷ zs) h =
     reverse-append (y ∷ []) (z ∷ zs) ∙ ap (λ l. l ++ y ∷ []) (from_end_taken Back x (z ∷ zs) h) ∙ ap (λ l. x ∷ l) (sym (reverse-append (y ∷ []) (without_last (z ∷ zs))))
 
-none_some : {X : Type 0} {x : X} → Some x ≡ None → ⊥
+pub none_some : {X : Type 0} {x : X} → Some x ≡ None → ⊥
 none_some e = cc e
 
-same_some : {X : Type 0} {x y : X} → Some x ≡ Some y → x ≡ y
+pub same_some : {X : Type 0} {x y : X} → Some x ≡ Some y → x ≡ y
 same_some e = cc e
 
 module _ {Q I A : Type 0} (gives : End → Q → Option I → Q → Type 0) (remainder : Q → List A) (shows : I → List A) (settled : Q → (A → A → Bool) → Type 0) (p : A → A → Bool) (piece : (e : End) (q : Q) (o : Option I) (t : Q) (p : A → A → Bool) → gives e q o t → settled q p → TakesPiece e p (remainder q) (option_map shows o) (remainder t) × settled t p) where

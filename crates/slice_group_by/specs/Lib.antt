@@ -2,6 +2,7 @@ pub mod Queue
 pub mod Walk
 pub mod Ranks
 pub mod Plans
+pub mod Join
 pub use Rattle.sgb_search.specs.Split
 pub use Rattle.sgb_search.specs.Neighbours
 pub use Rattle.sgb_search.specs.Ends

@@ -34,6 +34,7 @@ pub use crate::families::{
     families_agree, families_agree_mut, groups_end_locally, groups_end_locally_mut,
     reading_and_writing_agree,
 };
+pub use crate::join::{joins_may_go_on, sees_pairs};
 pub use crate::plans::{Plan, refute};
 use crate::queue::GroupQueue;
 pub use crate::ranks::rank_groups;
@@ -44,8 +45,8 @@ use sgb_search::judge::Judge;
 pub use sgb_search::laws::{
     always_callable, always_callable_apart, always_callable_char_key, always_callable_chars,
     always_callable_key, always_callable_key_apart, always_callable_on_elements, always_computes,
-    ascending_is_grouped, digits_is_least, equality_judges, one_split, parts_are_grouped,
-    question_count,
+    ascending_is_grouped, callable_on_elements, callable_on_pairs, computes_on_elements,
+    digits_is_least, equality_judges, one_split, parts_are_grouped, question_count,
 };
 use sgb_slice_group::groups::LinearGroups;
 use sgb_slice_group::groups_mut::LinearGroupsMut;

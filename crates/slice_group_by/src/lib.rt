@@ -15,6 +15,7 @@
 #![tactic(auto)]
 
 mod families;
+mod join;
 pub mod laws;
 mod linear_str;
 mod linear_str_mut;
@@ -31,6 +32,7 @@ mod tests;
 mod traits;
 mod traits_mut;
 
+pub use join::MergeJoin;
 pub use plans::{Plan, refute};
 pub use queue::{End, GroupQueue, walk};
 pub use ranks::rank_groups;

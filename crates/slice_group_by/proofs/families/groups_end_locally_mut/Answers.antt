@@ -1,15 +1,12 @@
-use Rattle.std.specs.Prelude.{reverse}
 use Rattle.sgb_slice_group.specs.Gives.{seen}
-use Rattle.sgb_search.specs.Apart.{AreApart}
-use Rattle.sgb_search.proofs.Apart.{outward_apart, outward_apart_back}
-use Rattle.sgb_search.proofs.JumpingPieces.{ends_locally, front_computes, back_computes}
+use Rattle.sgb_search.proofs.JumpingPieces.{front_ends_locally, back_ends_locally, front_computes, back_computes}
 use Rattle.slice_group_by.proofs.families.groups_end_locally_mut.Goals as goal
 
 pub returns-clause-front : goal.returns-clause-front
-returns-clause-front g c p s t group m h = ends_locally g.J.Judge g.S.GroupSearch.cost p (AreApart s.remainder) s.remainder (outward_apart s.remainder) s.judge _ t.judge m h.0.asked
+returns-clause-front g c p s t group m h = front_ends_locally g.J.Judge g.S.GroupSearch.cost p (seen s) group.now (seen t) m h.0
 
 pub returns-clause-back : goal.returns-clause-back
-returns-clause-back g c p s t group m h = ends_locally g.J.Judge g.S.GroupSearch.cost p (AreApart s.remainder) (reverse s.remainder) (outward_apart_back s.remainder) s.judge _ t.judge m h.0.asked
+returns-clause-back g c p s t group m h = back_ends_locally g.J.Judge g.S.GroupSearch.cost p (seen s) group.now (seen t) m h.0
 
 pub returns-clause-after_front : goal.returns-clause-after_front
 returns-clause-after_front g c p s t group m h = front_computes g.J.Judge g.S.GroupSearch.cost p (seen s) group.now (seen t) m h.0
