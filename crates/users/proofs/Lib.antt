@@ -1,3 +1,1 @@
-pub mod Joins
-pub mod Waiting
 pub mod KeptTotals

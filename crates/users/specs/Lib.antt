@@ -1,2 +1,2 @@
-pub mod Join
+pub mod Keys
 pub mod Totals

@@ -5,10 +5,10 @@ ghost use Rattle.slice_group_by.specs.Judges.{by_key};
 ghost use Rattle.slice_group_by.specs.Jumping.{IsCallableApartMut, IsSettledApartMut};
 ghost use Rattle.slice_group_by.specs.Search.{NeverDescends};
 ghost use Rattle.slice_group_by.specs.Split.{split, joined};
-ghost use Rattle.users.specs.Join.{same_key};
+ghost use Rattle.users.specs.Keys.{same_key};
 ghost use Rattle.users.specs.Totals.{total, kept};
 
-use crate::merge_join::Entry;
+use crate::joins::Entry;
 use slice_group_by::ExponentialGroupByKeyMut;
 use slice_group_by::laws::{ascending_is_grouped, calls_take_pieces};
 use slice_group_by::loans::{Ended, settle};

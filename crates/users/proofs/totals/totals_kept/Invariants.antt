@@ -2,7 +2,7 @@ use Rattle.std.proofs.Common.{◌≡◌, ◌≤◌, ◌++◌, [], map, nat_eq, l
 use Rattle.slice_group_by.specs.Judges.{by_key}
 use Rattle.slice_group_by.specs.Jumping.{IsSettledApartMut}
 use Rattle.slice_group_by.specs.Split.{split, joined}
-use Rattle.users.specs.Join.{same_key}
+use Rattle.users.specs.Keys.{same_key}
 use Rattle.users.specs.Totals.{total, kept}
 use Rattle.users.proofs.totals.totals_kept.Given as goal
 
