@@ -34,7 +34,9 @@ pub use crate::families::{
     families_agree, families_agree_mut, groups_end_locally, groups_end_locally_mut,
     reading_and_writing_agree,
 };
-pub use crate::join::{joins_may_go_on, sees_pairs};
+pub use crate::join::{
+    joins_may_go_on, pairs_ascend, pairs_match, partners_are_unique, sees_pairs,
+};
 pub use crate::plans::{Plan, refute};
 use crate::queue::GroupQueue;
 pub use crate::ranks::rank_groups;
