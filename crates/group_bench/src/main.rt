@@ -3,6 +3,7 @@
 //! It takes no arguments and reads nothing. The status is 0 exactly if every row gave what is wanted.
 #![tactic(auto)]
 
+mod joins;
 mod jumps;
 mod lines;
 mod rows;

@@ -1,8 +1,10 @@
 //! The rows: the calls of each, the answers that are wanted, and the questions that may be asked. Those of binary and
-//! exponential groups stand in `jumps`, those over texts in `texts`, and those of searches and plans in `searches`.
+//! exponential groups stand in `jumps`, those over texts in `texts`, those of searches and plans in `searches`, and that of the
+//! merge join in `joins`.
 ghost use Rattle.std.specs.Prelude.{◌<ℤ◌};
 
 use crate::jumps::{row_4, row_5, row_6, row_7, row_11, row_12, row_18};
+use crate::joins::row_19;
 use crate::lines::{differs, read, write_answers, write_groups};
 use crate::searches::{row_8, row_15};
 use crate::texts::{row_9, row_10, row_16};
@@ -35,6 +37,7 @@ pub fn run<W: Write>(out: &mut W) -> Result<bool, Error> {
     same &= row_16(out)?;
     same &= row_17(out)?;
     same &= row_18(out)?;
+    same &= row_19(out)?;
     Ok(same)
 }
 
@@ -176,11 +179,12 @@ row 14: [0, 0, 1, 1, 1, 2] [1] [2, 4] [5, 7] [8, 8] None\n\
 row 15: 2\n\
 row 16: [97] éé 4 [195, 169, 195, 169] None\n\
 row 17: [1, 2, 3, 4, 5] None\n\
-row 18: [1]\n";
+row 18: [1]\n\
+row 19: [1, 1] [1] [2] [2, 2] None\n";
 
     #[test]
     fn writes_the_lines(rt: HostRuntime) {
-        let mut bytes = [0u8; 569];
+        let mut bytes = [0u8; 604];
         assert_eq!(rt; bytes.len(), LINES.len());
         let mut rest: &mut [u8] = &mut bytes;
         assert!(rt; matches!(run(&mut rest), Ok(true)));
@@ -189,8 +193,8 @@ row 18: [1]\n";
 
     #[test]
     fn ends_at_a_fault_of_the_writer(rt: HostRuntime) {
-        for room in 0..569 {
-            let mut bytes = [0u8; 569];
+        for room in 0..604 {
+            let mut bytes = [0u8; 604];
             let mut rest: &mut [u8] = &mut bytes[..room];
             assert!(rt; run(&mut rest).is_err(), "with room for {room} bytes");
         }
