@@ -1,8 +1,8 @@
 //! The rows of binary and exponential groups.
 use crate::lines::{differs, read, write_groups};
 use slice_group_by::{
-    BinaryGroup, BinaryGroupBy, End, ExponentialGroupBy, ExponentialGroupByMut, GroupBy,
-    GroupByMut, walk,
+    BinaryGroup, BinaryGroupBy, End, ExponentialGroup, ExponentialGroupBy, ExponentialGroupByMut,
+    GroupBy, GroupByMut, walk,
 };
 use std::cell::Cell;
 use std::io::{Error, Write};
@@ -20,21 +20,21 @@ pub(crate) fn row_4<W: Write>(out: &mut W) -> Result<bool, Error> {
 
 const ROW_5: [Group; 3] = [Some(&[1]), None, None];
 
-// One element, which asks nothing.
+// One element, from both ends: a second iterator, whose questions are counted, gives the same and asks nothing.
 pub(crate) fn row_5<W: Write>(out: &mut W) -> Result<bool, Error> {
     let slice = [1];
+    let ends = [End::Back, End::Back, End::Front];
+    let mut answers: [Option<&[i32]>; 3] = [None; 3];
+    walk(&mut ExponentialGroup::new(&slice), &ends, &mut answers);
     let mut questions = 0usize;
-    let mut groups = ExponentialGroupBy::new(&slice, |a, b| {
+    let mut counting = ExponentialGroupBy::new(&slice, |a, b| {
         questions = questions.wrapping_add(1);
         a == b
     });
-    let mut answers: [Option<&[i32]>; 3] = [None; 3];
-    walk(
-        &mut groups,
-        &[End::Back, End::Back, End::Front],
-        &mut answers,
-    );
-    write_groups(out, 5, &answers, &ROW_5, questions == 0)
+    let mut others: [Option<&[i32]>; 3] = [None; 3];
+    walk(&mut counting, &ends, &mut others);
+    let counted = others == ROW_5 && questions == 0;
+    write_groups(out, 5, &answers, &ROW_5, counted)
 }
 
 const ROW_6: [Group; 5] = [

@@ -1,5 +1,6 @@
-//! Binary groups of equal elements, case by case.
-use crate::jumping::binary::BinaryGroup;
+//! Binary groups of equal elements, and by a predicate that may not always be called, case by case.
+use super::guarded::{Guarded, accept_valid};
+use crate::jumping::binary::{BinaryGroup, BinaryGroupBy};
 
 #[test]
 fn one_big_group(rt: HostRuntime) {
@@ -135,4 +136,30 @@ fn back_fused_iterator(rt: HostRuntime) {
     assert_eq!(rt; groups.next_back(), Some([1].as_slice()));
     assert_eq!(rt; groups.next_back(), None);
     assert_eq!(rt; groups.next_back(), None);
+}
+
+// A predicate that may be called only on two valid elements, over the valid part of an array.
+#[test]
+fn overflow(rt: HostRuntime) {
+    let array = [
+        Guarded::Invalid(0),
+        Guarded::Valid(1),
+        Guarded::Valid(2),
+        Guarded::Invalid(3),
+    ];
+    let mut groups = BinaryGroupBy::new(&array[1..3], accept_valid);
+    assert!(rt; matches!(groups.next(), Some([Guarded::Valid(1), Guarded::Valid(2)])));
+    assert!(rt; groups.next().is_none());
+}
+
+#[test]
+fn last_overflow(rt: HostRuntime) {
+    let array = [
+        Guarded::Invalid(0),
+        Guarded::Valid(1),
+        Guarded::Valid(2),
+        Guarded::Invalid(3),
+    ];
+    let groups = BinaryGroupBy::new(&array[1..3], accept_valid);
+    assert!(rt; matches!(groups.last(), Some([Guarded::Valid(1), Guarded::Valid(2)])));
 }

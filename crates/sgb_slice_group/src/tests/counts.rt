@@ -100,34 +100,12 @@ fn thousand_first(rt: HostRuntime) {
     assert!(rt; len == 1000 && questions <= 10);
     let (len, questions) = binary_back(&slice);
     assert!(rt; len == 1 && questions <= 10);
-    let questions = Cell::new(0usize);
-    let mut groups = ExponentialGroupBy::new(&slice, |a, b| asks(&questions, a, b));
-    assert!(rt; matches!(groups.next_back(), Some([1])));
-    assert!(rt; questions.replace(0) <= 3);
-    assert!(rt; groups.next_back().is_some_and(|group| group.len() == 1000));
-    assert!(rt; questions.get() <= 21);
-}
-
-#[test]
-fn thousand_last(rt: HostRuntime) {
-    let mut slice = [1usize; 1001];
-    slice[0] = 0;
-    let (len, questions) = exponential_back(&slice);
-    assert!(rt; len == 1000 && questions <= 21);
 }
 
 #[test]
 fn three_groups(rt: HostRuntime) {
     let slice = [1, 1, 1, 2, 2, 2, 3, 3];
     let questions = Cell::new(0usize);
-    let mut groups = ExponentialGroupBy::new(&slice, |a, b| asks(&questions, a, b));
-    assert!(rt; matches!(groups.next(), Some([1, 1, 1])));
-    assert!(rt; questions.replace(0) <= 5);
-    assert!(rt; matches!(groups.next_back(), Some([3, 3])));
-    assert!(rt; questions.replace(0) <= 5);
-    assert!(rt; matches!(groups.next(), Some([2, 2, 2])));
-    assert!(rt; questions.replace(0) <= 5);
-    assert!(rt; groups.next_back().is_none());
     let mut groups = BinaryGroupBy::new(&slice, |a, b| asks(&questions, a, b));
     assert!(rt; matches!(groups.next(), Some([1, 1, 1])));
     assert!(rt; questions.replace(0) <= 3);

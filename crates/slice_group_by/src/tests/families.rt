@@ -223,14 +223,15 @@ fn sorted_slices(rt: HostRuntime) {
     assert!(rt; !is_sorted_for_groups(&[2, 1]));
 }
 
-// Each method once.
+// Each method once, and one from both ends until nothing remains.
 #[test]
 fn methods(rt: HostRuntime) {
     let slice: &[u8] = &[10, 11, 20, 21, 22];
+    let mut groups = slice.binary_group_by_key(|x| *x / 10);
     assert!(rt;
         matches!(
-            slice.binary_group_by_key(|x| *x / 10).next(),
-            Some([10, 11])
+            (groups.next(), groups.next_back(), groups.next()),
+            (Some([10, 11]), Some([20, 21, 22]), None)
         )
     );
     assert!(rt;

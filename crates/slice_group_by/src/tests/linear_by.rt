@@ -30,9 +30,8 @@ fn predicate_call_param_order(rt: HostRuntime) {
 
 #[test]
 fn rev_predicate_call_param_order(rt: HostRuntime) {
-    let slice = [1u8, 2, 3, 4, 5];
-    let mut groups = LinearGroupBy::new(
-        &slice,
+    let slice: &[u8] = &[1, 2, 3, 4, 5];
+    let mut groups = slice.linear_group_by(
         |a: &u8, b: &u8| -> bool
             requires { a.now < b.now }
         { true },
@@ -91,27 +90,13 @@ fn last_overflow(rt: HostRuntime) {
     );
 }
 
-// A predicate that may never be called.
-#[test]
-fn one_element_asks_nothing(rt: HostRuntime) {
-    let slice = [1u8];
-    let mut groups = LinearGroupBy::new(
-        &slice,
-        |_a: &u8, _b: &u8| -> bool
-            requires { ⊥ }
-        { true },
-    );
-    assert_eq!(rt; groups.next(), Some([1].as_slice()));
-    assert_eq!(rt; groups.next(), None);
-}
-
 // A predicate whose answers change from call to call.
 #[test]
 fn answers_that_change(rt: HostRuntime) {
-    let slice = [1, 2, 3, 4, 5, 6];
+    let slice: &[i32] = &[1, 2, 3, 4, 5, 6];
     let mut questions = 0usize;
     let mut out: [Option<&[i32]>; 4] = [None; 4];
-    let mut groups = LinearGroupBy::new(&slice, |_a, _b| {
+    let mut groups = slice.linear_group_by(|_a, _b| {
         questions = questions.wrapping_add(1);
         questions % 2 == 1
     });
@@ -120,10 +105,7 @@ fn answers_that_change(rt: HostRuntime) {
         &[End::Front, End::Back, End::Front, End::Back],
         &mut out,
     );
-    assert_eq!(rt; out[0], Some([1, 2].as_slice()));
-    assert_eq!(rt; out[1], Some([5, 6].as_slice()));
-    assert_eq!(rt; out[2], Some([3, 4].as_slice()));
-    assert_eq!(rt; out[3], None);
+    assert!(rt; matches!(out, [Some([1, 2]), Some([5, 6]), Some([3, 4]), None]));
     assert_eq!(rt; questions, 5);
 }
 
@@ -169,7 +151,7 @@ fn views_of_the_remainder(rt: HostRuntime) -> Result<(), Fail> {
 
 #[test]
 fn debug_texts(rt: HostRuntime) -> Result<(), Fail> {
-    let slice = [1, 2];
+    let slice: [i32; 2] = [1, 2];
     let none: [i32; 0] = [];
     let by = LinearGroupBy::new(&slice, |a, b| a == b);
     let by_none = LinearGroupBy::new(&none, |a, b| a == b);
@@ -178,8 +160,12 @@ fn debug_texts(rt: HostRuntime) -> Result<(), Fail> {
         text.as_str(),
         "LinearGroupBy { slice: [1, 2] } LinearGroupBy { slice: [] }"
     );
-    let by_key = LinearGroupByKey::new(&[(), ()], |x| *x);
-    let text = format!(in rt.alloc(); "{by_key:?}")?;
-    assert_eq!(rt; text.as_str(), "LinearGroupByKey { remainder: [(), ()] }");
+    let by_key = LinearGroupByKey::new(&slice, |x| *x);
+    let by_key_units = LinearGroupByKey::new(&[(), ()], |x| *x);
+    let text = format!(in rt.alloc(); "{by_key:?} {by_key_units:?}")?;
+    assert_eq!(rt;
+        text.as_str(),
+        "LinearGroupByKey { remainder: [1, 2] } LinearGroupByKey { remainder: [(), ()] }"
+    );
     Ok(())
 }

@@ -1,17 +1,12 @@
 //! Predicates that may be called only on some elements, or that change their answers, over groups for writing.
-ghost use Rattle.std.specs.Prelude.{◌≡◌, ◌≢◌};
+ghost use Rattle.std.specs.Prelude.{◌≢◌};
 
+use super::super::guarded::{Guarded, accept_valid};
 use super::holds;
 use crate::jumping::binary_mut::BinaryGroupByMut;
 use crate::jumping::exponential_mut::ExponentialGroupByMut;
 use crate::linear::group_by_mut::LinearGroupByMut;
 use std::cell::Cell;
-
-#[derive(Drop)]
-enum Guarded {
-    Valid(u8),
-    Invalid(u8),
-}
 
 // Whether the group is the whole valid part.
 fn is_valid_part(group: &mut [Guarded]) -> bool {
@@ -28,13 +23,7 @@ fn linear_overflow(rt: HostRuntime) {
         Guarded::Valid(2),
         Guarded::Invalid(3),
     ];
-    let groups = LinearGroupByMut::new(
-        &mut array[1..3],
-        |a: &Guarded, b: &Guarded| -> bool
-            requires left { (n : _) × (a.now ≡ Guarded.Valid n) }
-            requires right { (n : _) × (b.now ≡ Guarded.Valid n) }
-        { true },
-    );
+    let groups = LinearGroupByMut::new(&mut array[1..3], accept_valid);
     let mut count = 0usize;
     for group in groups {
         assert!(rt; is_valid_part(group));
@@ -51,13 +40,7 @@ fn binary_overflow(rt: HostRuntime) {
         Guarded::Valid(2),
         Guarded::Invalid(3),
     ];
-    let groups = BinaryGroupByMut::new(
-        &mut array[1..3],
-        |a: &Guarded, b: &Guarded| -> bool
-            requires left { (n : _) × (a.now ≡ Guarded.Valid n) }
-            requires right { (n : _) × (b.now ≡ Guarded.Valid n) }
-        { true },
-    );
+    let groups = BinaryGroupByMut::new(&mut array[1..3], accept_valid);
     let mut count = 0usize;
     for group in groups {
         assert!(rt; is_valid_part(group));
@@ -74,13 +57,7 @@ fn exponential_overflow(rt: HostRuntime) {
         Guarded::Valid(2),
         Guarded::Invalid(3),
     ];
-    let groups = ExponentialGroupByMut::new(
-        &mut array[1..3],
-        |a: &Guarded, b: &Guarded| -> bool
-            requires left { (n : _) × (a.now ≡ Guarded.Valid n) }
-            requires right { (n : _) × (b.now ≡ Guarded.Valid n) }
-        { true },
-    );
+    let groups = ExponentialGroupByMut::new(&mut array[1..3], accept_valid);
     let mut count = 0usize;
     for group in groups {
         assert!(rt; is_valid_part(group));
@@ -97,13 +74,7 @@ fn linear_last_overflow(rt: HostRuntime) {
         Guarded::Valid(2),
         Guarded::Invalid(3),
     ];
-    let groups = LinearGroupByMut::new(
-        &mut array[1..3],
-        |a: &Guarded, b: &Guarded| -> bool
-            requires left { (n : _) × (a.now ≡ Guarded.Valid n) }
-            requires right { (n : _) × (b.now ≡ Guarded.Valid n) }
-        { true },
-    );
+    let groups = LinearGroupByMut::new(&mut array[1..3], accept_valid);
     assert!(rt; groups.last().is_some_and(|group| is_valid_part(group)));
 }
 
@@ -115,13 +86,7 @@ fn binary_last_overflow(rt: HostRuntime) {
         Guarded::Valid(2),
         Guarded::Invalid(3),
     ];
-    let groups = BinaryGroupByMut::new(
-        &mut array[1..3],
-        |a: &Guarded, b: &Guarded| -> bool
-            requires left { (n : _) × (a.now ≡ Guarded.Valid n) }
-            requires right { (n : _) × (b.now ≡ Guarded.Valid n) }
-        { true },
-    );
+    let groups = BinaryGroupByMut::new(&mut array[1..3], accept_valid);
     assert!(rt; groups.last().is_some_and(|group| is_valid_part(group)));
 }
 
@@ -133,13 +98,7 @@ fn exponential_last_overflow(rt: HostRuntime) {
         Guarded::Valid(2),
         Guarded::Invalid(3),
     ];
-    let groups = ExponentialGroupByMut::new(
-        &mut array[1..3],
-        |a: &Guarded, b: &Guarded| -> bool
-            requires left { (n : _) × (a.now ≡ Guarded.Valid n) }
-            requires right { (n : _) × (b.now ≡ Guarded.Valid n) }
-        { true },
-    );
+    let groups = ExponentialGroupByMut::new(&mut array[1..3], accept_valid);
     assert!(rt; groups.last().is_some_and(|group| is_valid_part(group)));
 }
 

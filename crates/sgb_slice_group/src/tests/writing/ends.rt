@@ -1,6 +1,6 @@
 //! Groups for writing from both ends, case by case.
 use super::holds;
-use crate::jumping::binary_mut::{BinaryGroupByKeyMut, BinaryGroupByMut, BinaryGroupMut};
+use crate::jumping::binary_mut::{BinaryGroupByKeyMut, BinaryGroupMut};
 use crate::jumping::exponential_mut::{
     ExponentialGroupByKeyMut, ExponentialGroupByMut, ExponentialGroupMut,
 };
@@ -36,14 +36,6 @@ fn equal_from_both_ends(rt: HostRuntime) {
     let mut exponential = ExponentialGroupMut::new(&mut slice);
     assert!(rt; holds(exponential.next(), &[1, 1]) && holds(exponential.next_back(), &[2]));
     assert!(rt; exponential.next().is_none());
-}
-
-#[test]
-fn three_groups_from_the_front(rt: HostRuntime) {
-    let mut slice = [1, 1, 1, 2, 2, 2, 3, 3];
-    let mut groups = BinaryGroupByMut::new(&mut slice, |a, b| a == b);
-    assert!(rt; holds(groups.next(), &[1, 1, 1]) && holds(groups.next(), &[2, 2, 2]));
-    assert!(rt; holds(groups.next(), &[3, 3]) && groups.next().is_none());
 }
 
 // A reversed iterator gives the groups from the back, and asks what calls from the back ask.

@@ -12,16 +12,6 @@ fn fill_twos(remainder: &mut [i32]) {
 }
 
 #[test]
-fn remainder_of_binary_by_predicate_is_for_writing(rt: HostRuntime) {
-    let mut slice = [1, 1, 2, 2];
-    let mut groups = BinaryGroupByMut::new(&mut slice, |a, b| a == b);
-    assert!(rt; groups.remainder_len() == 4 && holds(groups.next(), &[1, 1]));
-    assert!(rt; groups.remainder_len() == 2 && !groups.is_empty());
-    fill_twos(groups.into_remainder());
-    assert_eq!(rt; slice, [1, 1, 9, 9]);
-}
-
-#[test]
 fn remainder_of_exponential_by_predicate_is_for_writing(rt: HostRuntime) {
     let mut slice = [1, 1, 2, 2];
     let mut groups = ExponentialGroupByMut::new(&mut slice, |a, b| a == b);
@@ -77,14 +67,4 @@ fn nothing_remains_when_all_are_out(rt: HostRuntime) {
     assert!(rt; holds(exponential.next(), &[1, 1]) && holds(exponential.next(), &[2]));
     assert!(rt; exponential.is_empty() && exponential.remainder_len() == 0);
     assert!(rt; exponential.into_remainder().is_empty());
-}
-
-// Elements of no bytes are counted as others are.
-#[test]
-fn five_units(rt: HostRuntime) {
-    let mut slice = [(); 5];
-    let mut groups = ExponentialGroupByMut::new(&mut slice, |a, b| a == b);
-    assert_eq!(rt; groups.remainder_len(), 5);
-    assert!(rt; groups.next().is_some_and(|group| group.len() == 5) && groups.next().is_none());
-    assert!(rt; groups.into_remainder().is_empty());
 }

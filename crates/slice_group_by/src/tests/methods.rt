@@ -1,0 +1,278 @@
+//! Groups by the methods of a slice, family beside family, case by case.
+ghost use Rattle.std.specs.Prelude.{◌≢◌, ◌≤◌};
+
+use super::linear_mut::holds;
+use crate::{GroupBy, GroupByMut};
+use std::cell::Cell;
+
+#[test]
+fn views_of_the_remainder(rt: HostRuntime) {
+    let slice: &[i32] = &[1, 1, 2];
+    let mut groups = slice.binary_group_by(|a, b| a == b);
+    assert!(rt; groups.size_hint() == (1, Some(3)) && matches!(groups.next(), Some([1, 1])));
+    assert_eq!(rt; groups.size_hint(), (1, Some(1)));
+    assert!(rt;
+        matches!(groups.remainder(), [2]) && groups.remainder_len() == 1 && !groups.is_empty()
+    );
+    assert!(rt; matches!(groups.next(), Some([2])) && groups.size_hint() == (0, Some(0)));
+    assert!(rt; groups.is_empty() && groups.remainder_len() == 0);
+}
+
+#[test]
+fn remainder_is_for_writing(rt: HostRuntime) {
+    let mut array = [1, 1, 2, 2];
+    let mut slice: &mut [i32] = &mut array;
+    let mut groups = slice.binary_group_by_mut(|a, b| a == b);
+    assert!(rt; groups.remainder_len() == 4 && holds(groups.next(), &[1, 1]));
+    assert!(rt; groups.remainder_len() == 2 && !groups.is_empty());
+    let remainder = groups.into_remainder();
+    assert_eq!(rt; &*remainder, [2, 2].as_slice());
+    remainder.fill(9);
+    assert_eq!(rt; array, [1, 1, 9, 9]);
+}
+
+#[test]
+fn three_groups_for_writing(rt: HostRuntime) {
+    let mut array = [1, 1, 1, 2, 2, 2, 3, 3];
+    let mut slice: &mut [i32] = &mut array;
+    let mut groups = slice.binary_group_by_mut(|a, b| a == b);
+    assert!(rt; holds(groups.next(), &[1, 1, 1]) && holds(groups.next(), &[2, 2, 2]));
+    assert!(rt; holds(groups.next(), &[3, 3]) && groups.next().is_none());
+}
+
+// No two of the elements are refused, so the slice is grouped for a test that is no equality.
+#[test]
+fn grouped_for_unequal(rt: HostRuntime) {
+    let slice: &[i32] = &[1, 2, 3];
+    let mut binary = slice.binary_group_by(|a, b| a != b);
+    assert!(rt; matches!((binary.next(), binary.next()), (Some([1, 2, 3]), None)));
+    let mut exponential = slice.exponential_group_by(|a, b| a != b);
+    assert!(rt;
+        matches!(
+            (exponential.next(), exponential.next()),
+            (Some([1, 2, 3]), None)
+        )
+    );
+}
+
+// The outermost element is the left one from both ends, so the ends differ for a test that is not symmetric. They do not for
+// linear groups, where the left one of two neighbours is.
+#[test]
+fn not_grouped_for_less(rt: HostRuntime) {
+    let slice: &[i32] = &[1, 2, 3];
+    let front = slice.binary_group_by(|a, b| a < b).next();
+    let back = slice.binary_group_by(|a, b| a < b).next_back();
+    assert!(rt; matches!((front, back), (Some([1, 2, 3]), Some([3]))));
+    let front = slice.exponential_group_by(|a, b| a < b).next();
+    let back = slice.exponential_group_by(|a, b| a < b).next_back();
+    assert!(rt; matches!((front, back), (Some([1, 2, 3]), Some([3]))));
+    let front = slice.linear_group_by(|a, b| a < b).next();
+    let back = slice.linear_group_by(|a, b| a < b).next_back();
+    assert!(rt; matches!((front, back), (Some([1, 2, 3]), Some([1, 2, 3]))));
+}
+
+// A group ends where the element beyond is refused, even if the slice is not grouped.
+#[test]
+fn ends_where_refused(rt: HostRuntime) {
+    let slice: &[i32] = &[1, 2, 1, 1, 2];
+    let front = slice.exponential_group_by(|a, b| a == b).next();
+    assert!(rt; matches!(front, Some([1] | [1, 2, 1, 1])));
+    let back = slice.exponential_group_by(|a, b| a == b).next_back();
+    assert!(rt; matches!(back, Some([2] | [2, 1, 1, 2])));
+}
+
+// A predicate that may be called only on two different elements. The loops end at the first `None`.
+#[test]
+fn asks_no_element_about_itself(rt: HostRuntime) {
+    let slice: &[u8] = &[1, 2, 3];
+    let binary = slice.binary_group_by(
+        |a: &u8, b: &u8| -> bool
+            requires { a.now ≢ b.now }
+        { false },
+    );
+    let mut next = 1u8;
+    for group in binary {
+        assert_eq!(rt; group, [next].as_slice());
+        next = next.wrapping_add(1);
+    }
+    assert_eq!(rt; next, 4);
+    let exponential = slice.exponential_group_by(
+        |a: &u8, b: &u8| -> bool
+            requires { a.now ≢ b.now }
+        { false },
+    );
+    let mut next = 1u8;
+    for group in exponential {
+        assert_eq!(rt; group, [next].as_slice());
+        next = next.wrapping_add(1);
+    }
+    assert_eq!(rt; next, 4);
+}
+
+// A predicate that may never be called.
+#[test]
+fn one_element_asks_nothing(rt: HostRuntime) {
+    let slice: &[u8] = &[1];
+    let mut linear = slice.linear_group_by(
+        |_a: &u8, _b: &u8| -> bool
+            requires { ⊥ }
+        { true },
+    );
+    assert!(rt; matches!((linear.next(), linear.next()), (Some([1]), None)));
+    let mut binary = slice.binary_group_by(
+        |_a: &u8, _b: &u8| -> bool
+            requires { ⊥ }
+        { true },
+    );
+    assert!(rt; matches!((binary.next(), binary.next()), (Some([1]), None)));
+    let mut exponential = slice.exponential_group_by(
+        |_a: &u8, _b: &u8| -> bool
+            requires { ⊥ }
+        { true },
+    );
+    assert!(rt; matches!((exponential.next(), exponential.next()), (Some([1]), None)));
+}
+
+// How many binary digits the number has.
+fn digits(n: usize) -> u32
+    ensures { result ≤ 64 }
+{
+    usize::BITS - n.leading_zeros()
+}
+
+// Says yes and no by turns, and counts.
+fn alternates(questions: &Cell<u32>) -> bool {
+    questions.set(questions.get().wrapping_add(1));
+    questions.get() % 2 == 1
+}
+
+// The groups are not known, but each call asks few questions, and the groups are what the slice is made of.
+#[test]
+fn binary_answers_that_alternate(rt: HostRuntime) {
+    for array in [[1, 1, 1, 1], [1, 2, 3, 4]] {
+        let slice: &[i32] = &array;
+        let questions = Cell::new(0u32);
+        let mut asked = 0u32;
+        let mut rest = slice;
+        for group in slice.binary_group_by(|_a, _b| alternates(&questions)) {
+            let few = digits(rest.len().wrapping_sub(1));
+            assert!(rt; !group.is_empty() && questions.get().wrapping_sub(asked) <= few);
+            asked = questions.get();
+            let Some(after) = rest.strip_prefix(group) else {
+                panic!(rt; "{group:?} before {rest:?}");
+            };
+            rest = after;
+        }
+        assert!(rt; rest.is_empty() && questions.get() == asked);
+    }
+}
+
+#[test]
+fn exponential_answers_that_alternate(rt: HostRuntime) {
+    for array in [[1, 1, 1, 1], [1, 2, 3, 4]] {
+        let slice: &[i32] = &array;
+        let questions = Cell::new(0u32);
+        let mut asked = 0u32;
+        let mut rest = slice;
+        for group in slice.exponential_group_by(|_a, _b| alternates(&questions)) {
+            let few = 2 * digits(group.len()) + 1;
+            assert!(rt; !group.is_empty() && questions.get().wrapping_sub(asked) <= few);
+            asked = questions.get();
+            let Some(after) = rest.strip_prefix(group) else {
+                panic!(rt; "{group:?} before {rest:?}");
+            };
+            rest = after;
+        }
+        assert!(rt; rest.is_empty() && questions.get() == asked);
+    }
+}
+
+// Whether two numbers are equal, which is a question more.
+fn asks(questions: &Cell<usize>, a: &i32, b: &i32) -> bool {
+    questions.set(questions.get().wrapping_add(1));
+    a == b
+}
+
+#[test]
+fn thousand_before_one(rt: HostRuntime) {
+    let mut array = [0; 1001];
+    array[1000] = 1;
+    let slice: &[i32] = &array;
+    let questions = Cell::new(0usize);
+    let mut groups = slice.exponential_group_by(|a, b| asks(&questions, a, b));
+    assert!(rt; matches!(groups.next_back(), Some([1])) && questions.replace(0) <= 3);
+    assert!(rt; groups.next_back().is_some_and(|group| group.len() == 1000));
+    assert!(rt; questions.get() <= 21);
+}
+
+#[test]
+fn one_before_a_thousand(rt: HostRuntime) {
+    let mut array = [1; 1001];
+    array[0] = 0;
+    let slice: &[i32] = &array;
+    let questions = Cell::new(0usize);
+    let mut groups = slice.exponential_group_by(|a, b| asks(&questions, a, b));
+    assert!(rt; groups.next_back().is_some_and(|group| group.len() == 1000));
+    assert!(rt; questions.get() <= 21);
+}
+
+#[test]
+fn three_groups_from_both_ends(rt: HostRuntime) {
+    let slice: &[i32] = &[1, 1, 1, 2, 2, 2, 3, 3];
+    let questions = Cell::new(0usize);
+    let mut groups = slice.exponential_group_by(|a, b| asks(&questions, a, b));
+    assert!(rt; matches!(groups.next(), Some([1, 1, 1])) && questions.replace(0) <= 5);
+    assert!(rt; matches!(groups.next_back(), Some([3, 3])) && questions.replace(0) <= 5);
+    assert!(rt; matches!(groups.next(), Some([2, 2, 2])) && questions.replace(0) <= 5);
+    assert!(rt; groups.next_back().is_none());
+}
+
+#[test]
+fn five_units_for_writing(rt: HostRuntime) {
+    let mut array = [(); 5];
+    let mut slice: &mut [()] = &mut array;
+    let mut groups = slice.exponential_group_by_mut(|_a, _b| true);
+    assert_eq!(rt; groups.remainder_len(), 5);
+    assert!(rt; groups.next().is_some_and(|group| group.len() == 5) && groups.next().is_none());
+    assert!(rt; groups.into_remainder().is_empty());
+}
+
+// What is left to expect, how long the first group is, and how many questions were asked for it. The array is of a length
+// that a proof does not compute.
+fn binary_front<const N: usize>() -> ((usize, Option<usize>), usize, usize) {
+    let array = [(); N];
+    let slice: &[()] = &array;
+    let mut questions = 0usize;
+    let mut groups = slice.binary_group_by(|_a, _b| {
+        questions = questions.wrapping_add(1);
+        true
+    });
+    let hint = groups.size_hint();
+    let len = groups.next().map_or(0, |group| group.len());
+    (hint, len, questions)
+}
+
+fn exponential_front<const N: usize>() -> ((usize, Option<usize>), usize, usize) {
+    let array = [(); N];
+    let slice: &[()] = &array;
+    let mut questions = 0usize;
+    let mut groups = slice.exponential_group_by(|_a, _b| {
+        questions = questions.wrapping_add(1);
+        true
+    });
+    let hint = groups.size_hint();
+    let len = groups.next().map_or(0, |group| group.len());
+    (hint, len, questions)
+}
+
+const LONGEST: usize = usize::MAX;
+
+#[test]
+fn longest_slices(rt: HostRuntime) {
+    let (hint, len, questions) = binary_front::<LONGEST>();
+    assert_eq!(rt; (hint, len), ((1, Some(LONGEST)), LONGEST));
+    assert!(rt; questions <= 64);
+    let (hint, len, questions) = exponential_front::<LONGEST>();
+    assert_eq!(rt; (hint, len), ((1, Some(LONGEST)), LONGEST));
+    assert!(rt; questions <= 129);
+}
