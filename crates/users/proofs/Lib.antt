@@ -1,1 +1,2 @@
 pub mod KeptTotals
+pub mod JoinedKeys
