@@ -1,4 +1,4 @@
--- Which piece a call on groups of equal elements, or of equal characters of a text, gives: lemmas that a caller's proof search can be told to use.
+-- Which piece a call on linear groups of equal elements, or of equal characters of a text, gives: lemmas that a caller's proof search can be told to use.
 use Rattle.std.proofs.Common.{◌≡◌, Bool, List, ◌∷◌, ◌++◌, [], Some}
 use Rattle.sgb_search.specs.Neighbours.{AreNeighbours}
 use Rattle.sgb_search.specs.declared.judge.EqualityJudge.{EqualityJudge}

@@ -1,8 +1,7 @@
-use Rattle.std.proofs.Common.{◌≡◌, ◌≤◌, ◌+◌, ◌-◌, length, arith, ap, subst, refl, List, Some, None}
-use Rattle.std.specs.Prelude.{Option, option_copied}
+use Rattle.std.proofs.Common.{◌≤◌, ◌-◌, length, arith, ap, refl, List, Some, None}
+use Rattle.std.specs.Prelude.{Option}
 use Rattle.std.specs.Borrow.{Bor}
 use Rattle.slice_group_by.specs.Digits.{digits}
-use Rattle.slice_group_by.specs.Groups.{Groups}
 use Rattle.slice_group_by.specs.Judges.{by_equality}
 use Rattle.slice_group_by.specs.Jumps.{halving}
 use Rattle.slice_group_by.specs.Jumping.{JumpsFront}
