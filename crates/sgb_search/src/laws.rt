@@ -1,6 +1,7 @@
 //! Laws of the definitions. Each is a function that does nothing: its contract is the law, and a caller cites it.
 ghost use Rattle.std.specs.Prelude.{◌≡◌, ℕ, ◌+◌, ◌-◌, ◌^◌, ◌<◌, ◌≤◌, ◌++◌, Bool, List, length, map};
-ghost use Rattle.std.specs.Fn.{ComputesKey, TakesAtTwo};
+ghost use Rattle.std.specs.Fn.{ComputesKey, TakesAt, TakesAtTwo};
+ghost use Rattle.std.specs.List.{Contains};
 ghost use Rattle.sgb_search.specs.Digits.{digits};
 ghost use Rattle.sgb_search.specs.Apart.{AreApart, IsGrouped};
 ghost use Rattle.sgb_search.specs.Search.{MayCall, Computes, NeverDescends};
@@ -70,6 +71,20 @@ pub fn computes_on_elements<T, F: FnMut(&T) -> K, K: PartialEq + Drop>()
     ensures along { (xs : List T) (key : T → K) (func : F) → Computes F.FnMut xs key func → AnswersAlong (by_key F.FnMut K.eq) xs (λ x y. K.eq (key x) (key y)) (key_judge func) }
     ensures apart { (xs : List T) (key : T → K) (func : F) → Computes F.FnMut xs key func → AnswersApart (by_key F.FnMut K.eq) xs (λ x y. K.eq (key x) (key y)) (key_judge func) }
     ensures part { (before part after : List T) (key : T → K) (func : F) → Computes F.FnMut (before ++ (part ++ after)) key func → Computes F.FnMut part key func }
+{}
+
+/// An `Fn` stays as it is when it is called: where it may be called on each element now, it may be called so in every state
+/// that its answers can lead to. It takes a reference to one, which names its type.
+#[inline]
+pub fn callable_now<T, F: Fn(&T) -> K, K>(_f: &F)
+    ensures { (xs : List T) (f : F) → ((x : T) → Contains xs x → TakesAt F.FnMut f x) → MayCall F.FnMut xs f }
+{}
+
+/// The same of a predicate, on each neighbouring pair, and on every two different places in both orders.
+#[inline]
+pub fn callable_now_on_pairs<T, P: Fn(&T, &T) -> bool>(_p: &P)
+    ensures along { (xs : List T) (p : P) → ((q : T × T) → AreNeighbours xs q → TakesAtTwo P.FnMut p q.0 q.1) → MayCallOnPairs P.FnMut (AreNeighbours xs) p }
+    ensures apart { (xs : List T) (p : P) → ((q : T × T) → AreApart xs q → TakesAtTwo P.FnMut p q.0 q.1) → MayCallOnPairs P.FnMut (AreApart xs) p }
 {}
 
 /// A predicate that may be called on each neighbouring pair of a slice, the left element first, or on every two different places,

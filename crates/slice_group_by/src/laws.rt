@@ -47,8 +47,9 @@ use sgb_search::judge::Judge;
 pub use sgb_search::laws::{
     always_callable, always_callable_apart, always_callable_char_key, always_callable_chars,
     always_callable_key, always_callable_key_apart, always_callable_on_elements, always_computes,
-    ascending_is_grouped, callable_on_elements, callable_on_pairs, computes_on_elements,
-    digits_is_least, equality_judges, one_split, parts_are_grouped, question_count,
+    ascending_is_grouped, callable_now, callable_now_on_pairs, callable_on_elements,
+    callable_on_pairs, computes_on_elements, digits_is_least, equality_judges, one_split,
+    parts_are_grouped, question_count,
 };
 use sgb_slice_group::groups::LinearGroups;
 use sgb_slice_group::groups_mut::LinearGroupsMut;
