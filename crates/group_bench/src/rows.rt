@@ -3,8 +3,8 @@
 //! merge join in `joins`.
 ghost use Rattle.std.specs.Prelude.{◌<ℤ◌};
 
-use crate::jumps::{row_4, row_5, row_6, row_7, row_11, row_12, row_18};
 use crate::joins::row_19;
+use crate::jumps::{row_4, row_5, row_6, row_7, row_11, row_12, row_18};
 use crate::lines::{differs, read, write_answers, write_groups};
 use crate::searches::{row_8, row_15};
 use crate::texts::{row_9, row_10, row_16};
