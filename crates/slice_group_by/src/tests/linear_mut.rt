@@ -4,7 +4,7 @@ use crate::{End, GroupByMut, LinearGroupByKeyMut, LinearGroupByMut, LinearGroupM
 use std::slice::from_mut;
 use std::test::Fail;
 
-pub(crate) fn holds(group: Option<&mut [i32]>, wanted: &[i32]) -> bool {
+fn holds(group: Option<&mut [i32]>, wanted: &[i32]) -> bool {
     match group {
         Some(group) => *group == *wanted,
         None => false,

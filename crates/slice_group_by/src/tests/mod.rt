@@ -8,7 +8,6 @@ mod linear;
 mod linear_by;
 mod linear_mut;
 mod loops;
-mod methods;
 mod plans;
 mod searches;
 mod str_users;

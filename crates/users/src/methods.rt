@@ -1,9 +1,15 @@
 //! Groups by the methods of a slice, family beside family, case by case.
 ghost use Rattle.std.specs.Prelude.{◌≢◌, ◌≤◌};
 
-use super::linear_mut::holds;
-use crate::{GroupBy, GroupByMut};
+use slice_group_by::{GroupBy, GroupByMut};
 use std::cell::Cell;
+
+fn holds(group: Option<&mut [i32]>, wanted: &[i32]) -> bool {
+    match group {
+        Some(group) => *group == *wanted,
+        None => false,
+    }
+}
 
 #[test]
 fn views_of_the_remainder(rt: HostRuntime) {
