@@ -1,6 +1,8 @@
 //! Linear groups for writing, case by case.
-use crate::laws::rank_groups;
-use crate::{End, GroupByMut, LinearGroupByKeyMut, LinearGroupByMut, LinearGroupMut, walk};
+use slice_group_by::laws::rank_groups;
+use slice_group_by::{
+    End, GroupByMut, LinearGroupByKeyMut, LinearGroupByMut, LinearGroupMut, walk,
+};
 use std::slice::from_mut;
 use std::test::Fail;
 

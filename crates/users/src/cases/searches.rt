@@ -1,7 +1,7 @@
 //! Searches, case by case.
 ghost use Rattle.std.specs.Prelude.{◌≤◌};
 
-use crate::{exponential_search, exponential_search_by, exponential_search_by_key};
+use slice_group_by::{exponential_search, exponential_search_by, exponential_search_by_key};
 use std::cmp::Ordering;
 
 const NUMBERS: [i32; 13] = [0, 1, 1, 1, 1, 2, 3, 5, 8, 13, 21, 34, 55];

@@ -1,5 +1,5 @@
 //! Groups of a text's bytes for writing, case by case.
-use crate::{
+use slice_group_by::{
     End, LinearStrGroupByKeyMut, LinearStrGroupByMut, LinearStrGroupMut, StrGroupByMut, walk,
 };
 use std::slice::from_mut;

@@ -5,7 +5,7 @@ ghost use Rattle.std.specs.Cmp.{partial_order_from_own_ties};
 ghost use Rattle.std.specs.Cmp.Rules.{comparing};
 ghost use Rattle.std.specs.Ordering.{on, nat_cmp, as_partial_cmp};
 
-use crate::{LinearGroup, exponential_search};
+use slice_group_by::{LinearGroup, exponential_search};
 use std::array;
 use std::cell::Cell;
 use std::cmp::Ordering;

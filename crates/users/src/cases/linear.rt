@@ -1,5 +1,5 @@
 //! Linear groups of equal elements, case by case.
-use crate::LinearGroup;
+use slice_group_by::LinearGroup;
 
 #[test]
 fn one_big_group(rt: HostRuntime) {
