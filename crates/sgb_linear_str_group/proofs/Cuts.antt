@@ -1,17 +1,15 @@
 -- A group cut off a text between characters.
-use Rattle.std.proofs.Common.{◌≡◌, ℕ, ◌+◌, ◌<◌, ◌≤◌, List, [], ◌∷◌, ◌++◌, length, take, drop, refl, sym, ap, ◌∙◌, subst, arith, length-append}
-use Rattle.std.specs.List.{slice_range}
+use Rattle.std.proofs.Common.{◌≡◌, ℕ, ◌+◌, ◌<◌, List, [], ◌∷◌, ◌++◌, length, take, drop, refl, sym, ap, ◌∙◌, subst, arith, length-append}
 use Rattle.std.specs.Str.{chars, IsUtf8, IsCharBoundary, encode_utf8_all}
 use Rattle.std.proofs.lemmas.Str.{chars-append, encodes-chars, IsUtf8-take, IsUtf8-drop}
+use Rattle.std.proofs.lemmas.List.{length-take-le, take-append-drop}
 use Rattle.std.proofs.Math.Seq.{take-append_seam, drop-append_seam}
 use Rattle.sgb_search.specs.declared.judge.Judge.{Ghosts}
-use Rattle.sgb_search.specs.Runs.{IsRun}
-use Rattle.sgb_search.specs.Neighbours.{front_questions, back_questions}
-use Rattle.sgb_search.specs.Judges.{MayAskAlong}
-use Rattle.sgb_search.proofs.Runs.{may_after}
-use Rattle.sgb_search.proofs.Pairs.{neighbours_of_first, neighbours_of_rest}
-use Rattle.sgb_search.proofs.Ranges.{length-range, range_cut}
-use Rattle.sgb_linear_str_group.specs.Texts.{TextGroups, IsCallableText, IsFrontText, IsBackText}
+use Rattle.sgb_search.specs.Judges.{IsRun}
+use Rattle.sgb_search.specs.Linear.{questions, MayAskAlong}
+use Rattle.sgb_search.specs.declared.end.End.TheVariants.{Front, Back}
+use Rattle.sgb_linear_str_group.specs.Texts.{TextGroups, text_between, IsCallableText, IsTextAt}
+use Rattle.sgb_linear_str_group.proofs.Places.{part_after, part_before}
 
 -- a text that is not empty has a character
 has_character : (text : List ℕ) → IsUtf8 text → 0 < length text → 0 < length (chars text)
@@ -39,13 +37,13 @@ module _ {J : Type 0} (g : Ghosts J ℕ) (text front rest : List ℕ) (cut : tex
   chars_cut = ap chars cut ∙ chars-append front rest front_utf8
 
   module _ (j k : J) where
-    pub front_text : 0 < n → IsRun g.may_ask g.answers j (front_questions (chars text) (length (chars (take n text)))) k
-        → IsFrontText g (record { text = text; judge = j }) front (record { text = rest; judge = k })
+    pub front_text : 0 < n → IsRun g.may_ask g.answers j (questions Front (chars text) (length (chars (take n text)))) k
+        → IsTextAt g Front (record { text = text; judge = j }) front (record { text = rest; judge = k })
     front_text l run = record {
       characters = record {
         nonempty = has_character front front_utf8 (omega arith);
         cut = chars_cut;
-        asked = subst (λ xs. IsRun g.may_ask g.answers j (front_questions (chars text) (length (chars xs))) k) take_is run;
+        asked = subst (λ xs. IsRun g.may_ask g.answers j (questions Front (chars text) (length (chars xs))) k) take_is run;
       };
       cut = cut;
       nonempty = omega arith;
@@ -53,29 +51,21 @@ module _ {J : Type 0} (g : Ghosts J ℕ) (text front rest : List ℕ) (cut : tex
       rest_utf8 = back_utf8;
     }
 
-    pub back_text : n < length text → IsRun g.may_ask g.answers j (back_questions (chars text) (length (chars (drop n text)))) k
-        → IsBackText g (record { text = text; judge = j }) rest (record { text = front; judge = k })
+    pub back_text : n < length text → IsRun g.may_ask g.answers j (questions Back (chars text) (length (chars (drop n text)))) k
+        → IsTextAt g Back (record { text = text; judge = j }) rest (record { text = front; judge = k })
     back_text l run =
         let more : 0 < length rest = omega (arith, ap length cut, length-append front rest) in
         record {
           characters = record {
             nonempty = has_character rest back_utf8 more;
             cut = chars_cut;
-            asked = subst (λ xs. IsRun g.may_ask g.answers j (back_questions (chars text) (length (chars xs))) k) drop_is run;
+            asked = subst (λ xs. IsRun g.may_ask g.answers j (questions Back (chars text) (length (chars xs))) k) drop_is run;
           };
           cut = cut;
           nonempty = more;
           group_utf8 = back_utf8;
           rest_utf8 = front_utf8;
         }
-
-  -- what may be asked along the whole text may be asked along what is left
-  module _ (k : J) (may : MayAskAlong g (chars text) k) where
-    pub callable_rest : MayAskAlong g (chars rest) k
-    callable_rest = may_after _ _ _ _ (λ q h. rw chars_cut (neighbours_of_rest (chars front) (chars rest) q h)) k [] k refl tt may
-
-    pub callable_front : MayAskAlong g (chars front) k
-    callable_front = may_after _ _ _ _ (λ q h. rw chars_cut (neighbours_of_first (chars front) (chars rest) q h)) k [] k refl tt may
 
 -- the remainder xs of a writing iterator, read as the text r, and cut in two as zs
 module _ {J : Type 0} (g : Ghosts J ℕ) (xs : List ℕ) (j : J) (s : TextGroups J) (view : record { text = xs; judge = j } ≡ s) (r zs : List ℕ) (read : r ≡ zs) (same : zs ≡ xs) where
@@ -93,51 +83,31 @@ module _ {J : Type 0} (g : Ghosts J ℕ) (xs : List ℕ) (j : J) (s : TextGroups
     utf8_rest = back_utf8 g r front rest (read ∙ cut) u n len b
 
     module _ (k : J) where
-      pub front_whole : 0 < n → IsRun g.may_ask g.answers j (front_questions (chars r) (length (chars (take n r)))) k → IsFrontText g s front (record { text = rest; judge = k })
+      pub front_whole : 0 < n → IsRun g.may_ask g.answers j (questions Front (chars r) (length (chars (take n r)))) k → IsTextAt g Front s front (record { text = rest; judge = k })
       front_whole l run = rw (← is_whole) (front_text g r front rest (read ∙ cut) u n len b j k l run)
 
-      pub back_whole : n < length r → IsRun g.may_ask g.answers j (back_questions (chars r) (length (chars (drop n r)))) k → IsBackText g s rest (record { text = front; judge = k })
+      pub back_whole : n < length r → IsRun g.may_ask g.answers j (questions Back (chars r) (length (chars (drop n r)))) k → IsTextAt g Back s rest (record { text = front; judge = k })
       back_whole l run = rw (← is_whole) (back_text g r front rest (read ∙ cut) u n len b j k l run)
 
-      pub callable_rest_after : MayAskAlong g (chars r) k → MayAskAlong g (chars rest) k
-      callable_rest_after = callable_rest g r front rest (read ∙ cut) u n len b k
+-- the remainder r is the part of xs between low and high, and is cut at its place n
+module _ {J : Type 0} (g : Ghosts J ℕ) (xs : List ℕ) (low high : ℕ) (r : List ℕ) (same : r ≡ text_between xs low high)
+    (u : IsUtf8 r) (n : ℕ) (b : IsCharBoundary r n) (more : 0 < length r) (j k : J) where
+  parts : r ≡ take n r ++ drop n r
+  parts = sym (take-append-drop n r)
 
-      pub callable_front_after : MayAskAlong g (chars r) k → MayAskAlong g (chars front) k
-      callable_front_after = callable_front g r front rest (read ∙ cut) u n len b k
+  len : length (take n r) ≡ n
+  len = length-take-le n r b.0
 
--- the remainder r stands in xs between low and high, and is cut at its place n
-module _ {J : Type 0} (g : Ghosts J ℕ) (xs : List ℕ) (low high : ℕ) (order : low ≤ high) (within : high ≤ length xs) (j : J) (s : TextGroups J) (view : record { text = slice_range xs low high; judge = j } ≡ s) (r : List ℕ) (same : r ≡ s.text) where
-  is_range : r ≡ slice_range xs low high
-  is_range = same ∙ ap (λ (v : TextGroups J). v.text) (sym view)
+  pub front_cut : 0 < n → IsRun g.may_ask g.answers j (questions Front (chars r) (length (chars (take n r)))) k
+      → (group : List ℕ) → group ≡ take n r
+      → IsTextAt g Front (record { text = text_between xs low high; judge = j }) group
+      (record { text = text_between xs (low + n) high; judge = k })
+  front_cut l run group e =
+      rw (e, ← same, part_after xs low high r same n b more) (front_text g r (take n r) (drop n r) parts u n len b j k l run)
 
-  is_state : record { text = r; judge = j } ≡ s
-  is_state = ap (λ l. record { text = l; judge = j }) is_range ∙ view
-
-  pub callable_here : IsCallableText g s → MayAskAlong g (chars r) j
-  callable_here may = subst (λ (v : TextGroups J). IsCallableText g v) (sym is_state) may
-
-  module _ (u : IsUtf8 r) (n : ℕ) (b : IsCharBoundary r n) (k : J) where
-    inside : low + n ≤ high
-    inside = omega (arith, b.0, ap length is_range, length-range xs low high order within)
-
-    parts : r ≡ slice_range xs low (low + n) ++ slice_range xs (low + n) high
-    parts = is_range ∙ range_cut xs low (low + n) high (omega arith) inside
-
-    len : length (slice_range xs low (low + n)) ≡ n
-    len = omega (arith, length-range xs low (low + n) (omega arith) (omega (arith, inside)))
-
-    pub front_cut : 0 < n → IsRun g.may_ask g.answers j (front_questions (chars r) (length (chars (take n r)))) k
-        → (group : List ℕ) → group ≡ slice_range xs low (low + n) → IsFrontText g s group (record { text = slice_range xs (low + n) high; judge = k })
-    front_cut l run group e =
-        rw (e, ← is_state) (front_text g r (slice_range xs low (low + n)) (slice_range xs (low + n) high) parts u n len b j k l run)
-
-    pub back_cut : n < length r → IsRun g.may_ask g.answers j (back_questions (chars r) (length (chars (drop n r)))) k
-        → (group : List ℕ) → group ≡ slice_range xs (low + n) high → IsBackText g s group (record { text = slice_range xs low (low + n); judge = k })
-    back_cut l run group e =
-        rw (e, ← is_state) (back_text g r (slice_range xs low (low + n)) (slice_range xs (low + n) high) parts u n len b j k l run)
-
-    pub callable_after_front : MayAskAlong g (chars r) k → MayAskAlong g (chars (slice_range xs (low + n) high)) k
-    callable_after_front = callable_rest g r (slice_range xs low (low + n)) (slice_range xs (low + n) high) parts u n len b k
-
-    pub callable_after_back : MayAskAlong g (chars r) k → MayAskAlong g (chars (slice_range xs low (low + n))) k
-    callable_after_back = callable_front g r (slice_range xs low (low + n)) (slice_range xs (low + n) high) parts u n len b k
+  pub back_cut : n < length r → IsRun g.may_ask g.answers j (questions Back (chars r) (length (chars (drop n r)))) k
+      → (group : List ℕ) → group ≡ drop n r
+      → IsTextAt g Back (record { text = text_between xs low high; judge = j }) group
+      (record { text = text_between xs low (low + n); judge = k })
+  back_cut l run group e =
+      rw (e, ← same, part_before xs low high r same n b more) (back_text g r (take n r) (drop n r) parts u n len b j k l run)

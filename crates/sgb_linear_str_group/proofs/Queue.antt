@@ -1,92 +1,68 @@
--- The laws of a queue for groups of a text, at each end: those of what it shows by characters.
+-- The laws of calls on a text: those of the list of its characters.
 use Rattle.std.proofs.Common.{◌≡◌, ℕ, Bool, true, List, length, Option, None, Some, refl, ap, ◌∙◌, subst, arith}
-use Rattle.std.specs.Prelude.{option_map}
+use Rattle.std.specs.Prelude.{option_map, option_copied}
+use Rattle.std.specs.Borrow.{Bor}
 use Rattle.std.specs.Str.{chars}
 use Rattle.std.proofs.lemmas.Str.{chars-nil}
+use Rattle.sgb_search.specs.declared.end.End.{End}
 use Rattle.sgb_search.specs.declared.judge.Judge.{Ghosts}
-use Rattle.sgb_search.specs.Runs.{IsRunOf, AsksWithin}
-use Rattle.sgb_search.specs.Neighbours.{neighbours}
-use Rattle.sgb_search.specs.Ends.{CutsFront, CutsBack}
-use Rattle.sgb_search.specs.Split.{TakesFirst, TakesLast}
-use Rattle.sgb_search.specs.LinearCalls.{AsksFront, AsksBack, FrontCall, BackCall, AsksEachOnce}
-use Rattle.sgb_search.proofs.LinearPairs.{front_asks_once, back_asks_once}
+use Rattle.sgb_search.specs.Judges.{IsRunOf, AsksWithin}
+use Rattle.sgb_search.specs.Lists.{neighbours, TakesPart}
+use Rattle.sgb_search.specs.Split.{TakesPiece}
+use Rattle.sgb_search.specs.Calls.{CallAt}
+use Rattle.sgb_search.specs.Linear.{LinearQuestions, AsksEachOnce}
+use Rattle.sgb_search.proofs.LinearPairs.{asks_once}
 use Rattle.sgb_search.proofs.Calls as calls
 use Rattle.sgb_search.proofs.LinearQueue as list
-use Rattle.sgb_linear_str_group.specs.Texts.{TextGroups, in_characters, IsCallableText, IsSettledText, FrontTextCall, BackTextCall}
+use Rattle.sgb_linear_str_group.specs.declared.groups.LinearStrGroups.{LinearStrGroups}
+use Rattle.sgb_linear_str_group.specs.Texts.{TextGroups, shown_text, in_characters, IsCallableText, IsSettledText, TextCallAt, GivesText}
 
-module _ {J : Type 0} (g : Ghosts J ℕ) where
+module _ {J : Type 0} (g : Ghosts J ℕ) (e : End) where
   -- a call on a text is one on the list of its characters
-  front_call : (s t : TextGroups J) (r : Option (List ℕ)) → FrontTextCall g s r t → FrontCall g (in_characters s) (option_map chars r) (in_characters t)
-  front_call s t None h = (ap chars h.0 ∙ chars-nil, ap in_characters h.1)
-  front_call s t (Some x) h = h.characters
+  on_characters : (s t : TextGroups J) (r : Option (List ℕ)) → TextCallAt g e s r t
+      → CallAt (LinearQuestions g) e (in_characters s) (option_map chars r) (in_characters t)
+  on_characters s t None h = (ap chars h.0 ∙ chars-nil, ap in_characters h.1)
+  on_characters s t (Some x) h = h.characters
 
-  back_call : (s t : TextGroups J) (r : Option (List ℕ)) → BackTextCall g s r t → BackCall g (in_characters s) (option_map chars r) (in_characters t)
-  back_call s t None h = (ap chars h.0 ∙ chars-nil, ap in_characters h.1)
-  back_call s t (Some x) h = h.characters
+  -- and a call for reading is one on what the iterator shows
+  pub call : (s : LinearStrGroups J) (r : Option (Bor (List ℕ))) (t : LinearStrGroups J) → GivesText g e s r t
+      → TextCallAt g e (shown_text s) (option_copied r) (shown_text t)
+  call s None t h = (h.0, ap shown_text h.1)
+  call s (Some x) t h = h
 
-  pub front_text_once : (s t : TextGroups J) (r : Option (List ℕ)) → FrontTextCall g s r t → AsksEachOnce g (in_characters s) (in_characters t)
-  front_text_once s t r h = front_asks_once g (in_characters s) (in_characters t) (option_map chars r) (front_call s t r h)
-
-  pub back_text_once : (s t : TextGroups J) (r : Option (List ℕ)) → BackTextCall g s r t → AsksEachOnce g (in_characters s) (in_characters t)
-  back_text_once s t r h = back_asks_once g (in_characters s) (in_characters t) (option_map chars r) (back_call s t r h)
+  pub text_once : (s t : TextGroups J) (r : Option (List ℕ)) → TextCallAt g e s r t → AsksEachOnce g (in_characters s) (in_characters t)
+  text_once s t r h = asks_once g e (in_characters s) (option_map chars r) (in_characters t) (on_characters s t r h)
 
   -- a queue whose states show such texts, and whose items show such bytes
-  module _ {Q I : Type 0} (seen : Q → TextGroups J) (bytes : I → List ℕ) where
-    shown : (r : Option I) → option_map chars (option_map bytes r) ≡ option_map (λ x. chars (bytes x)) r
-    shown None = refl
-    shown (Some x) = refl
+  module _ {Q I : Type 0} (seen : Q → TextGroups J) (bytes : I → List ℕ) (s : Q) (r : Option I) (t : Q)
+      (h : TextCallAt g e (seen s) (option_map bytes r) (seen t)) where
+    mapped : (r : Option I) → option_map chars (option_map bytes r) ≡ option_map (λ x. chars (bytes x)) r
+    mapped None = refl
+    mapped (Some x) = refl
 
-    pub front_part : (s : Q) (r : Option I) (t : Q) → FrontTextCall g (seen s) (option_map bytes r) (seen t) → CutsFront (chars (seen s).text) (option_map (λ x. chars (bytes x)) r) (chars (seen t).text)
-    front_part s r t h =
-        subst (λ o. CutsFront (chars (seen s).text) o (chars (seen t).text)) (shown r)
-        (calls.front_part (AsksFront g) (in_characters (seen s)) (option_map chars (option_map bytes r)) (in_characters (seen t)) (front_call (seen s) (seen t) (option_map bytes r) h))
+    here : CallAt (LinearQuestions g) e (in_characters (seen s)) (option_map chars (option_map bytes r)) (in_characters (seen t))
+    here = on_characters (seen s) (seen t) (option_map bytes r) h
 
-    pub back_part : (s : Q) (r : Option I) (t : Q) → BackTextCall g (seen s) (option_map bytes r) (seen t) → CutsBack (chars (seen s).text) (option_map (λ x. chars (bytes x)) r) (chars (seen t).text)
-    back_part s r t h =
-        subst (λ o. CutsBack (chars (seen s).text) o (chars (seen t).text)) (shown r)
-        (calls.back_part (AsksBack g) (in_characters (seen s)) (option_map chars (option_map bytes r)) (in_characters (seen t)) (back_call (seen s) (seen t) (option_map bytes r) h))
+    pub part : TakesPart e (chars (seen s).text) (option_map (λ x. chars (bytes x)) r) (chars (seen t).text)
+    part = subst (λ o. TakesPart e (chars (seen s).text) o (chars (seen t).text)) (mapped r)
+        (calls.part (LinearQuestions g) e (in_characters (seen s)) _ (in_characters (seen t)) here)
 
-    -- and by bytes
-    pub front_bytes : (s : Q) (r : Option I) (t : Q) → FrontTextCall g (seen s) (option_map bytes r) (seen t) → CutsFront (seen s).text (option_map bytes r) (seen t).text
-    front_bytes s None t h = (h.0, ap (λ u. u.text) h.1 ∙ h.0)
-    front_bytes s (Some x) t h = (λ e. omega (arith, h.nonempty, ap length e), h.cut)
-
-    pub back_bytes : (s : Q) (r : Option I) (t : Q) → BackTextCall g (seen s) (option_map bytes r) (seen t) → CutsBack (seen s).text (option_map bytes r) (seen t).text
-    back_bytes s None t h = (h.0, ap (λ u. u.text) h.1 ∙ h.0)
-    back_bytes s (Some x) t h = (λ e. omega (arith, h.nonempty, ap length e), h.cut)
-
-    pub front_piece : (s : Q) (r : Option I) (t : Q) (p : ℕ → ℕ → Bool) → FrontTextCall g (seen s) (option_map bytes r) (seen t) → IsSettledText g (seen s) p
-        → TakesFirst p (chars (seen s).text) (option_map (λ x. chars (bytes x)) r) (chars (seen t).text) × IsSettledText g (seen t) p
-    front_piece s r t p h m =
-        subst (λ o. TakesFirst p (chars (seen s).text) o (chars (seen t).text) × IsSettledText g (seen t) p) (shown r)
-        (list.front_piece g (in_characters (seen s)) (option_map chars (option_map bytes r)) (in_characters (seen t)) p (front_call (seen s) (seen t) (option_map bytes r) h) m)
-
-    pub back_piece : (s : Q) (r : Option I) (t : Q) (p : ℕ → ℕ → Bool) → BackTextCall g (seen s) (option_map bytes r) (seen t) → IsSettledText g (seen s) p
-        → TakesLast p (chars (seen s).text) (option_map (λ x. chars (bytes x)) r) (chars (seen t).text) × IsSettledText g (seen t) p
-    back_piece s r t p h m =
-        subst (λ o. TakesLast p (chars (seen s).text) o (chars (seen t).text) × IsSettledText g (seen t) p) (shown r)
-        (list.back_piece g (in_characters (seen s)) (option_map chars (option_map bytes r)) (in_characters (seen t)) p (back_call (seen s) (seen t) (option_map bytes r) h) m)
+    pub piece : (p : ℕ → ℕ → Bool) → IsSettledText g (seen s) p
+        → TakesPiece p e (chars (seen s).text) (option_map (λ x. chars (bytes x)) r) (chars (seen t).text) × IsSettledText g (seen t) p
+    piece p m = subst (λ o. TakesPiece p e (chars (seen s).text) o (chars (seen t).text) × IsSettledText g (seen t) p) (mapped r)
+        (list.piece g e (in_characters (seen s)) _ (in_characters (seen t)) p here m)
 
     -- what may be asked before a call may be asked after it
-    pub front_keeps : (s : Q) (r : Option I) (t : Q) → FrontTextCall g (seen s) (option_map bytes r) (seen t) → IsCallableText g (seen s) → IsCallableText g (seen t)
-    front_keeps s r t h = list.front_keeps g (in_characters (seen s)) (option_map chars (option_map bytes r)) (in_characters (seen t)) (front_call (seen s) (seen t) (option_map bytes r) h)
-
-    pub back_keeps : (s : Q) (r : Option I) (t : Q) → BackTextCall g (seen s) (option_map bytes r) (seen t) → IsCallableText g (seen s) → IsCallableText g (seen t)
-    back_keeps s r t h = list.back_keeps g (in_characters (seen s)) (option_map chars (option_map bytes r)) (in_characters (seen t)) (back_call (seen s) (seen t) (option_map bytes r) h)
+    pub keeps : IsCallableText g (seen s) → IsCallableText g (seen t)
+    keeps = list.keeps g e (in_characters (seen s)) _ (in_characters (seen t)) here
 
     -- n questions were asked, and the pairs of characters that remain are due
-    abbrev asked : Q → Q → ℕ → Type 0
-    asked s t n = IsRunOf g.may_ask g.answers n (seen s).judge (seen t).judge
+    pub asks : AsksWithin (λ s t n. IsRunOf g.may_ask g.answers n (seen s).judge (seen t).judge) (λ s. length (neighbours (chars (seen s).text))) true s t
+    asks = calls.asks_seen _ _ _ (λ q. in_characters (seen q)) s t
+        (list.asks g e (in_characters (seen s)) (option_map chars (option_map bytes r)) (in_characters (seen t)) here)
 
-    abbrev due : Q → ℕ
-    due s = length (neighbours (chars (seen s).text))
-
-    pub front_asks : (s : Q) (r : Option I) (t : Q) → FrontTextCall g (seen s) (option_map bytes r) (seen t) → AsksWithin asked due true s t
-    front_asks s r t h =
-        let a = list.front_asks g (in_characters (seen s)) (option_map chars (option_map bytes r)) (in_characters (seen t)) (front_call (seen s) (seen t) (option_map bytes r) h) in
-        record { number = a.number; asks = a.asks; most = a.most; all = a.all }
-
-    pub back_asks : (s : Q) (r : Option I) (t : Q) → BackTextCall g (seen s) (option_map bytes r) (seen t) → AsksWithin asked due true s t
-    back_asks s r t h =
-        let a = list.back_asks g (in_characters (seen s)) (option_map chars (option_map bytes r)) (in_characters (seen t)) (back_call (seen s) (seen t) (option_map bytes r) h) in
-        record { number = a.number; asks = a.asks; most = a.most; all = a.all }
+  -- and by bytes
+  pub bytes_part : {Q I : Type 0} (seen : Q → TextGroups J) (bytes : I → List ℕ) (s : Q) (r : Option I) (t : Q)
+      → TextCallAt g e (seen s) (option_map bytes r) (seen t) → TakesPart e (seen s).text (option_map bytes r) (seen t).text
+  bytes_part seen bytes s None t h = (h.0, ap (λ u. u.text) h.1 ∙ h.0)
+  bytes_part seen bytes s (Some x) t h = (λ e. omega (arith, h.nonempty, ap length e), h.cut)

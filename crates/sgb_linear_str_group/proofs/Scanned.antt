@@ -1,22 +1,19 @@
 -- A scan of a text's characters, question by question.
-use Rattle.std.proofs.Common.{◌≡◌, ℕ, zero, suc, ◌+◌, ◌<◌, Bool, true, false, List, [], ◌∷◌, ◌++◌, length, take, drop, reverse, refl, sym, ap, ◌∙◌, subst, arith, append_assoc, length-append, take_all}
+use Rattle.std.proofs.Common.{◌≡◌, ℕ, ◌+◌, ◌-◌, ◌<◌, Bool, true, false, List, [], ◌∷◌, ◌++◌, length, take, drop, reverse, refl, sym, ap, ◌∙◌, subst, arith, append_assoc, length-append, take_all}
 use Rattle.std.specs.Str.{chars, IsUtf8, IsCharBoundary}
 use Rattle.std.specs.Char.{encode_utf8, len_utf8}
 use Rattle.std.proofs.lemmas.Str.{chars-nil, length-encode, IsCharBoundary-start, IsCharBoundary-end}
 use Rattle.std.proofs.lemmas.List.{length-reverse}
 use Rattle.std.proofs.Math.ListN.{drop_of_length-le}
 use Rattle.sgb_search.specs.declared.judge.Judge.{Ghosts}
-use Rattle.sgb_search.specs.Runs.{IsRun}
-use Rattle.sgb_search.specs.Neighbours.{neighbours, AreNeighbours, front_questions, back_questions}
-use Rattle.sgb_search.specs.Judges.{MayAskAlong}
+use Rattle.sgb_search.specs.Judges.{IsRun}
+use Rattle.sgb_search.specs.Lists.{neighbours, AreNeighbours}
+use Rattle.sgb_search.specs.Linear.{questions, MayAskAlong}
+use Rattle.sgb_search.specs.declared.end.End.TheVariants.{Front, Back}
 use Rattle.sgb_search.proofs.Runs.{may_now, may_next}
 use Rattle.sgb_search.proofs.Pairs.{PairAt, pair_between, at_reverse, one_of_at, length-neighbours}
 use Rattle.sgb_search.proofs.Scanning.{Accepted, accepted_none, accepted_more, refused_next, accepted_all}
 use Rattle.sgb_linear_str_group.proofs.Characters.{chars_parts, boundary_after, rest_after, chars_after, boundary_before, rest_before, chars_before}
-
-past : (text : List ℕ) (place m : ℕ) → length (chars (take place text)) ≡ m + 1 → 0 < place
-past text zero m e = absurd (omega (arith, e, ap length chars-nil))
-past text (suc place) m e = omega arith
 
 module _ {J : Type 0} (g : Ghosts J ℕ) (text : List ℕ) where
   -- one question more about neighbours
@@ -86,15 +83,11 @@ module _ {J : Type 0} (g : Ghosts J ℕ) (text : List ℕ) (u : IsUtf8 text) (j 
             r,
           )
 
-      pub front_refused : (m : J) → g.answers k (left, right) false m → IsRun g.may_ask g.answers j (front_questions (chars text) (length (chars (take place text)))) m
+      pub front_refused : (m : J) → g.answers k (left, right) false m → IsRun g.may_ask g.answers j (questions Front (chars text) (length (chars (take place text)))) m
       front_refused m a =
           refused_next _ _ (neighbours (chars text)) j (length s.seen) k m (left, right) s.accepted front_here (may_ask_next g text left right front_near k s.callable) a _ count_front
 
-    -- a group has a character
-    pub front_past : 0 < place
-    front_past = past text place (length s.seen) count_front
-
-    pub front_all : drop place text ≡ [] → IsRun g.may_ask g.answers j (front_questions (chars text) (length (chars (take (length text) text)))) k
+    pub front_all : drop place text ≡ [] → IsRun g.may_ask g.answers j (questions Front (chars text) (length (chars (take (length text) text)))) k
     front_all e =
         let n : length (chars text) ≡ length s.seen + 1 = omega (arith, ap length s.whole, length-append s.seen (left ∷ chars (drop place text)), ap (λ l. length (chars l)) e, ap length chars-nil) in
         accepted_all _ _ (neighbours (chars text)) j (length s.seen) k s.accepted (omega (arith, n, length-neighbours (chars text))) _
@@ -122,6 +115,10 @@ module _ {J : Type 0} (g : Ghosts J ℕ) (text : List ℕ) (u : IsUtf8 text) (j 
     count_back : length (chars (drop place text)) ≡ length s.later + 1
     count_back = omega (arith, ap length (chars_parts text u place s.boundary), length-append (chars (take place text)) (chars (drop place text)), ap length s.whole, length-append (chars (take place text)) (right ∷ s.later))
 
+    -- so many bytes from the end
+    from_place : drop (length text - (length text - place)) text ≡ drop place text
+    from_place = ap (λ (n : ℕ). drop n text) {x = length text - (length text - place)} {y = place} (omega (arith, s.boundary.0))
+
     module _ (left : ℕ) (rest : List ℕ) (e : take place text ≡ rest ++ encode_utf8 left) where
       whole_back : chars text ≡ chars rest ++ left ∷ right ∷ s.later
       whole_back = s.whole ∙ ap (λ l. l ++ right ∷ s.later) (chars_before text u place left rest s.boundary e) ∙ append_assoc (chars rest) (left ∷ []) (right ∷ s.later)
@@ -148,9 +145,10 @@ module _ {J : Type 0} (g : Ghosts J ℕ) (text : List ℕ) (u : IsUtf8 text) (j 
             r,
           )
 
-      pub back_refused : (m : J) → g.answers k (left, right) false m → IsRun g.may_ask g.answers j (back_questions (chars text) (length (chars (drop place text)))) m
+      pub back_refused : (m : J) → g.answers k (left, right) false m
+          → IsRun g.may_ask g.answers j (questions Back (chars text) (length (chars (drop (length text - (length text - place)) text)))) m
       back_refused m a =
-          refused_next _ _ (reverse (neighbours (chars text))) j (length s.later) k m (left, right) s.accepted back_here (may_ask_next g text left right back_near k s.callable) a _ count_back
+          rw from_place (refused_next _ _ (reverse (neighbours (chars text))) j (length s.later) k m (left, right) s.accepted back_here (may_ask_next g text left right back_near k s.callable) a _ count_back)
 
     pub back_before : place < length text
     back_before = omega (arith, s.boundary.0, before_end)
@@ -161,7 +159,8 @@ module _ {J : Type 0} (g : Ghosts J ℕ) (text : List ℕ) (u : IsUtf8 text) (j 
             drop_all : place ≡ length text → drop place text ≡ []
             drop_all e = drop_of_length-le text {i = place} (omega (arith, e))
 
-    pub back_all : take place text ≡ [] → IsRun g.may_ask g.answers j (back_questions (chars text) (length (chars (drop place text)))) k
+    pub back_all : take place text ≡ [] → IsRun g.may_ask g.answers j (questions Back (chars text) (length (chars (drop (length text - (length text - place)) text)))) k
     back_all e =
         let n : length (chars text) ≡ length s.later + 1 = omega (arith, ap length s.whole, length-append (chars (take place text)) (right ∷ s.later), ap (λ l. length (chars l)) e, ap length chars-nil) in
-        accepted_all _ _ (reverse (neighbours (chars text))) j (length s.later) k s.accepted (omega (arith, n, length-reverse (neighbours (chars text)), length-neighbours (chars text))) _ count_back
+        rw from_place (accepted_all _ _ (reverse (neighbours (chars text))) j (length s.later) k s.accepted
+        (omega (arith, n, length-reverse (neighbours (chars text)), length-neighbours (chars text))) _ count_back)

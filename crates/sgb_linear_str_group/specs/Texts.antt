@@ -1,11 +1,14 @@
 -- What an iterator over groups of a text shows, and what its calls give. A text is its bytes, and questions are about its characters.
-use Rattle.std.specs.Prelude.{◌≡◌, ℕ, ◌<◌, Bool, List, [], ◌++◌, length, Option, MatchOption, option_copied}
+use Rattle.std.specs.Prelude.{◌≡◌, ℕ, ◌<◌, Bool, ◌&&◌, ◌||◌, if◌then◌else◌, List, [], length, nat_lt, nat_le, slice_index, slice_range, Option, MatchOption}
 use Rattle.std.specs.Borrow.{Bor}
 use Rattle.std.specs.Iterator.{Count, at_most}
 use Rattle.std.specs.Str.{chars, IsUtf8}
 use Rattle.sgb_search.specs.declared.judge.Judge.{Ghosts}
-use Rattle.sgb_search.specs.LinearCalls.{IsCallable, IsSettled, IsFrontGroup, IsBackGroup}
-use Rattle.sgb_search.specs.Groups.{Groups}
+use Rattle.sgb_search.specs.declared.end.End.{End}
+use Rattle.sgb_search.specs.Lists.{put_at}
+use Rattle.sgb_search.specs.Calls.{IsGroupAt, Groups}
+use Rattle.sgb_search.specs.Linear.{IsCallable, IsSettled, LinearQuestions}
+use Rattle.sgb_linear_str_group.specs.declared.groups.LinearStrGroups.{LinearStrGroups}
 
 -- the bytes that it has not handed out yet, and its judge
 pub record TextGroups (J : Type 0) : Type 0 where
@@ -15,6 +18,24 @@ pub record TextGroups (J : Type 0) : Type 0 where
 -- the same by characters
 abbrev pub in_characters : {J : Type 0} → TextGroups J → Groups ℕ J
 in_characters s = record { remainder = chars s.text; judge = s.judge }
+
+-- whether the place lies between characters, as `IsCharBoundary` says: a character begins with a byte below 128 or from 192 on,
+-- and 0 stands for the byte at the end of the text
+abbrev pub lies_between_characters : List ℕ → ℕ → Bool
+lies_between_characters text place =
+    nat_le place (length text) && (nat_lt (slice_index text place) 128 || nat_le 192 (slice_index text place))
+
+-- the part of a text from `low` up to `high`, where both lie between characters and in this order, and else the empty text:
+-- what `get` gives
+unfoldable pub text_between : List ℕ → ℕ → ℕ → List ℕ
+text_between text low high =
+    if nat_le low high && (lies_between_characters text low && lies_between_characters text high)
+    then slice_range text low high
+    else []
+
+-- what contracts see of an iterator for reading: the bytes that it has not handed out yet, and its judge
+abbrev pub shown_text : {J : Type 0} → LinearStrGroups J → TextGroups J
+shown_text s = record { text = text_between s.string.now s.low s.high; judge = s.judge }
 
 -- no more groups come than bytes remain
 abbrev pub text_groups_left : {J : Type 0} → TextGroups J → Count
@@ -29,33 +50,18 @@ module _ {J : Type 0} (g : Ghosts J ℕ) where
   abbrev pub IsSettledText : TextGroups J → (ℕ → ℕ → Bool) → Type 0
   IsSettledText s p = IsSettled g (in_characters s) p
 
-  -- by characters, a group and a rest as a call at the front of a list gives them; by bytes, the text is cut in two between characters
-  pub record IsFrontText (s : TextGroups J) (group : List ℕ) (t : TextGroups J) : Type 0 where
-    pub characters : IsFrontGroup g (in_characters s) (chars group) (in_characters t)
-    pub cut : s.text ≡ group ++ t.text
+  -- by characters, a group and a rest as a linear call at the end of a list gives them; by bytes, the text is cut in two between characters
+  pub record IsTextAt (e : End) (s : TextGroups J) (group : List ℕ) (t : TextGroups J) : Type 0 where
+    pub characters : IsGroupAt (LinearQuestions g) e (in_characters s) (chars group) (in_characters t)
+    pub cut : s.text ≡ put_at e group t.text
     pub nonempty : 0 < length group
     pub group_utf8 : IsUtf8 group
     pub rest_utf8 : IsUtf8 t.text
 
-  -- the same at the back
-  pub record IsBackText (s : TextGroups J) (group : List ℕ) (t : TextGroups J) : Type 0 where
-    pub characters : IsBackGroup g (in_characters s) (chars group) (in_characters t)
-    pub cut : s.text ≡ t.text ++ group
-    pub nonempty : 0 < length group
-    pub group_utf8 : IsUtf8 group
-    pub rest_utf8 : IsUtf8 t.text
+  -- a call: it gives the group there, or `None` exactly where nothing remains, and then nothing is asked and nothing changes
+  abbrev pub TextCallAt : End → TextGroups J → Option (List ℕ) → TextGroups J → Type 0
+  TextCallAt e s group t = MatchOption group ((s.text ≡ []) × (t ≡ s)) (λ x. IsTextAt e s x t)
 
-  -- a call at the front: it gives the group there, or `None` exactly where nothing remains, and then nothing is asked and nothing changes
-  abbrev pub FrontTextCall : TextGroups J → Option (List ℕ) → TextGroups J → Type 0
-  FrontTextCall s group t = MatchOption group ((s.text ≡ []) × (t ≡ s)) (λ x. IsFrontText s x t)
-
-  -- a call at the back
-  abbrev pub BackTextCall : TextGroups J → Option (List ℕ) → TextGroups J → Type 0
-  BackTextCall s group t = MatchOption group ((s.text ≡ []) × (t ≡ s)) (λ x. IsBackText s x t)
-
-  -- what `next` gives for reading, and `next_back`
-  abbrev pub GivesFrontText : TextGroups J → Option (Bor (List ℕ)) → TextGroups J → Type 0
-  GivesFrontText s group t = FrontTextCall s (option_copied group) t
-
-  abbrev pub GivesBackText : TextGroups J → Option (Bor (List ℕ)) → TextGroups J → Type 0
-  GivesBackText s group t = BackTextCall s (option_copied group) t
+  -- what a call at the end gives for reading: the same of what it shows, and where it gives `None` nothing at all changes
+  abbrev pub GivesText : End → LinearStrGroups J → Option (Bor (List ℕ)) → LinearStrGroups J → Type 0
+  GivesText e s group t = MatchOption group (((shown_text s).text ≡ []) × (t ≡ s)) (λ x. IsTextAt e (shown_text s) x.now (shown_text t))

@@ -1,17 +1,18 @@
 //! Linear groups of a text for reading, over any judge of characters.
-ghost use Rattle.std.specs.Prelude.{◌≡◌, ℕ, Bool, length, nat_eq, IfSome};
+ghost use Rattle.std.specs.Prelude.{◌≡◌, ◌<◌, ◌+◌, ◌^◌, length, nat_eq, IfSome};
 ghost use Rattle.std.specs.Iterator.{UpTo};
 ghost use Rattle.std.specs.Iterator.SizeHint.{IsWithinCount};
-ghost use Rattle.sgb_linear_str_group.specs.Texts.{TextGroups, text_groups_left};
+ghost use Rattle.sgb_search.specs.declared.end.End.TheVariants.{Front, Back};
+ghost use Rattle.sgb_linear_str_group.specs.Texts.{text_between, shown_text, text_groups_left};
 
-use crate::scan::{back_start, front_end};
+use crate::scan::{first_len, last_len};
+use sgb_search::end::End;
 use sgb_search::judge::Judge;
 use std::iter::FusedIterator;
-use std::marker::Model;
 
 /// An iterator over the groups of a text, from both ends, that asks its judge about neighbouring characters.
 ///
-/// Contracts see of it the bytes that it has not handed out yet, its `text`, and its `judge`.
+/// Contracts see of it, as `shown_text`, the bytes that it has not handed out yet and its judge.
 ///
 /// A call asks about the neighbouring characters of the remainder from its end on, the left one first from both ends, up
 /// to the first pair that the judge refuses. So a group of g characters costs g questions, or g - 1 if nothing remains
@@ -19,29 +20,28 @@ use std::marker::Model;
 #[derive(Drop)]
 pub struct LinearStrGroups<'a, J> {
     string: &'a str,
-    // The remainder lies from the byte `low` up to the byte `high`.
+    // The remainder lies from the byte `low` up to the byte `high`; it is empty where these do not lie between characters in
+    // this order. That is asked of `get` at each call, since nothing is known of the places: an invariant of this struct would
+    // hide from a caller what the judge's closure captured by `&mut`.
     low: usize,
     high: usize,
     judge: J,
 }
 
-impl<'a, J> Model for LinearStrGroups<'a, J> {
-    ghost use Rattle.std.specs.Prelude.{◌≤◌, slice_range};
-    ghost use Rattle.std.specs.Str.{IsCharBoundary};
-    ghost use Rattle.sgb_linear_str_group.specs.Texts.{TextGroups};
-
-    ghost Value = { TextGroups J };
-
-    ghost view = { λ s. record { text = slice_range s.string.now s.low s.high; judge = s.judge } };
-
-    ghost invariant = { λ s. record { order : s.low ≤ s.high; low : IsCharBoundary s.string.now s.low; high : IsCharBoundary s.string.now s.high } };
+// The part of a text between two places, and the empty text where they do not lie between characters in order.
+#[inline]
+fn part(string: &str, low: usize, high: usize) -> &str
+    ensures value { result.now ≡ text_between string.now low high }
+    ensures fits { low + length result.now < 2 ^ 64 }
+{
+    string.get(low..high).unwrap_or("")
 }
 
 impl<'a, J> LinearStrGroups<'a, J> {
     // All groups of the text are still to come.
     #[inline]
     pub(crate) fn over(string: &'a str, judge: J) -> Self
-        ensures text { result.text ≡ string.now }
+        ensures text { (shown_text result).text ≡ string.now }
         ensures judge { result.judge ≡ judge }
     {
         LinearStrGroups {
@@ -54,15 +54,16 @@ impl<'a, J> LinearStrGroups<'a, J> {
 
     #[inline]
     fn rest(&self) -> &'a str
-        ensures { result.now ≡ self.now.text }
+        ensures value { result.now ≡ (shown_text self.now).text }
+        ensures fits { self.now.low + length result.now < 2 ^ 64 }
     {
-        &self.string[self.low..self.high]
+        part(self.string, self.low, self.high)
     }
 
     /// The characters that no call has handed out yet.
     #[inline]
     pub fn as_str(&self) -> &str
-        ensures { result.now ≡ self.now.text }
+        ensures { result.now ≡ (shown_text self.now).text }
     {
         self.rest()
     }
@@ -70,100 +71,97 @@ impl<'a, J> LinearStrGroups<'a, J> {
     /// How many bytes no call has handed out yet.
     #[inline]
     pub fn remainder_len(&self) -> usize
-        ensures { result ≡ length self.now.text }
+        ensures { result ≡ length (shown_text self.now).text }
     {
-        self.high - self.low
+        self.as_str().len()
     }
 
     /// Whether all characters are handed out.
     #[inline]
     pub fn is_empty(&self) -> bool
-        ensures { result ≡ nat_eq (length self.now.text) 0 }
+        ensures { result ≡ nat_eq (length (shown_text self.now).text) 0 }
     {
         self.remainder_len() == 0
     }
 }
 
 impl<'a, J: Judge<char>> LinearStrGroups<'a, J> {
-    ghost use Rattle.sgb_linear_str_group.specs.Texts.{IsCallableText, GivesFrontText, GivesBackText};
+    ghost use Rattle.sgb_linear_str_group.specs.Texts.{IsCallableText, GivesText};
 
+    // The group at the end.
     #[inline]
-    fn take_front(&mut self) -> Option<&'a str>
-        requires { IsCallableText J.Judge self.old }
-        ensures gives { GivesFrontText J.Judge self.old result self.new }
-        ensures callable { IsCallableText J.Judge self.new }
+    fn take(&mut self, end: &End) -> Option<&'a str>
+        requires { IsCallableText J.Judge (shown_text self.old) }
+        ensures gives { GivesText J.Judge end.now self.old result self.new }
+        ensures callable { IsCallableText J.Judge (shown_text self.new) }
     {
-        if self.low == self.high {
+        let rest = self.rest();
+        if rest.is_empty() {
             return None;
         }
-        let end = self.low + front_end(self.rest(), &mut self.judge);
-        let group = &self.string[self.low..end];
-        self.low = end;
-        Some(group)
-    }
-
-    #[inline]
-    fn take_back(&mut self) -> Option<&'a str>
-        requires { IsCallableText J.Judge self.old }
-        ensures gives { GivesBackText J.Judge self.old result self.new }
-        ensures callable { IsCallableText J.Judge self.new }
-    {
-        if self.low == self.high {
-            return None;
+        match end {
+            End::Front => {
+                let len = first_len(rest, &mut self.judge);
+                let (group, _) = rest.split_at(len);
+                self.low += len;
+                Some(group)
+            }
+            End::Back => {
+                let start = rest.len() - last_len(rest, &mut self.judge);
+                let (_, group) = rest.split_at(start);
+                self.high = self.low + start;
+                Some(group)
+            }
         }
-        let start = self.low + back_start(self.rest(), &mut self.judge);
-        let group = &self.string[start..self.high];
-        self.high = start;
-        Some(group)
     }
 }
 
 impl<'a, J: Judge<char> + Drop> Iterator for LinearStrGroups<'a, J> {
     type Item = &'a str;
 
-    ghost use Rattle.sgb_linear_str_group.specs.Texts.{IsCallableText, GivesFrontText};
+    ghost use Rattle.sgb_linear_str_group.specs.Texts.{IsCallableText, GivesText};
 
-    ghost can_next = { IsCallableText J.Judge };
+    ghost can_next = { λ s. IsCallableText J.Judge (shown_text s) };
 
-    ghost next_gives = { GivesFrontText J.Judge };
+    ghost next_gives = { GivesText J.Judge Front };
 
-    ghost remaining = { text_groups_left };
+    ghost remaining = { λ s. text_groups_left (shown_text s) };
 
     /// The first group of the remainder, or `None` where nothing remains.
     #[inline]
     fn next(&mut self) -> Option<&'a str> {
-        self.take_front()
+        self.take(&End::Front)
     }
 
     /// `(0, None)`, which says nothing of how many groups come.
     #[inline]
     fn size_hint(&self) -> (usize, Option<usize>)
         ensures value { result ≡ (0, None) }
-        ensures lower { IsWithinCount result.0 (text_groups_left self.now) }
-        ensures upper { IfSome result.1 (UpTo (text_groups_left self.now)) }
+        ensures lower { IsWithinCount result.0 (text_groups_left (shown_text self.now)) }
+        ensures upper { IfSome result.1 (UpTo (text_groups_left (shown_text self.now))) }
     {
         (0, None)
     }
 }
 
 impl<'a, J: Judge<char> + Drop> DoubleEndedIterator for LinearStrGroups<'a, J> {
-    ghost use Rattle.sgb_linear_str_group.specs.Texts.{IsCallableText, GivesBackText};
+    ghost use Rattle.sgb_linear_str_group.specs.Texts.{IsCallableText, GivesText};
 
-    ghost can_next_back = { IsCallableText J.Judge };
+    ghost can_next_back = { λ s. IsCallableText J.Judge (shown_text s) };
 
-    ghost next_back_gives = { GivesBackText J.Judge };
+    ghost next_back_gives = { GivesText J.Judge Back };
 
     /// The last group of the remainder, or `None` where nothing remains.
     #[inline]
     fn next_back(&mut self) -> Option<&'a str> {
-        self.take_back()
+        self.take(&End::Back)
     }
 }
 
 impl<'a, J: Judge<char> + Drop> FusedIterator for LinearStrGroups<'a, J> {}
 
 impl<'a, J: Judge<char> + Drop> LinearStrGroups<'a, J> {
-    ghost use Rattle.sgb_linear_str_group.specs.Texts.{IsCallableText, GivesBackText};
+    ghost use Rattle.sgb_linear_str_group.specs.Texts.{IsCallableText, GivesText};
 
     /// The last group of the remainder, or `None` where nothing remains: what `next_back` gives. The iterator is given up.
     ///
@@ -172,8 +170,8 @@ impl<'a, J: Judge<char> + Drop> LinearStrGroups<'a, J> {
     /// the last group alone.
     #[inline]
     pub fn last(mut self) -> Option<&'a str>
-        requires { IsCallableText J.Judge self }
-        ensures { (t : TextGroups J) × GivesBackText J.Judge self.entry result t }
+        requires { IsCallableText J.Judge (shown_text self) }
+        ensures { (t : LinearStrGroups J) × GivesText J.Judge Back self.entry result t }
     {
         self.next_back()
     }

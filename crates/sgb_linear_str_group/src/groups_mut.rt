@@ -1,13 +1,15 @@
 //! Linear groups of a text's bytes for writing, over any judge of characters.
-ghost use Rattle.std.specs.Prelude.{◌≡◌, ℕ, Bool, true, false, [], ◌∷◌, ◌++◌, drop, length, nat_eq, IfSome};
+ghost use Rattle.std.specs.Prelude.{◌≡◌, ℕ, Bool, [], ◌∷◌, ◌++◌, drop, length, nat_eq, IfSome};
 ghost use Rattle.std.specs.Iterator.{UpTo};
 ghost use Rattle.std.specs.Iterator.SizeHint.{IsWithinCount};
 ghost use Rattle.std.specs.Str.{IsUtf8};
+ghost use Rattle.sgb_search.specs.declared.end.End.TheVariants.{Front, Back};
 ghost use Rattle.sgb_loans.specs.GroupsMut.{NothingOut};
 ghost use Rattle.sgb_linear_str_group.specs.TextsMut.{TextGroupsMut, text_groups_mut_left};
 
-use crate::scan::{back_start, front_end};
+use crate::scan::{first_len, last_len};
 use sgb_loans::loans::{Ended, Loans};
+use sgb_search::end::End;
 use sgb_search::judge::Judge;
 use std::iter::FusedIterator;
 use std::marker::Model;
@@ -95,38 +97,34 @@ impl<'a, J> LinearStrGroupsMut<'a, J> {
 }
 
 impl<'a, J: Judge<char>> LinearStrGroupsMut<'a, J> {
-    ghost use Rattle.sgb_linear_str_group.specs.TextsMut.{IsCallableTextMut, GivesFrontTextMut, GivesBackTextMut};
+    ghost use Rattle.sgb_linear_str_group.specs.Texts.{IsCallableText};
+    ghost use Rattle.sgb_linear_str_group.specs.TextsMut.{seen_text, GivesTextMut};
 
+    // The group at the end.
     #[inline]
-    fn take_front(&mut self) -> Option<&'a mut [u8]>
-        requires { IsCallableTextMut J.Judge self.old }
-        ensures gives { GivesFrontTextMut J.Judge self.old result self.new }
-        ensures callable { IsCallableTextMut J.Judge self.new }
+    fn take(&mut self, end: &End) -> Option<&'a mut [u8]>
+        requires { IsCallableText J.Judge (seen_text self.old) }
+        ensures gives { GivesTextMut J.Judge end.now self.old result self.new }
+        ensures callable { IsCallableText J.Judge (seen_text self.new) }
     {
         if self.bytes.len() == 0 {
             return None;
         }
         let all = mem::take(&mut self.bytes);
-        let end = front_end(text_of(all), &mut self.judge);
-        let (group, rest) = self.loans.cut_front(all, end);
-        self.bytes = rest;
-        Some(group)
-    }
-
-    #[inline]
-    fn take_back(&mut self) -> Option<&'a mut [u8]>
-        requires { IsCallableTextMut J.Judge self.old }
-        ensures gives { GivesBackTextMut J.Judge self.old result self.new }
-        ensures callable { IsCallableTextMut J.Judge self.new }
-    {
-        if self.bytes.len() == 0 {
-            return None;
+        match end {
+            End::Front => {
+                let len = first_len(text_of(all), &mut self.judge);
+                let (group, rest) = self.loans.cut_front(all, len);
+                self.bytes = rest;
+                Some(group)
+            }
+            End::Back => {
+                let start = all.len() - last_len(text_of(all), &mut self.judge);
+                let (rest, group) = self.loans.cut_back(all, start);
+                self.bytes = rest;
+                Some(group)
+            }
         }
-        let all = mem::take(&mut self.bytes);
-        let start = back_start(text_of(all), &mut self.judge);
-        let (rest, group) = self.loans.cut_back(all, start);
-        self.bytes = rest;
-        Some(group)
     }
 }
 
@@ -134,7 +132,7 @@ impl<'a, J: Drop> LinearStrGroupsMut<'a, J> {
     /// Takes note of how the oldest group that is out was left, which came off at the front.
     #[inline]
     pub fn note_front(&mut self, group: Ended<'_, u8>)
-        requires { self.old.loans.cuts ≡ (true, group.name) ∷ drop 1 self.old.loans.cuts }
+        requires { self.old.loans.cuts ≡ (Front, group.name) ∷ drop 1 self.old.loans.cuts }
         ensures text { self.new.text ≡ self.old.text }
         ensures judge { self.new.judge ≡ self.old.judge }
         ensures root { self.new.loans.root ≡ self.old.loans.root }
@@ -148,7 +146,7 @@ impl<'a, J: Drop> LinearStrGroupsMut<'a, J> {
     /// Takes note of how the oldest group that is out was left, which came off at the back.
     #[inline]
     pub fn note_back(&mut self, group: Ended<'_, u8>)
-        requires { self.old.loans.cuts ≡ (false, group.name) ∷ drop 1 self.old.loans.cuts }
+        requires { self.old.loans.cuts ≡ (Back, group.name) ∷ drop 1 self.old.loans.cuts }
         ensures text { self.new.text ≡ self.old.text }
         ensures judge { self.new.judge ≡ self.old.judge }
         ensures root { self.new.loans.root ≡ self.old.loans.root }
@@ -178,11 +176,12 @@ impl<'a, J: Drop> LinearStrGroupsMut<'a, J> {
 impl<'a, J: Judge<char> + Drop> Iterator for LinearStrGroupsMut<'a, J> {
     type Item = &'a mut [u8];
 
-    ghost use Rattle.sgb_linear_str_group.specs.TextsMut.{IsCallableTextMut, GivesFrontTextMut};
+    ghost use Rattle.sgb_linear_str_group.specs.Texts.{IsCallableText};
+    ghost use Rattle.sgb_linear_str_group.specs.TextsMut.{seen_text, GivesTextMut};
 
-    ghost can_next = { IsCallableTextMut J.Judge };
+    ghost can_next = { λ s. IsCallableText J.Judge (seen_text s) };
 
-    ghost next_gives = { GivesFrontTextMut J.Judge };
+    ghost next_gives = { GivesTextMut J.Judge Front };
 
     ghost remaining = { text_groups_mut_left };
 
@@ -190,7 +189,7 @@ impl<'a, J: Judge<char> + Drop> Iterator for LinearStrGroupsMut<'a, J> {
     /// questions, or g - 1 where nothing remains after it.
     #[inline]
     fn next(&mut self) -> Option<&'a mut [u8]> {
-        self.take_front()
+        self.take(&End::Front)
     }
 
     /// `(0, None)`, which says nothing of how many groups come.
@@ -205,24 +204,26 @@ impl<'a, J: Judge<char> + Drop> Iterator for LinearStrGroupsMut<'a, J> {
 }
 
 impl<'a, J: Judge<char> + Drop> DoubleEndedIterator for LinearStrGroupsMut<'a, J> {
-    ghost use Rattle.sgb_linear_str_group.specs.TextsMut.{IsCallableTextMut, GivesBackTextMut};
+    ghost use Rattle.sgb_linear_str_group.specs.Texts.{IsCallableText};
+    ghost use Rattle.sgb_linear_str_group.specs.TextsMut.{seen_text, GivesTextMut};
 
-    ghost can_next_back = { IsCallableTextMut J.Judge };
+    ghost can_next_back = { λ s. IsCallableText J.Judge (seen_text s) };
 
-    ghost next_back_gives = { GivesBackTextMut J.Judge };
+    ghost next_back_gives = { GivesTextMut J.Judge Back };
 
     /// The bytes of the last group of the remainder, or `None` where nothing remains. For a group of g characters it asks g
     /// questions, or g - 1 where nothing remains before it.
     #[inline]
     fn next_back(&mut self) -> Option<&'a mut [u8]> {
-        self.take_back()
+        self.take(&End::Back)
     }
 }
 
 impl<'a, J: Judge<char> + Drop> FusedIterator for LinearStrGroupsMut<'a, J> {}
 
 impl<'a, J: Judge<char> + Drop> LinearStrGroupsMut<'a, J> {
-    ghost use Rattle.sgb_linear_str_group.specs.TextsMut.{IsCallableTextMut, GivesBackTextMut};
+    ghost use Rattle.sgb_linear_str_group.specs.Texts.{IsCallableText};
+    ghost use Rattle.sgb_linear_str_group.specs.TextsMut.{seen_text, GivesTextMut};
 
     /// The bytes of the last group of the remainder, or `None` where nothing remains: what `next_back` gives, by its
     /// questions. The iterator is given up. `Iterator::last` walks all groups from the front.
@@ -232,8 +233,8 @@ impl<'a, J: Judge<char> + Drop> LinearStrGroupsMut<'a, J> {
     /// `next_back`, take note of the group, and `finish`.
     #[inline]
     pub fn last(mut self) -> Option<&'a mut [u8]>
-        requires { IsCallableTextMut J.Judge self }
-        ensures { (t : TextGroupsMut J) × GivesBackTextMut J.Judge self.entry result t }
+        requires { IsCallableText J.Judge (seen_text self) }
+        ensures { (t : TextGroupsMut J) × GivesTextMut J.Judge Back self.entry result t }
     {
         self.next_back()
     }

@@ -16,15 +16,15 @@ use sgb_search::judge::EqualityJudge;
 pub type LinearStrGroup<'a> = LinearStrGroups<'a, EqualityJudge>;
 
 impl<'a> LinearStrGroups<'a, EqualityJudge> {
-    ghost use Rattle.sgb_linear_str_group.specs.Texts.{IsCallableText, IsSettledText};
+    ghost use Rattle.sgb_linear_str_group.specs.Texts.{shown_text, IsCallableText, IsSettledText};
 
     /// All groups of equal characters of the text, which are still to come. Nothing is asked yet.
     #[inline]
     pub fn new(string: &'a str) -> Self
-        ensures text { result.text ≡ string.now }
+        ensures text { (shown_text result).text ≡ string.now }
         ensures asked { result.judge.questions.asked ≡ 0 }
-        ensures callable { IsCallableText (by_equality nat_eq) result }
-        ensures settled { IsSettledText (by_equality nat_eq) result nat_eq }
+        ensures callable { IsCallableText (by_equality nat_eq) (shown_text result) }
+        ensures settled { IsSettledText (by_equality nat_eq) (shown_text result) nat_eq }
     {
         LinearStrGroups::over(string, EqualityJudge::new())
     }

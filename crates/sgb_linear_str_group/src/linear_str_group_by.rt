@@ -17,7 +17,7 @@ use sgb_search::judge::CharPredicateJudge;
 pub type LinearStrGroupBy<'a, P> = LinearStrGroups<'a, CharPredicateJudge<P>>;
 
 impl<'a, P: FnMut(char, char) -> bool> LinearStrGroups<'a, CharPredicateJudge<P>> {
-    ghost use Rattle.sgb_linear_str_group.specs.Texts.{IsCallableText, IsSettledText};
+    ghost use Rattle.sgb_linear_str_group.specs.Texts.{shown_text, IsCallableText, IsSettledText};
 
     /// All groups of the text by the predicate, which are still to come. Nothing is asked yet.
     ///
@@ -30,9 +30,10 @@ impl<'a, P: FnMut(char, char) -> bool> LinearStrGroups<'a, CharPredicateJudge<P>
     #[inline]
     pub fn new(string: &'a str, predicate: P) -> Self
         requires { IsCallableText (by_char_predicate P.FnMut) (record { text = string.now; judge = char_predicate_judge predicate }) }
-        ensures is { result ≡ record { text = string.now; judge = char_predicate_judge predicate } }
-        ensures callable { IsCallableText (by_char_predicate P.FnMut) result }
-        ensures settled { (p : ℕ → ℕ → Bool) → ComputesOnChars P.FnMut p predicate → IsSettledText (by_char_predicate P.FnMut) result p }
+        ensures text { (shown_text result).text ≡ string.now }
+        ensures judge { result.judge ≡ char_predicate_judge predicate }
+        ensures callable { IsCallableText (by_char_predicate P.FnMut) (shown_text result) }
+        ensures settled { (p : ℕ → ℕ → Bool) → ComputesOnChars P.FnMut p predicate → IsSettledText (by_char_predicate P.FnMut) (shown_text result) p }
     {
         LinearStrGroups::over(string, CharPredicateJudge { predicate })
     }

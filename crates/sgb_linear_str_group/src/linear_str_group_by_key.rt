@@ -18,7 +18,7 @@ use std::marker::PhantomData;
 pub type LinearStrGroupByKey<'a, F, K> = LinearStrGroups<'a, CharKeyJudge<F, K>>;
 
 impl<'a, K: PartialEq + Drop, F: FnMut(char) -> K> LinearStrGroups<'a, CharKeyJudge<F, K>> {
-    ghost use Rattle.sgb_linear_str_group.specs.Texts.{IsCallableText, IsSettledText};
+    ghost use Rattle.sgb_linear_str_group.specs.Texts.{shown_text, IsCallableText, IsSettledText};
 
     /// All groups of the text by the key, which are still to come. Nothing is asked yet.
     ///
@@ -32,9 +32,10 @@ impl<'a, K: PartialEq + Drop, F: FnMut(char) -> K> LinearStrGroups<'a, CharKeyJu
     #[inline]
     pub fn new(string: &'a str, func: F) -> Self
         requires { IsCallableText (by_char_key F.FnMut K.eq) (record { text = string.now; judge = char_key_judge func }) }
-        ensures is { result ≡ record { text = string.now; judge = char_key_judge func } }
-        ensures callable { IsCallableText (by_char_key F.FnMut K.eq) result }
-        ensures settled { (key : ℕ → K) → ComputesCharKey F.FnMut key func → IsSettledText (by_char_key F.FnMut K.eq) result (λ x y. K.eq (key x) (key y)) }
+        ensures text { (shown_text result).text ≡ string.now }
+        ensures judge { result.judge ≡ char_key_judge func }
+        ensures callable { IsCallableText (by_char_key F.FnMut K.eq) (shown_text result) }
+        ensures settled { (key : ℕ → K) → ComputesCharKey F.FnMut key func → IsSettledText (by_char_key F.FnMut K.eq) (shown_text result) (λ x y. K.eq (key x) (key y)) }
     {
         LinearStrGroups::over(
             string,

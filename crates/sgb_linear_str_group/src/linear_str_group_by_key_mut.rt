@@ -21,8 +21,8 @@ use std::marker::PhantomData;
 pub type LinearStrGroupByKeyMut<'a, F, K> = LinearStrGroupsMut<'a, CharKeyJudge<F, K>>;
 
 impl<'a, K: PartialEq + Drop, F: FnMut(char) -> K> LinearStrGroupsMut<'a, CharKeyJudge<F, K>> {
-    ghost use Rattle.sgb_linear_str_group.specs.Texts.{IsCallableText};
-    ghost use Rattle.sgb_linear_str_group.specs.TextsMut.{IsCallableTextMut, IsSettledTextMut};
+    ghost use Rattle.sgb_linear_str_group.specs.Texts.{IsCallableText, IsSettledText};
+    ghost use Rattle.sgb_linear_str_group.specs.TextsMut.{seen_text};
 
     /// All groups of the bytes by the key, which are still to come. Nothing is asked yet, and nothing is out.
     ///
@@ -35,8 +35,8 @@ impl<'a, K: PartialEq + Drop, F: FnMut(char) -> K> LinearStrGroupsMut<'a, CharKe
         requires callable { IsCallableText (by_char_key F.FnMut K.eq) (record { text = bytes.old; judge = char_key_judge func }) }
         ensures text { result.text ≡ bytes.old }
         ensures judge { result.judge ≡ char_key_judge func }
-        ensures callable { IsCallableTextMut (by_char_key F.FnMut K.eq) result }
-        ensures settled { (key : ℕ → K) → ComputesCharKey F.FnMut key func → IsSettledTextMut (by_char_key F.FnMut K.eq) result (λ x y. K.eq (key x) (key y)) }
+        ensures callable { IsCallableText (by_char_key F.FnMut K.eq) (seen_text result) }
+        ensures settled { (key : ℕ → K) → ComputesCharKey F.FnMut key func → IsSettledText (by_char_key F.FnMut K.eq) (seen_text result) (λ x y. K.eq (key x) (key y)) }
         ensures loans { NothingOut bytes.entry.ghost_name result.loans }
     {
         LinearStrGroupsMut::over(

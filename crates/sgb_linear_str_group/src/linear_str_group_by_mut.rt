@@ -20,8 +20,8 @@ use sgb_search::judge::CharPredicateJudge;
 pub type LinearStrGroupByMut<'a, P> = LinearStrGroupsMut<'a, CharPredicateJudge<P>>;
 
 impl<'a, P: FnMut(char, char) -> bool> LinearStrGroupsMut<'a, CharPredicateJudge<P>> {
-    ghost use Rattle.sgb_linear_str_group.specs.Texts.{IsCallableText};
-    ghost use Rattle.sgb_linear_str_group.specs.TextsMut.{IsCallableTextMut, IsSettledTextMut};
+    ghost use Rattle.sgb_linear_str_group.specs.Texts.{IsCallableText, IsSettledText};
+    ghost use Rattle.sgb_linear_str_group.specs.TextsMut.{seen_text};
 
     /// All groups of the bytes by the predicate, which are still to come. Nothing is asked yet, and nothing is out.
     ///
@@ -34,8 +34,8 @@ impl<'a, P: FnMut(char, char) -> bool> LinearStrGroupsMut<'a, CharPredicateJudge
         requires callable { IsCallableText (by_char_predicate P.FnMut) (record { text = bytes.old; judge = char_predicate_judge predicate }) }
         ensures text { result.text ≡ bytes.old }
         ensures judge { result.judge ≡ char_predicate_judge predicate }
-        ensures callable { IsCallableTextMut (by_char_predicate P.FnMut) result }
-        ensures settled { (p : ℕ → ℕ → Bool) → ComputesOnChars P.FnMut p predicate → IsSettledTextMut (by_char_predicate P.FnMut) result p }
+        ensures callable { IsCallableText (by_char_predicate P.FnMut) (seen_text result) }
+        ensures settled { (p : ℕ → ℕ → Bool) → ComputesOnChars P.FnMut p predicate → IsSettledText (by_char_predicate P.FnMut) (seen_text result) p }
         ensures loans { NothingOut bytes.entry.ghost_name result.loans }
     {
         LinearStrGroupsMut::over(bytes, CharPredicateJudge { predicate })

@@ -19,7 +19,8 @@ use sgb_search::judge::EqualityJudge;
 pub type LinearStrGroupMut<'a> = LinearStrGroupsMut<'a, EqualityJudge>;
 
 impl<'a> LinearStrGroupsMut<'a, EqualityJudge> {
-    ghost use Rattle.sgb_linear_str_group.specs.TextsMut.{IsCallableTextMut, IsSettledTextMut};
+    ghost use Rattle.sgb_linear_str_group.specs.Texts.{IsCallableText, IsSettledText};
+    ghost use Rattle.sgb_linear_str_group.specs.TextsMut.{seen_text};
 
     /// All groups of equal characters of the bytes, which are still to come. Nothing is asked yet, and nothing is out.
     ///
@@ -30,8 +31,8 @@ impl<'a> LinearStrGroupsMut<'a, EqualityJudge> {
         requires { IsUtf8 bytes.old }
         ensures text { result.text ≡ bytes.old }
         ensures asked { result.judge.questions.asked ≡ 0 }
-        ensures callable { IsCallableTextMut (by_equality nat_eq) result }
-        ensures settled { IsSettledTextMut (by_equality nat_eq) result nat_eq }
+        ensures callable { IsCallableText (by_equality nat_eq) (seen_text result) }
+        ensures settled { IsSettledText (by_equality nat_eq) (seen_text result) nat_eq }
         ensures loans { NothingOut bytes.entry.ghost_name result.loans }
     {
         LinearStrGroupsMut::over(bytes, EqualityJudge::new())

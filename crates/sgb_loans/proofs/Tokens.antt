@@ -1,4 +1,6 @@
 -- The machine value of the tokens, and what giving up a slice reference leaves. Assumes `Logic`.
+use Rattle.sgb_search.specs.declared.end.End.{End}
+use Rattle.sgb_search.specs.declared.end.End.TheVariants.{Front, Back}
 use Rattle.std.proofs.Common.{◌≡◌, List, [], ◌∷◌, ◌++◌, refl}
 use seplogic.Ra.Ura.{Ura}
 use mir.Syntax.{Lifetime}
@@ -16,7 +18,7 @@ use denote.FollowSlice.{heres_id}
 use denote.Shadow.{makes_shadow}
 use denote.Struct.Struct.{Struct}
 use denote.Struct.Owning.{shape}
-use Rattle.std.proofs.Common.{Bool, true, false, sym, rules, append_assoc, append-nil}
+use Rattle.std.proofs.Common.{sym, rules, append_assoc, append-nil}
 use base.Logic.{wand, all_e, apply∗, sep}
 use base.Fml.{GName, fsep}
 use types.Kit.{◌⊛◌, use0, raw, move, join, use1, use2, use3, assume, each, fpick, fpack, fjoin, feq_i}
@@ -70,8 +72,8 @@ module _ {M : Type 1} {𝓤 : Ura M} (𝓛 : Logic 𝓤) (R : RattleType) where
       use1 𝓛 (raw (P (ys, zs))) (all_e 𝓤 P (ys, zs)) $ move ! (1 ∷ []) $ by ! (apply∗ 𝓤 (sep 𝓤 (sem 𝓛 (ended_as R γ₁ ys)) (sem 𝓛 (ended_as R γ₂ zs))) (sem 𝓛 (ended_as R γ (ys ++ zs))))
 
   within_more : (γ m g δ : GName) (before after xs : List R.Denot)
-      → ent 𝓤 (sep 𝓤 (sem 𝓛 (within R γ before after m)) (sep 𝓤 (sem 𝓛 (ended_as R g xs)) (sem 𝓛 (cut_link R m true g δ)))) (sem 𝓛 (within R γ (before ++ xs) after δ))
-  within_more γ m g δ before after xs = qed 𝓛 (‵ (within R γ before after m) ∷ ‵ (ended_as R g xs) ∷ ‵ (cut_link R m true g δ) ∷ []) ∵ each ! (Ends γ (before ++ xs) after δ) (λ w. assume ! (‵ (ended_as R δ w)) $
+      → ent 𝓤 (sep 𝓤 (sem 𝓛 (within R γ before after m)) (sep 𝓤 (sem 𝓛 (ended_as R g xs)) (sem 𝓛 (cut_link R m Front g δ)))) (sem 𝓛 (within R γ (before ++ xs) after δ))
+  within_more γ m g δ before after xs = qed 𝓛 (‵ (within R γ before after m) ∷ ‵ (ended_as R g xs) ∷ ‵ (cut_link R m Front g δ) ∷ []) ∵ each ! (Ends γ (before ++ xs) after δ) (λ w. assume ! (‵ (ended_as R δ w)) $
       -- [δ ended; within; g ended; the cut]
       move ! (2 ∷ 0 ∷ []) $ join ! $ move ! (0 ∷ 2 ∷ []) $ use2 𝓛 (‵ (ended_as R m (xs ++ w))) (both m g δ xs w) $ move ! (1 ∷ []) $
       use1 𝓛 (raw (Ends γ before after m (xs ++ w))) (all_e 𝓤 (Ends γ before after m) (xs ++ w)) $ move ! (1 ∷ []) $
@@ -79,39 +81,39 @@ module _ {M : Type 1} {𝓤 : Ura M} (𝓛 : Logic 𝓤) (R : RattleType) where
       rewrite ! 0 (λ (l : List R.Denot). ‵ (ended_as R γ l)) (regroup before xs w after) refl $ done !)
 
   within_less : (γ m g δ : GName) (before after xs : List R.Denot)
-      → ent 𝓤 (sep 𝓤 (sem 𝓛 (within R γ before after m)) (sep 𝓤 (sem 𝓛 (ended_as R g xs)) (sem 𝓛 (cut_link R m false g δ)))) (sem 𝓛 (within R γ before (xs ++ after) δ))
-  within_less γ m g δ before after xs = qed 𝓛 (‵ (within R γ before after m) ∷ ‵ (ended_as R g xs) ∷ ‵ (cut_link R m false g δ) ∷ []) ∵ each ! (Ends γ before (xs ++ after) δ) (λ w. assume ! (‵ (ended_as R δ w)) $
+      → ent 𝓤 (sep 𝓤 (sem 𝓛 (within R γ before after m)) (sep 𝓤 (sem 𝓛 (ended_as R g xs)) (sem 𝓛 (cut_link R m Back g δ)))) (sem 𝓛 (within R γ before (xs ++ after) δ))
+  within_less γ m g δ before after xs = qed 𝓛 (‵ (within R γ before after m) ∷ ‵ (ended_as R g xs) ∷ ‵ (cut_link R m Back g δ) ∷ []) ∵ each ! (Ends γ before (xs ++ after) δ) (λ w. assume ! (‵ (ended_as R δ w)) $
       -- [δ ended; within; g ended; the cut]
       move ! (0 ∷ 2 ∷ []) $ join ! $ move ! (0 ∷ 2 ∷ []) $ use2 𝓛 (‵ (ended_as R m (w ++ xs))) (both m δ g w xs) $ move ! (1 ∷ []) $
       use1 𝓛 (raw (Ends γ before after m (w ++ xs))) (all_e 𝓤 (Ends γ before after m) (w ++ xs)) $ move ! (1 ∷ []) $
       use2 𝓛 (‵ (ended_as R γ (before ++ ((w ++ xs) ++ after)))) (apply∗ 𝓤 (sem 𝓛 (ended_as R m (w ++ xs))) (sem 𝓛 (ended_as R γ (before ++ ((w ++ xs) ++ after))))) $
       rewrite ! 0 (λ (l : List R.Denot). ‵ (ended_as R γ (before ++ l))) (append_assoc w xs after) refl $ done !)
 
-  pub notes : (γ g δ : GName) (before after xs : List R.Denot) (cs : List (Bool × GName))
-      → ent 𝓤 (sep 𝓤 (sem 𝓛 (loan_owns R γ before after ((true, g) ∷ cs) δ)) (sem 𝓛 (ended_as R g xs))) (sem 𝓛 (loan_owns R γ (before ++ xs) after cs δ))
-  notes γ g δ before after xs cs = qed 𝓛 (‵ (loan_owns R γ before after ((true, g) ∷ cs) δ) ∷ ‵ (ended_as R g xs) ∷ []) ∵ fpick ! (λ m. fsplit ! $ move ! (1 ∷ []) $ fpick ! (λ k. fsplit ! $
+  pub notes : (γ g δ : GName) (before after xs : List R.Denot) (cs : List (End × GName))
+      → ent 𝓤 (sep 𝓤 (sem 𝓛 (loan_owns R γ before after ((Front, g) ∷ cs) δ)) (sem 𝓛 (ended_as R g xs))) (sem 𝓛 (loan_owns R γ (before ++ xs) after cs δ))
+  notes γ g δ before after xs cs = qed 𝓛 (‵ (loan_owns R γ before after ((Front, g) ∷ cs) δ) ∷ ‵ (ended_as R g xs) ∷ []) ∵ fpick ! (λ m. fsplit ! $ move ! (1 ∷ []) $ fpick ! (λ k. fsplit ! $
       move ! (2 ∷ 3 ∷ 0 ∷ []) $ use3 𝓛 (‵ (within R γ (before ++ xs) after k)) (within_more γ m g k before after xs) $ fjoin ! $
       fpack ! GName (λ n. fsep (within R γ (before ++ xs) after n) (links R n cs δ)) k $ done !))
 
-  pub notes_back : (γ g δ : GName) (before after xs : List R.Denot) (cs : List (Bool × GName))
-      → ent 𝓤 (sep 𝓤 (sem 𝓛 (loan_owns R γ before after ((false, g) ∷ cs) δ)) (sem 𝓛 (ended_as R g xs))) (sem 𝓛 (loan_owns R γ before (xs ++ after) cs δ))
-  notes_back γ g δ before after xs cs = qed 𝓛 (‵ (loan_owns R γ before after ((false, g) ∷ cs) δ) ∷ ‵ (ended_as R g xs) ∷ []) ∵ fpick ! (λ m. fsplit ! $ move ! (1 ∷ []) $ fpick ! (λ k. fsplit ! $
+  pub notes_back : (γ g δ : GName) (before after xs : List R.Denot) (cs : List (End × GName))
+      → ent 𝓤 (sep 𝓤 (sem 𝓛 (loan_owns R γ before after ((Back, g) ∷ cs) δ)) (sem 𝓛 (ended_as R g xs))) (sem 𝓛 (loan_owns R γ before (xs ++ after) cs δ))
+  notes_back γ g δ before after xs cs = qed 𝓛 (‵ (loan_owns R γ before after ((Back, g) ∷ cs) δ) ∷ ‵ (ended_as R g xs) ∷ []) ∵ fpick ! (λ m. fsplit ! $ move ! (1 ∷ []) $ fpick ! (λ k. fsplit ! $
       move ! (2 ∷ 3 ∷ 0 ∷ []) $ use3 𝓛 (‵ (within R γ before (xs ++ after) k)) (within_less γ m g k before after xs) $ fjoin ! $
       fpack ! GName (λ n. fsep (within R γ before (xs ++ after) n) (links R n cs δ)) k $ done !))
 
-  more_links : (m g δ ε : GName) (front : Bool) (cs : List (Bool × GName))
-      → ent 𝓤 (sep 𝓤 (sem 𝓛 (links R m cs δ)) (sem 𝓛 (cut_link R δ front g ε))) (sem 𝓛 (links R m (cs ++ (front, g) ∷ []) ε))
-  more_links m g δ ε front [] = qed 𝓛 (‵ (links R m [] δ) ∷ ‵ (cut_link R δ front g ε) ∷ []) ∵ feq_l ! (λ e. rewrite ! 0 (λ (j : GName). ‵ (cut_link R j front g ε)) (sym e) refl $
-      feq_i ! GName ε ε refl $ move ! (1 ∷ 0 ∷ []) $ fjoin ! $ fpack ! GName (λ n. fsep (cut_link R m front g n) (links R n [] ε)) ε $ done !)
-  more_links m g δ ε front (c ∷ cs) = qed 𝓛 (‵ (links R m (c ∷ cs) δ) ∷ ‵ (cut_link R δ front g ε) ∷ []) ∵ fpick ! (λ n. fsplit ! $ move ! (1 ∷ 2 ∷ []) $
-      use2 𝓛 (‵ (links R n (cs ++ (front, g) ∷ []) ε)) (more_links n g δ ε front cs) $ move ! (1 ∷ 0 ∷ []) $ fjoin ! $
-      fpack ! GName (λ k. fsep (cut_link R m c.0 c.1 k) (links R k (cs ++ (front, g) ∷ []) ε)) n $ done !)
+  more_links : (m g δ ε : GName) (end : End) (cs : List (End × GName))
+      → ent 𝓤 (sep 𝓤 (sem 𝓛 (links R m cs δ)) (sem 𝓛 (cut_link R δ end g ε))) (sem 𝓛 (links R m (cs ++ (end, g) ∷ []) ε))
+  more_links m g δ ε end [] = qed 𝓛 (‵ (links R m [] δ) ∷ ‵ (cut_link R δ end g ε) ∷ []) ∵ feq_l ! (λ e. rewrite ! 0 (λ (j : GName). ‵ (cut_link R j end g ε)) (sym e) refl $
+      feq_i ! GName ε ε refl $ move ! (1 ∷ 0 ∷ []) $ fjoin ! $ fpack ! GName (λ n. fsep (cut_link R m end g n) (links R n [] ε)) ε $ done !)
+  more_links m g δ ε end (c ∷ cs) = qed 𝓛 (‵ (links R m (c ∷ cs) δ) ∷ ‵ (cut_link R δ end g ε) ∷ []) ∵ fpick ! (λ n. fsplit ! $ move ! (1 ∷ 2 ∷ []) $
+      use2 𝓛 (‵ (links R n (cs ++ (end, g) ∷ []) ε)) (more_links n g δ ε end cs) $ move ! (1 ∷ 0 ∷ []) $ fjoin ! $
+      fpack ! GName (λ k. fsep (cut_link R m c.0 c.1 k) (links R k (cs ++ (end, g) ∷ []) ε)) n $ done !)
 
-  pub cuts : (γ g δ ε : GName) (before after : List R.Denot) (front : Bool) (cs : List (Bool × GName))
-      → ent 𝓤 (sep 𝓤 (sem 𝓛 (loan_owns R γ before after cs δ)) (sem 𝓛 (cut_link R δ front g ε))) (sem 𝓛 (loan_owns R γ before after (cs ++ (front, g) ∷ []) ε))
-  cuts γ g δ ε before after front cs = qed 𝓛 (‵ (loan_owns R γ before after cs δ) ∷ ‵ (cut_link R δ front g ε) ∷ []) ∵ fpick ! (λ m. fsplit ! $ move ! (1 ∷ 2 ∷ []) $
-      use2 𝓛 (‵ (links R m (cs ++ (front, g) ∷ []) ε)) (more_links m g δ ε front cs) $ move ! (1 ∷ 0 ∷ []) $ fjoin ! $
-      fpack ! GName (λ n. fsep (within R γ before after n) (links R n (cs ++ (front, g) ∷ []) ε)) m $ done !)
+  pub cuts : (γ g δ ε : GName) (before after : List R.Denot) (end : End) (cs : List (End × GName))
+      → ent 𝓤 (sep 𝓤 (sem 𝓛 (loan_owns R γ before after cs δ)) (sem 𝓛 (cut_link R δ end g ε))) (sem 𝓛 (loan_owns R γ before after (cs ++ (end, g) ∷ []) ε))
+  cuts γ g δ ε before after end cs = qed 𝓛 (‵ (loan_owns R γ before after cs δ) ∷ ‵ (cut_link R δ end g ε) ∷ []) ∵ fpick ! (λ m. fsplit ! $ move ! (1 ∷ 2 ∷ []) $
+      use2 𝓛 (‵ (links R m (cs ++ (end, g) ∷ []) ε)) (more_links m g δ ε end cs) $ move ! (1 ∷ 0 ∷ []) $ fjoin ! $
+      fpack ! GName (λ n. fsep (within R γ before after n) (links R n (cs ++ (end, g) ∷ []) ε)) m $ done !)
 
   begin : (γ : GName) → ent 𝓤 (emp 𝓤) (sem 𝓛 (within R γ [] [] γ))
   begin γ = qed 𝓛 [] ∵ each ! (Ends γ [] [] γ) (λ w. assume ! (‵ (ended_as R γ w)) $ rewrite ! 0 (λ (l : List R.Denot). ‵ (ended_as R γ l)) (sym (append-nil w)) refl $ done !)

@@ -1,6 +1,7 @@
 -- What contracts see of an iterator over groups for writing.
-use Rattle.std.specs.Prelude.{◌≡◌, Bool, List, [], ◌∷◌, ◌++◌, length}
+use Rattle.std.specs.Prelude.{◌≡◌, List, [], ◌∷◌, ◌++◌, length}
 use Rattle.std.specs.Borrow.{GName}
+use Rattle.sgb_search.specs.declared.end.End.{End}
 use Rattle.std.specs.Iterator.{Count, at_most}
 use Rattle.sgb_loans.specs.declared.loans.Loans.{Loans}
 
@@ -14,12 +15,12 @@ pub record GroupsMut (T J : Type 0) : Type 0 where
 abbrev pub groups_mut_left : {T J : Type 0} → GroupsMut T J → Count
 groups_mut_left s = at_most (length s.remainder)
 
--- the part named g came off, true at the front, and is out with those that were out before; the rest has a new name
-pub record HandsOut {T : Type 0} (front : Bool) (l : Loans T) (g : GName) (m : Loans T) : Type 0 where
+-- the part named g came off at the end e, and is out with those that were out before; the rest has a new name
+pub record HandsOut {T : Type 0} (e : End) (l : Loans T) (g : GName) (m : Loans T) : Type 0 where
   pub root : m.root ≡ l.root
   pub before : m.before ≡ l.before
   pub after : m.after ≡ l.after
-  pub cuts : m.cuts ≡ l.cuts ++ (front, g) ∷ []
+  pub cuts : m.cuts ≡ l.cuts ++ (e, g) ∷ []
 
 -- nothing of the slice named n is out
 pub record NothingOut {T : Type 0} (n : GName) (l : Loans T) : Type 0 where

@@ -1,7 +1,9 @@
 //! Tokens that say what a slice ends as.
-ghost use Rattle.std.specs.Prelude.{◌≡◌, ℕ, Bool, List, ◌++◌, ◌≤◌, [], ◌∷◌, true, false, length, drop};
+ghost use Rattle.std.specs.Prelude.{◌≡◌, ℕ, List, ◌++◌, ◌≤◌, [], ◌∷◌, length, drop};
 ghost use Rattle.std.specs.Coded.{coded_list};
 ghost use Rattle.std.specs.Borrow.{sem, LendsBoth, Array};
+ghost use Rattle.sgb_search.specs.declared.end.End.{End};
+ghost use Rattle.sgb_search.specs.declared.end.End.TheVariants.{Front, Back};
 ghost use Rattle.sgb_loans.specs.Links.{ended_as, loan_owns};
 
 use std::marker::{Model, PhantomData};
@@ -44,14 +46,14 @@ fn split<T>(all: &mut [T], mid: usize) -> (&mut [T], &mut [T])
 /// The parts of a slice that are out: the slice named `root` ends as `before`, then what the parts of `cuts` and the slice
 /// named `rest` end as, in their places, then `after`.
 ///
-/// `cuts` lists the parts that are out, the oldest first, each with the end that it came off: true at the front.
+/// `cuts` lists the parts that are out, the oldest first, each with the end that it came off.
 #[derive(Drop)]
 pub struct Loans<T> {
     pub(crate) marker: PhantomData<*const T>,
     pub ghost root: { ℕ },
     pub ghost before: { List T } by { coded_list T.code },
     pub ghost after: { List T } by { coded_list T.code },
-    pub ghost cuts: { List (Bool × ℕ) },
+    pub ghost cuts: { List (End × ℕ) },
     pub ghost rest: { ℕ },
 }
 
@@ -87,7 +89,7 @@ impl<T> Loans<T> {
         ensures before { self.new.before ≡ self.old.before }
         ensures after { self.new.after ≡ self.old.after }
         ensures rest { self.new.rest ≡ result.1.ghost_name }
-        ensures cuts { self.new.cuts ≡ self.old.cuts ++ (true, result.0.ghost_name) ∷ [] }
+        ensures cuts { self.new.cuts ≡ self.old.cuts ++ (Front, result.0.ghost_name) ∷ [] }
     {
         split(all, mid)
     }
@@ -103,7 +105,7 @@ impl<T> Loans<T> {
         ensures before { self.new.before ≡ self.old.before }
         ensures after { self.new.after ≡ self.old.after }
         ensures rest { self.new.rest ≡ result.0.ghost_name }
-        ensures cuts { self.new.cuts ≡ self.old.cuts ++ (false, result.1.ghost_name) ∷ [] }
+        ensures cuts { self.new.cuts ≡ self.old.cuts ++ (Back, result.1.ghost_name) ∷ [] }
     {
         split(all, mid)
     }
@@ -111,7 +113,7 @@ impl<T> Loans<T> {
     /// Takes note of how the oldest part was left, which came off at the front: it is out no more.
     #[inline]
     pub fn note_front(&mut self, part: Ended<'_, T>)
-        requires { self.old.cuts ≡ (true, part.name) ∷ drop 1 self.old.cuts }
+        requires { self.old.cuts ≡ (Front, part.name) ∷ drop 1 self.old.cuts }
         ensures root { self.new.root ≡ self.old.root }
         ensures before { self.new.before ≡ self.old.before ++ part.entry.value }
         ensures after { self.new.after ≡ self.old.after }
@@ -124,7 +126,7 @@ impl<T> Loans<T> {
     /// Takes note of how the oldest part was left, which came off at the back: it is out no more.
     #[inline]
     pub fn note_back(&mut self, part: Ended<'_, T>)
-        requires { self.old.cuts ≡ (false, part.name) ∷ drop 1 self.old.cuts }
+        requires { self.old.cuts ≡ (Back, part.name) ∷ drop 1 self.old.cuts }
         ensures root { self.new.root ≡ self.old.root }
         ensures before { self.new.before ≡ self.old.before }
         ensures after { self.new.after ≡ part.entry.value ++ self.old.after }

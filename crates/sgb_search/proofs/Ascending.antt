@@ -7,7 +7,7 @@ use Rattle.std.specs.Cmp.{IsTotalOrder, alike_right}
 use Rattle.std.specs.Ordering.{ordering_index}
 use Rattle.std.specs.declared.cmp.Ordering.{Ordering}
 use Rattle.std.specs.declared.cmp.Ordering.TheVariants.{Less, Equal, Greater}
-use Rattle.sgb_search.specs.Neighbours.{neighbours}
+use Rattle.sgb_search.specs.Lists.{neighbours}
 use Rattle.sgb_search.specs.Search.{NeverDescends, IsLessEqualGreater}
 use Rattle.sgb_search.proofs.Each.{all_each}
 

@@ -6,9 +6,8 @@ use Rattle.std.specs.Cmp.{IsTotalOrder, upto, tied_itself, Equal-is}
 use Rattle.std.specs.Ordering.{is_eq, is_gt, ordering_reverse}
 use Rattle.std.specs.declared.cmp.Ordering.{Ordering}
 use Rattle.std.specs.declared.cmp.Ordering.TheVariants.{Less, Equal, Greater}
-use Rattle.sgb_search.specs.Neighbours.{neighbours}
-use Rattle.sgb_search.specs.Split.{IsAccepted}
-use Rattle.sgb_search.specs.Apart.{IsGrouped}
+use Rattle.sgb_search.specs.Lists.{neighbours}
+use Rattle.sgb_search.specs.Split.{IsAccepted, IsGrouped}
 use Rattle.sgb_search.specs.Search.{NeverDescends}
 use Rattle.sgb_search.proofs.Each.{all_of_first, all_of_rest}
 use Rattle.sgb_search.proofs.Pairs.{neighbours-append}

@@ -4,10 +4,10 @@ use Rattle.std.proofs.Common.{refl, ap, ◌∙◌}
 use Rattle.std.specs.Borrow.{Bor}
 use Rattle.std.specs.Fn.{Mut, Takes, TakesAt, Called, CalledAt, CalledAtTwo, ComputesOnPairs, ComputesKey}
 use denote.Param.Always.{always_mut, mut_next}
-use Rattle.sgb_search.specs.Runs.{MayAskAll, AnswersBy}
-use Rattle.sgb_search.specs.Judges.{MayAskAlong, AnswersAlong, by_predicate, predicate_judge, by_key, key_judge, MayCompareKeys, ComparesKeys, by_char_predicate, char_predicate_judge, by_char_key, char_key_judge, CalledAtChar, ComputesOnChars, ComputesCharKey}
+use Rattle.sgb_search.specs.Judges.{MayAskAll, AnswersBy, by_predicate, predicate_judge, by_key, key_judge, MayCompareKeys, ComparesKeys, by_char_predicate, char_predicate_judge, by_char_key, char_key_judge, CalledAtChar, ComputesOnChars, ComputesCharKey}
+use Rattle.sgb_search.specs.Linear.{MayAskAlong, AnswersAlong}
 use Rattle.std.specs.List.{Contains}
-use Rattle.sgb_search.specs.Neighbours.{AreNeighbours, on_pairs}
+use Rattle.sgb_search.specs.Lists.{AreNeighbours, on_pairs}
 use Rattle.sgb_search.specs.Search.{MayCall, Computes}
 use Rattle.sgb_search.proofs.Runs.{may_ask_by, answers_by}
 

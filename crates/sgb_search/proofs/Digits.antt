@@ -3,7 +3,7 @@ use Rattle.std.specs.Prelude.{ℕ, ◌+◌, ◌-◌, ◌*◌, ◌/◌, ◌^◌, 
 use Rattle.std.proofs.Common.{zero, suc, arith, refl}
 use Rattle.std.proofs.Math.Nat.{pow-suc, pow-zero}
 use Rattle.std.proofs.lemmas.Nat.{pow_pos, mul-le, row_fits}
-use Rattle.sgb_search.specs.Digits.{digits, digits_within}
+use Rattle.sgb_search.specs.Searching.{digits, digits_within}
 
 above_within : (most m : ℕ) → m ≤ most → m < 2 ^ digits_within most m
 above_within zero m h = rw (pow-zero 2) (omega arith)

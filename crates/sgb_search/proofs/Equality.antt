@@ -1,9 +1,8 @@
 -- The judge by equality may always be asked, answers what equality says, and counts.
 use Rattle.std.specs.Prelude.{◌≡◌, ◌+◌, Bool, List, [], ◌∷◌, ⊤, length}
 use Rattle.std.proofs.Common.{ap, arith}
-use Rattle.sgb_search.specs.Runs.{IsRun, MayAskAll, AnswersBy}
-use Rattle.sgb_search.specs.Judges.{by_equality}
-use Rattle.sgb_search.specs.Neighbours.{on_pairs}
+use Rattle.sgb_search.specs.Judges.{IsRun, MayAskAll, AnswersBy, by_equality}
+use Rattle.sgb_search.specs.Lists.{on_pairs}
 use Rattle.sgb_search.specs.declared.judge.EqualityJudge.{EqualityJudge}
 use Rattle.sgb_search.proofs.Runs.{answers_by}
 

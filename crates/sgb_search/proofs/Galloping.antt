@@ -5,11 +5,10 @@ use Rattle.std.specs.List.{AllByRecursion, Contains}
 use Rattle.std.proofs.lemmas.List.Elements.{Contains-append_left, Contains-append_right, Contains-push}
 use Rattle.std.specs.declared.cmp.Ordering.{Ordering}
 use Rattle.std.specs.declared.cmp.Ordering.TheVariants.{Less, Equal, Greater}
-use Rattle.sgb_search.specs.Digits.{digits}
+use Rattle.sgb_search.specs.Searching.{digits}
 use Rattle.sgb_search.proofs.Digits.{digits_half, digits_zero, digits_mono, digits_le_self}
-use Rattle.sgb_search.specs.Runs.{IsRun}
-use Rattle.sgb_search.specs.Halving.{IsBetween, MayProbe, HalvedBy, IsLowEnd, IsHighEnd}
-use Rattle.sgb_search.specs.Galloping.{Brackets, IsBracket, IsGalloped, TwoAnswers}
+use Rattle.sgb_search.specs.Judges.{IsRun}
+use Rattle.sgb_search.specs.Places.{IsBetween, MayProbe, HalvedBy, IsLowEnd, IsHighEnd, Brackets, IsBracket, IsGalloped, TwoAnswers}
 use Rattle.sgb_search.proofs.Runs.{run_push, run_append, may_after}
 use Rattle.sgb_search.proofs.Each.{all_push, all_append, all_each}
 

@@ -4,9 +4,8 @@ use Rattle.std.proofs.Common.{zero, suc, sym, ap, subst, arith, ◌∙◌, appen
 use Rattle.std.proofs.lemmas.List.{take-append-drop, length-take, get_or-take, get_or-drop}
 use Rattle.std.proofs.lemmas.Option.{slice_get_within, slice_get_read, get_or_from_slice_get}
 use Rattle.std.proofs.Math.Seq.{take-append_seam, drop-append_seam}
-use Rattle.sgb_search.specs.Ends.{last, without_last}
-use Rattle.sgb_search.specs.Split.{IsAccepted}
-use Rattle.sgb_search.specs.Apart.{IsGrouped}
+use Rattle.sgb_search.specs.Lists.{last, without_last}
+use Rattle.sgb_search.specs.Split.{IsAccepted, IsGrouped}
 use Rattle.sgb_search.proofs.Ranges.{length-range}
 
 module _ {A : Type 0} where

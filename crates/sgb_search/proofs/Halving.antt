@@ -6,9 +6,9 @@ use Rattle.std.proofs.lemmas.List.Elements.{Contains-append_left, Contains-push}
 use Rattle.std.specs.declared.cmp.Ordering.{Ordering}
 use Rattle.std.specs.declared.cmp.Ordering.TheVariants.{Less, Equal, Greater}
 use Rattle.sgb_search.proofs.Digits.{digits_half}
-use Rattle.sgb_search.specs.Halving.{MayProbe, IsLowEnd, IsHighEnd, IsHalved, IsBetween}
-use Rattle.sgb_search.specs.Digits.{digits}
-use Rattle.sgb_search.specs.Runs.{IsRun}
+use Rattle.sgb_search.specs.Places.{MayProbe, IsLowEnd, IsHighEnd, IsHalved, IsBetween}
+use Rattle.sgb_search.specs.Searching.{digits}
+use Rattle.sgb_search.specs.Judges.{IsRun}
 use Rattle.sgb_search.proofs.Runs.{run_push}
 use Rattle.sgb_search.proofs.Each.{all_push}
 

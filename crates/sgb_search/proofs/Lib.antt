@@ -1,4 +1,5 @@
 pub mod Each
+pub mod Ends
 pub mod Splits
 pub mod Pairs
 pub mod Runs
@@ -16,10 +17,10 @@ pub mod Halving
 pub mod Galloping
 pub mod Seeking
 pub mod Apart
-pub mod Jumping
+pub mod GroupSearches
 pub mod Grouped
-pub mod JumpingPieces
-pub mod JumpingQueue
+pub mod SearchPieces
+pub mod SearchQueue
 pub mod Counting
 pub mod Readings
 pub mod Ascending

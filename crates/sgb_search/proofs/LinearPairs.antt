@@ -5,11 +5,14 @@ use Rattle.std.proofs.lemmas.List.{append-nil, reverse-append, length-append, le
 use Rattle.std.proofs.Math.Seq.{take-append_seam, drop-append_seam}
 use Rattle.std.proofs.lemmas.List.Sorted.{IsPermutation-refl, IsPermutation-trans, IsPermutation-sym, IsPermutation-reverse, IsPermutation-append_comm, IsPermutation-append_left, IsPermutation-append_right, length_permutation}
 use Rattle.sgb_search.specs.declared.judge.Judge.{Ghosts}
-use Rattle.sgb_search.specs.Neighbours.{neighbours, all_answered, questions_along, front_questions, back_questions}
-use Rattle.sgb_search.specs.Groups.{Groups}
+use Rattle.sgb_search.specs.declared.end.End.{End}
+use Rattle.sgb_search.specs.declared.end.End.TheVariants.{Front, Back}
+use Rattle.sgb_search.specs.Lists.{from, put_at, neighbours}
+use Rattle.sgb_search.specs.Linear.{all_answered, questions_along, questions, LinearQuestions, AsksEachOnce}
+use Rattle.sgb_search.specs.Calls.{CallAt, Groups}
 use Rattle.sgb_search.proofs.Runs.{run_append}
-use Rattle.sgb_search.proofs.Pairs.{across, neighbours-append, length-neighbours}
-use Rattle.sgb_search.specs.LinearCalls.{FrontCall, BackCall, AsksEachOnce}
+use Rattle.sgb_search.proofs.Ends.{length-from, from_permutes}
+use Rattle.sgb_search.proofs.Pairs.{across, between, neighbours-put_at, length-neighbours}
 
 module _ {A : Type 0} where
   -- what was asked about
@@ -40,62 +43,69 @@ module _ {A : Type 0} where
       ∙ ap (λ l. take n qs ++ l) (pairs-answered false (take 1 (drop n qs)))
       ∙ take_one_more n qs)
 
-  drop-neighbours : (n : ℕ) (xs : List A) → drop n (neighbours xs) ≡ neighbours (drop n xs)
-  drop-neighbours zero xs = refl
-  drop-neighbours (suc n) [] = refl
-  drop-neighbours (suc zero) (x ∷ []) = refl
-  drop-neighbours (suc (suc n)) (x ∷ []) = refl
-  drop-neighbours (suc n) (x ∷ y ∷ ys) = drop-neighbours n (y ∷ ys)
-
-  front_pairs : (group rest : List A) → 0 < length group → asked_pairs (front_questions (group ++ rest) (length group)) ++ neighbours rest ≡ neighbours (group ++ rest)
-  front_pairs group rest h =
-      ap (λ l. l ++ neighbours rest) (pairs-along (neighbours (group ++ rest)) (length group) h)
-      ∙ ap (λ l. take (length group) (neighbours (group ++ rest)) ++ l) (sym (drop-neighbours (length group) (group ++ rest) ∙ ap neighbours (drop-append_seam group rest)))
-      ∙ take-append-drop (length group) (neighbours (group ++ rest))
-
-  -- at the back
+  -- a nonempty part has as many pairs as elements, with the one towards the rest, if there is a rest
   length-across : (xs : List A) (x : A) (ys : List A) → 0 < length ys → length (across (x ∷ xs) ys) ≡ 1
   length-across [] x [] h = absurd (omega arith)
   length-across [] x (y ∷ ys) h = refl
   length-across (z ∷ zs) x ys h = length-across zs z ys h
 
-  back_taken : (group rest : List A) → 0 < length group → take (length group) (reverse (across rest group ++ neighbours group) ++ reverse (neighbours rest)) ≡ reverse (across rest group ++ neighbours group)
-  back_taken group [] h =
-      ap (λ l. take (length group) l) (append-nil (reverse (neighbours group)))
-      ∙ take_all (length group) (reverse (neighbours group)) (omega (arith, length-reverse (neighbours group), length-neighbours group))
-  back_taken group (x ∷ xs) h =
-      let cs = across (x ∷ xs) group ++ neighbours group in
-      let n : length group ≡ length (reverse cs) = omega (arith, length-reverse cs, length-append (across (x ∷ xs) group) (neighbours group), length-across xs x group h, length-neighbours group) in
-      ap (λ (k : ℕ). take k (reverse cs ++ reverse (neighbours (x ∷ xs)))) n ∙ take-append_seam (reverse cs) (reverse (neighbours (x ∷ xs)))
+  across-nil : (xs : List A) → across xs [] ≡ []
+  across-nil [] = refl
+  across-nil (x ∷ []) = refl
+  across-nil (x ∷ z ∷ zs) = across-nil (z ∷ zs)
 
-  back_pairs : (group rest : List A) → 0 < length group → IsPermutation (asked_pairs (back_questions (rest ++ group) (length group)) ++ neighbours rest) (neighbours (rest ++ group))
-  back_pairs group rest h =
-      let cs = across rest group ++ neighbours group in
-      let e : asked_pairs (back_questions (rest ++ group) (length group)) ≡ reverse cs =
-      pairs-along (reverse (neighbours (rest ++ group))) (length group) h
-      ∙ ap (λ l. take (length group) l) (ap reverse (neighbours-append rest group) ∙ reverse-append (neighbours rest) cs)
-      ∙ back_taken group rest h in
-      let p : IsPermutation (reverse cs ++ neighbours rest) (cs ++ neighbours rest) = IsPermutation-append_left (neighbours rest) (reverse cs) cs (IsPermutation-sym cs (reverse cs) (IsPermutation-reverse cs)) in
-      rw (e, neighbours-append rest group) (IsPermutation-trans (reverse cs ++ neighbours rest) (cs ++ neighbours rest) (neighbours rest ++ cs) p (IsPermutation-append_comm cs (neighbours rest)))
+  between-nil : (e : End) (group : List A) → between e group [] ≡ []
+  between-nil Front group = across-nil group
+  between-nil Back group = refl
+
+  length-between : (e : End) (group : List A) (x : A) (xs : List A) → 0 < length group → length (between e group (x ∷ xs)) ≡ 1
+  length-between Front [] x xs h = absurd (omega arith)
+  length-between Front (y ∷ ys) x xs h = length-across ys y (x ∷ xs) (omega arith)
+  length-between Back group x xs h = length-across xs x group h
+
+  taken_pairs : (e : End) (group rest : List A) → 0 < length group
+      → take (length group) (from e (neighbours group) ++ (between e group rest ++ from e (neighbours rest))) ≡ from e (neighbours group) ++ between e group rest
+  taken_pairs e group [] h =
+      let qs = from e (neighbours group) in
+      let all : qs ++ (between e group [] ++ from e (neighbours [])) ≡ qs ++ between e group [] = ap (λ l. qs ++ l)
+      (ap (λ l. between e group [] ++ l) (from-nil e) ∙ append-nil (between e group [])) in
+      ap (take (length group)) all
+      ∙ take_all (length group) (qs ++ between e group []) (omega (arith, length-append qs (between e group []), ap length (between-nil e group), length-from e (neighbours group), length-neighbours group))
+    where
+      from-nil : (e : End) → from {X = A × A} e [] ≡ []
+      from-nil Front = refl
+      from-nil Back = refl
+  taken_pairs e group (x ∷ xs) h =
+      let qs = from e (neighbours group) ++ between e group (x ∷ xs) in
+      let rest = from e (neighbours (x ∷ xs)) in
+      let n : length group ≡ length qs = omega (arith, length-append (from e (neighbours group)) (between e group (x ∷ xs)), length-between e group x xs h, length-from e (neighbours group), length-neighbours group) in
+      ap (take (length group)) (sym (append_assoc (from e (neighbours group)) (between e group (x ∷ xs)) rest))
+      ∙ ap (λ (k : ℕ). take k (qs ++ rest)) n ∙ take-append_seam qs rest
+
+  -- the pairs of the questions, and those of the rest, are those of the whole
+  pairs_asked : (e : End) (group rest : List A) → 0 < length group
+      → IsPermutation (asked_pairs (questions e (put_at e group rest) (length group)) ++ neighbours rest) (neighbours (put_at e group rest))
+  pairs_asked e group rest h =
+      let whole = neighbours (put_at e group rest) in
+      let qs = from e (neighbours group) ++ between e group rest in
+      let cut : from e whole ≡ qs ++ from e (neighbours rest) =
+      neighbours-put_at e group rest ∙ sym (append_assoc (from e (neighbours group)) (between e group rest) (from e (neighbours rest))) in
+      let asked : asked_pairs (questions e (put_at e group rest) (length group)) ≡ qs =
+      pairs-along (from e whole) (length group) h ∙ ap (take (length group)) (neighbours-put_at e group rest) ∙ taken_pairs e group rest h in
+      let rest_first = IsPermutation-sym _ _ (IsPermutation-append_right qs _ _ (from_permutes e (neighbours rest))) in
+      let all : IsPermutation (qs ++ from e (neighbours rest)) whole = subst (λ l. IsPermutation l whole) cut (from_permutes e whole) in
+      rw asked (IsPermutation-trans (qs ++ neighbours rest) (qs ++ from e (neighbours rest)) whole rest_first all)
 
 module _ {T J : Type 0} (g : Ghosts J T) where
   pub asks_none : (s t : Groups T J) → t ≡ s → AsksEachOnce g s t
   asks_none s t e = record { questions = []; run = ap (λ u. u.judge) e; pairs = subst (λ (u : Groups T J). IsPermutation (neighbours u.remainder) (neighbours s.remainder)) (sym e) (IsPermutation-refl (neighbours s.remainder)) }
 
-  pub front_asks_once : (s t : Groups T J) (r : Option (List T)) → FrontCall g s r t → AsksEachOnce g s t
-  front_asks_once s t None h = asks_none s t h.1
-  front_asks_once s t (Some x) h = record {
-    questions = front_questions s.remainder (length x);
+  pub asks_once : (e : End) (s : Groups T J) (r : Option (List T)) (t : Groups T J) → CallAt (LinearQuestions g) e s r t → AsksEachOnce g s t
+  asks_once e s None t h = asks_none s t h.1
+  asks_once e s (Some x) t h = record {
+    questions = questions e s.remainder (length x);
     run = h.asked;
-    pairs = rw (h.cut, front_pairs x t.remainder h.nonempty) (IsPermutation-refl (neighbours (x ++ t.remainder)));
-  }
-
-  pub back_asks_once : (s t : Groups T J) (r : Option (List T)) → BackCall g s r t → AsksEachOnce g s t
-  back_asks_once s t None h = asks_none s t h.1
-  back_asks_once s t (Some x) h = record {
-    questions = back_questions s.remainder (length x);
-    run = h.asked;
-    pairs = rw h.cut (back_pairs x t.remainder h.nonempty);
+    pairs = rw h.cut (pairs_asked e x t.remainder h.nonempty);
   }
 
   -- one chain of calls after another

@@ -4,9 +4,13 @@ use Rattle.std.specs.Prelude.{reverse}
 use Rattle.std.specs.List.{AllByRecursion}
 use Rattle.std.proofs.lemmas.List.{reverse-append, length-append, length-take, length-reverse, length-map, get_or-reverse, get_or-append-add}
 use Rattle.std.proofs.Math.Seq.{take-append_seam, drop-append_seam, get_or-append_seam}
-use Rattle.sgb_search.specs.Neighbours.{neighbours, IsOneOf, AreNeighbours, all_answered, questions_along, front_questions, back_questions, on_pairs}
+use Rattle.sgb_search.specs.declared.end.End.{End}
+use Rattle.sgb_search.specs.declared.end.End.TheVariants.{Front, Back}
+use Rattle.sgb_search.specs.Lists.{from, put_at, neighbours, IsOneOf, AreNeighbours, on_pairs}
+use Rattle.sgb_search.specs.Linear.{all_answered, questions_along, questions}
 use Rattle.sgb_search.specs.Split.{IsAccepted, IsRefusedAcross}
-use Rattle.sgb_search.proofs.Each.{all_append, all_of_first, all_of_rest, all_each, all_take, all_drop, all_reverse, all_of_reverse, all_map, all_of_map}
+use Rattle.sgb_search.proofs.Each.{all_append, all_of_first, all_of_rest, all_each, all_take, all_drop, all_map, all_of_map}
+use Rattle.sgb_search.proofs.Ends.{length-from, all_from, all_of_from}
 
 module _ {A : Type 0} where
   -- the pair that stands across two lists, if neither is empty
@@ -37,11 +41,10 @@ module _ {A : Type 0} where
   one_of_rest [] rs q h = h
   one_of_rest (r ∷ qs) rs q h = inr (one_of_rest qs rs q h)
 
-  pub neighbours_of_first : (xs ys : List A) (q : A × A) → AreNeighbours xs q → AreNeighbours (xs ++ ys) q
-  neighbours_of_first xs ys q h = rw (neighbours-append xs ys) (one_of_first (neighbours xs) _ q h)
-
-  pub neighbours_of_rest : (xs ys : List A) (q : A × A) → AreNeighbours ys q → AreNeighbours (xs ++ ys) q
-  neighbours_of_rest xs ys q h = rw (neighbours-append xs ys) (one_of_rest (neighbours xs) _ q (one_of_rest (across xs ys) (neighbours ys) q h))
+  pub neighbours_of_rest : (e : End) (part rest : List A) (q : A × A) → AreNeighbours rest q → AreNeighbours (put_at e part rest) q
+  neighbours_of_rest Front part rest q h =
+      rw (neighbours-append part rest) (one_of_rest (neighbours part) _ q (one_of_rest (across part rest) (neighbours rest) q h))
+  neighbours_of_rest Back part rest q h = rw (neighbours-append rest part) (one_of_first (neighbours rest) _ q h)
 
   all_one_of : (qs : List (A × A)) → AllByRecursion (IsOneOf qs) qs
   all_one_of [] = tt
@@ -54,11 +57,9 @@ module _ {A : Type 0} where
       (all_map (λ q. (q, true)) (λ r. P r.0) (take (g - 1) qs) (all_take P (g - 1) qs h))
       (all_map (λ q. (q, false)) (λ r. P r.0) (take 1 (drop (g - 1) qs)) (all_take P 1 (drop (g - 1) qs) (all_drop P (g - 1) qs h)))
 
-  pub front_about : (xs : List A) (g : ℕ) → AllByRecursion (λ r. AreNeighbours xs r.0) (front_questions xs g)
-  front_about xs g = along_about (AreNeighbours xs) (neighbours xs) g (all_one_of (neighbours xs))
-
-  pub back_about : (xs : List A) (g : ℕ) → AllByRecursion (λ r. AreNeighbours xs r.0) (back_questions xs g)
-  back_about xs g = along_about (AreNeighbours xs) (reverse (neighbours xs)) g (all_reverse (AreNeighbours xs) (neighbours xs) (all_one_of (neighbours xs)))
+  pub about : (e : End) (xs : List A) (g : ℕ) → AllByRecursion (λ r. AreNeighbours xs r.0) (questions e xs g)
+  about e xs g =
+      along_about (AreNeighbours xs) (from e (neighbours xs)) g (all_from (AreNeighbours xs) e (neighbours xs) (all_one_of (neighbours xs)))
 
   -- how many questions there are
   length-answered : (b : Bool) (qs : List (A × A)) → length (all_answered b qs) ≡ length qs
@@ -76,11 +77,33 @@ module _ {A : Type 0} where
         length-drop (g - 1) qs,
       )
 
-  pub length-front_questions : (xs : List A) (g : ℕ) → 0 < g → length (front_questions xs g) ≡ min g (length xs - 1)
-  length-front_questions xs g h = length-along (neighbours xs) g h ∙ ap (λ (n : ℕ). min g n) (length-neighbours xs)
+  pub length-questions : (e : End) (xs : List A) (g : ℕ) → 0 < g → length (questions e xs g) ≡ min g (length xs - 1)
+  length-questions e xs g h =
+      length-along (from e (neighbours xs)) g h ∙ ap (λ (n : ℕ). min g n) (length-from e (neighbours xs) ∙ length-neighbours xs)
 
-  pub length-back_questions : (xs : List A) (g : ℕ) → 0 < g → length (back_questions xs g) ≡ min g (length xs - 1)
-  length-back_questions xs g h = length-along (reverse (neighbours xs)) g h ∙ ap (λ (n : ℕ). min g n) (length-reverse (neighbours xs) ∙ length-neighbours xs)
+  -- the two parts of a list in their order, the one at the end and the rest
+  abbrev pub in_order : End → List A → List A → List A × List A
+  in_order Front part rest = (part, rest)
+  in_order Back part rest = (rest, part)
+
+  abbrev pub between : End → List A → List A → List (A × A)
+  between e part rest = across (in_order e part rest).0 (in_order e part rest).1
+
+  reverse-across : (xs ys : List A) → reverse (across xs ys) ≡ across xs ys
+  reverse-across [] ys = refl
+  reverse-across (x ∷ []) [] = refl
+  reverse-across (x ∷ []) (y ∷ ys) = refl
+  reverse-across (x ∷ z ∷ zs) ys = reverse-across (z ∷ zs) ys
+
+  -- from the end on: the pairs of the part, the one between, and those of the rest
+  pub neighbours-put_at : (e : End) (part rest : List A)
+      → from e (neighbours (put_at e part rest)) ≡ from e (neighbours part) ++ (between e part rest ++ from e (neighbours rest))
+  neighbours-put_at Front part rest = neighbours-append part rest
+  neighbours-put_at Back part rest =
+      ap reverse (neighbours-append rest part) ∙ reverse-append (neighbours rest) (across rest part ++ neighbours part)
+      ∙ ap (λ l. l ++ reverse (neighbours rest)) (reverse-append (across rest part) (neighbours part)
+      ∙ ap (λ l. reverse (neighbours part) ++ l) (reverse-across rest part))
+      ∙ append_assoc (reverse (neighbours part)) (across rest part) (reverse (neighbours rest))
 
   -- a pair at its place
   pub record PairAt (qs : List (A × A)) (k : ℕ) (q : A × A) : Type 0 where
@@ -134,24 +157,13 @@ module _ {A : Type 0} where
     refused_across (x ∷ []) (y ∷ ys) rs h = λ a b i j. let e : p x y ≡ false = h.0 in cc (e, i, j)
     refused_across (x ∷ z ∷ zs) ys rs h = refused_across (z ∷ zs) ys rs h
 
-    reverse-across : (xs ys : List A) → reverse (across xs ys) ≡ across xs ys
-    reverse-across [] ys = refl
-    reverse-across (x ∷ []) [] = refl
-    reverse-across (x ∷ []) (y ∷ ys) = refl
-    reverse-across (x ∷ z ∷ zs) ys = reverse-across (z ∷ zs) ys
-
     -- the group is accepted inside, and refused towards the rest
-    pub front_says : (group rest : List A) → 0 < length group → AllByRecursion Agrees (front_questions (group ++ rest) (length group)) → IsAccepted p group × IsRefusedAcross p (group, rest)
-    front_says group rest l h =
-        let k = along_says (neighbours group) (across group rest ++ neighbours rest) (length group) (sym (length-neighbours group)) (rw (neighbours-append group rest) at h) in
-        (k.0, refused_across group rest (neighbours rest) k.1)
-
-    pub back_says : (group rest : List A) → 0 < length group → AllByRecursion Agrees (back_questions (rest ++ group) (length group)) → IsAccepted p group × IsRefusedAcross p (rest, group)
-    back_says group rest l h =
-        let e : reverse (neighbours (rest ++ group)) ≡ reverse (neighbours group) ++ (across rest group ++ reverse (neighbours rest)) =
-        ap reverse (neighbours-append rest group) ∙ reverse-append (neighbours rest) (across rest group ++ neighbours group)
-        ∙ ap (λ l. l ++ reverse (neighbours rest)) (reverse-append (across rest group) (neighbours group) ∙ ap (λ l. reverse (neighbours group) ++ l) (reverse-across rest group))
-        ∙ append_assoc (reverse (neighbours group)) (across rest group) (reverse (neighbours rest)) in
-        let n = length-reverse (neighbours group) in
-        let k = along_says (reverse (neighbours group)) (across rest group ++ reverse (neighbours rest)) (length group) (omega (arith, n, length-neighbours group)) (rw e at h) in
-        (all_of_reverse _ (neighbours group) k.0, refused_across rest group (reverse (neighbours rest)) k.1)
+    pub says : (e : End) (group rest : List A) → 0 < length group → AllByRecursion Agrees (questions e (put_at e group rest) (length group))
+        → IsAccepted p group × IsRefusedAcross p (in_order e group rest)
+    says e group rest l h =
+        let n = length-from e (neighbours group) in
+        let k = along_says (from e (neighbours group)) (between e group rest ++ from e (neighbours rest)) (length group)
+        (omega (arith, n, length-neighbours group)) (rw (neighbours-put_at e group rest) at h) in (
+          all_of_from _ e (neighbours group) k.0,
+          refused_across (in_order e group rest).0 (in_order e group rest).1 (from e (neighbours rest)) k.1,
+        )

@@ -9,9 +9,8 @@ use Rattle.std.specs.Fn.{Mut, TakesAt, CalledAt}
 use Rattle.std.specs.Borrow.{Bor}
 use Rattle.std.specs.declared.cmp.Ordering.{Ordering}
 use Rattle.std.specs.declared.cmp.Ordering.TheVariants.{Less, Equal, Greater}
-use Rattle.sgb_search.specs.Runs.{IsRun, MayAskAll, AnswersBy}
-use Rattle.sgb_search.specs.Halving.{MayProbe}
-use Rattle.sgb_search.specs.Galloping.{IsGalloped, GallopedBy, TwoAnswers, place_of}
+use Rattle.sgb_search.specs.Judges.{IsRun, MayAskAll, AnswersBy}
+use Rattle.sgb_search.specs.Places.{MayProbe, IsGalloped, GallopedBy, TwoAnswers, place_of}
 use Rattle.sgb_search.specs.Search.{AnswersAt, IsLocalAnswer, FindsIn, IsLessEqualGreater, MayCall, Computes, ComparesKey, EndsEqual, IsSearch}
 use Rattle.sgb_search.proofs.Each.{all_contains}
 use Rattle.sgb_search.proofs.Counting.{less_count}
@@ -151,7 +150,7 @@ module _ {F T : Type 0} (may : F → T → Type 0) (gives : F → T → Ordering
       empty [] e = refl
       empty (q ∷ qs) e = absurd (omega arith)
 
-      last : (r : Result ℕ ℕ) (qs : List (T × Ordering)) → Rattle.sgb_search.specs.Galloping.IsGallopPlace may_at called_at (length xs) rs r → IsRead xs rs qs → EndsEqual may gives xs qs r
+      last : (r : Result ℕ ℕ) (qs : List (T × Ordering)) → Rattle.sgb_search.specs.Places.IsGallopPlace may_at called_at (length xs) rs r → IsRead xs rs qs → EndsEqual may gives xs qs r
       last (Ok i) qs p read = read_last xs p.1.0 i Equal qs (subst (λ (l : List (ℕ × Ordering)). IsRead xs l qs) p.1.1 read)
       last (Err i) qs p read = tt
 

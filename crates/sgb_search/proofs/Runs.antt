@@ -1,7 +1,7 @@
 -- Runs of questions, and what holds along them.
 use Rattle.std.proofs.Common.{◌≡◌, ℕ, ◌+◌, List, [], ◌∷◌, ◌++◌, length-append, refl, subst, sym}
 use Rattle.std.specs.List.{AllByRecursion}
-use Rattle.sgb_search.specs.Runs.{IsRun, IsRunOf, MayAskAll, AnswersBy}
+use Rattle.sgb_search.specs.Judges.{IsRun, IsRunOf, MayAskAll, AnswersBy}
 use Rattle.sgb_search.proofs.Each.{all_append, all_of_rest, all_each}
 
 module _ {S Q A : Type 0} (may : S → Q → Type 0) (gives : S → Q → A → S → Type 0) where

@@ -1,14 +1,13 @@
 -- A scan, question by question: along pairs that are all accepted, up to the first that is refused.
 use Rattle.std.proofs.Common.{◌≡◌, ℕ, suc, ◌+◌, ◌-◌, ◌<◌, ◌≤◌, Bool, true, false, List, [], ◌∷◌, ◌++◌, length, take, drop, get_or, ap, ◌∙◌, arith, drop-cons}
 use Rattle.std.specs.Prelude.{reverse}
-use Rattle.std.specs.List.{slice_range}
 use Rattle.std.proofs.lemmas.List.{take_more, map-append, append-nil, length-reverse}
 use Rattle.std.proofs.Math.ListN.{drop_of_length-le}
-use Rattle.sgb_search.specs.Runs.{IsRun}
-use Rattle.sgb_search.specs.Neighbours.{neighbours, AreNeighbours, all_answered, questions_along}
+use Rattle.sgb_search.specs.Judges.{IsRun}
+use Rattle.sgb_search.specs.Lists.{neighbours, AreNeighbours}
+use Rattle.sgb_search.specs.Linear.{all_answered, questions_along}
 use Rattle.sgb_search.proofs.Runs.{run_push}
-use Rattle.sgb_search.proofs.Pairs.{PairAt, at_reverse, one_of_at, length-neighbours}
-use Rattle.sgb_search.proofs.Ranges.{length-range, range_neighbours}
+use Rattle.sgb_search.proofs.Pairs.{PairAt, at_reverse, one_of_at, length-neighbours, neighbours_at}
 
 all_answered_append : {A : Type 0} (b : Bool) (qs rs : List (A × A)) → all_answered b (qs ++ rs) ≡ all_answered b qs ++ all_answered b rs
 all_answered_append b qs rs = map-append (λ q. (q, b)) qs rs
@@ -40,21 +39,21 @@ module _ {S A : Type 0} (may : S → A × A → Type 0) (gives : S → A × A �
       rw (i, drop_of_length-le qs {i = k} l, append-nil (all_answered true (take k qs))) h.run
 
 -- the places of a scan: the elements before the place i and at it are asked about
-module _ {T : Type 0} (xs : List T) (low high i : ℕ) (a b : T) (lower : low < i) (upper : i < high) (within : high ≤ length xs) (p : a ≡ get_or xs (i - 1) a) (q : b ≡ get_or xs i b) where
+module _ {T : Type 0} (xs : List T) (i : ℕ) (a b : T) (lower : 0 < i) (upper : i < length xs)
+    (p : a ≡ get_or xs (i - 1) a) (q : b ≡ get_or xs i b) where
   -- from the front
-  pub front_pair : PairAt (neighbours (slice_range xs low high)) (i - low - 1) (a, b)
-  front_pair = range_neighbours xs low high i a b lower upper within p q
+  pub front_pair : PairAt (neighbours xs) (i - 1) (a, b)
+  front_pair =
+      let here : b ≡ get_or xs (suc (i - 1)) b = q ∙ ap (λ (n : ℕ). get_or xs n b) {x = i} {y = suc (i - 1)} (omega arith) in
+      neighbours_at xs (i - 1) a b (omega arith) p here
 
   -- from the back
-  pub back_pair : PairAt (reverse (neighbours (slice_range xs low high))) (high - i - 1) (a, b)
-  back_pair = at_reverse (neighbours (slice_range xs low high)) (i - low - 1) (high - i - 1) (a, b) front_pair (omega (arith, length-neighbours (slice_range xs low high), length-range xs low high (omega arith) within))
+  pub back_pair : PairAt (reverse (neighbours xs)) (length xs - i - 1) (a, b)
+  back_pair = at_reverse (neighbours xs) (i - 1) (length xs - i - 1) (a, b) front_pair (omega (arith, length-neighbours xs))
 
-  pub are_neighbours : AreNeighbours (slice_range xs low high) (a, b)
-  are_neighbours = one_of_at (neighbours (slice_range xs low high)) (i - low - 1) (a, b) front_pair
+  pub are_neighbours : AreNeighbours xs (a, b)
+  are_neighbours = one_of_at (neighbours xs) (i - 1) (a, b) front_pair
 
--- how many pairs there are
-pub front_pairs : {T : Type 0} (xs : List T) (low high : ℕ) → low < high → high ≤ length xs → length (neighbours (slice_range xs low high)) ≡ high - low - 1
-front_pairs xs low high l w = omega (arith, length-neighbours (slice_range xs low high), length-range xs low high (omega arith) w)
-
-pub back_pairs : {T : Type 0} (xs : List T) (low high : ℕ) → low < high → high ≤ length xs → length (reverse (neighbours (slice_range xs low high))) ≡ high - low - 1
-back_pairs xs low high l w = length-reverse (neighbours (slice_range xs low high)) ∙ front_pairs xs low high l w
+-- how many pairs there are from the back
+pub back_pairs : {T : Type 0} (xs : List T) → length (reverse (neighbours xs)) ≡ length xs - 1
+back_pairs xs = length-reverse (neighbours xs) ∙ length-neighbours xs

@@ -5,11 +5,8 @@ use Rattle.std.specs.List.{Contains}
 use Rattle.std.proofs.lemmas.List.Elements.{Contains-push}
 use Rattle.std.specs.declared.cmp.Ordering.{Ordering}
 use Rattle.std.specs.declared.cmp.Ordering.TheVariants.{Less, Equal, Greater}
-use Rattle.sgb_search.specs.Digits.{digits}
-use Rattle.sgb_search.specs.Halving.{IsHalved, IsLowEnd, IsHighEnd}
-use Rattle.sgb_search.specs.Galloping.{IsGalloped, TwoAnswers}
-use Rattle.sgb_search.specs.Jumps.{IsWithin, halving, galloping}
-use Rattle.sgb_search.specs.Seeking.{IsSought}
+use Rattle.sgb_search.specs.Searching.{digits, IsWithin, binary, exponential}
+use Rattle.sgb_search.specs.Places.{IsHalved, IsLowEnd, IsHighEnd, IsGalloped, TwoAnswers, IsSought}
 use Rattle.sgb_search.proofs.Digits.{digits_mono, due_halving, due_galloping}
 
 -- the place after some records is the last of them
@@ -17,10 +14,10 @@ last_one : (rs front : List (ℕ × Ordering)) (i : ℕ) → rs ≡ front ++ (i,
 last_one rs front i e = subst (λ (l : List (ℕ × Ordering)). Contains l (i, Equal)) (sym e) (Contains-push front (i, Equal))
 
 -- within the cost of one call, and of all
-pub halving_within : (n g m : ℕ) → 0 < g → g ≤ n → m ≤ digits (n - 1) → IsWithin halving n g m
+pub halving_within : (n g m : ℕ) → 0 < g → g ≤ n → m ≤ digits (n - 1) → IsWithin binary n g m
 halving_within n g m pos le few = record { call = few; walk = omega (arith, few, due_halving n g pos le) }
 
-pub galloping_within : (n g m : ℕ) → 0 < g → g ≤ n → m ≤ 2 * digits g + 1 → IsWithin galloping n g m
+pub galloping_within : (n g m : ℕ) → 0 < g → g ≤ n → m ≤ 2 * digits g + 1 → IsWithin exponential n g m
 galloping_within n g m pos le few = record { call = few; walk = omega (arith, few, due_galloping n g pos le) }
 
 module _ {S : Type 0} (may : S → ℕ → Type 0) (gives : S → ℕ → Ordering → S → Type 0) (len : ℕ) (s : S) (t : S) where
@@ -34,7 +31,7 @@ module _ {S : Type 0} (may : S → ℕ → Type 0) (gives : S → ℕ → Orderi
   both_ends rs i (inr (inl k)) (inl f) = inl (inr k, inl f)
   both_ends rs i (inr (inl k)) (inr (inl l)) = inl (inr k, inr l)
 
-  pub halved_sought : (r : Result ℕ ℕ) → IsHalved may gives 0 len s r t → IsSought may gives halving len s r t
+  pub halved_sought : (r : Result ℕ ℕ) → IsHalved may gives 0 len s r t → IsSought may gives binary len s r t
   halved_sought (Ok i) (rs, h) = (
     rs,
     record {
@@ -54,7 +51,7 @@ module _ {S : Type 0} (may : S → ℕ → Type 0) (gives : S → ℕ → Orderi
     },
   )
 
-  pub galloped_sought : (r : Result ℕ ℕ) → IsGalloped may gives len s r t → IsSought may gives galloping len s r t
+  pub galloped_sought : (r : Result ℕ ℕ) → IsGalloped may gives len s r t → IsSought may gives exponential len s r t
   galloped_sought (Ok i) (rs, h) = (
     rs,
     record {

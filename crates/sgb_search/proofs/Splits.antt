@@ -1,12 +1,14 @@
 -- A split exists, it is the only one, and its outermost pieces come off alone.
-use Rattle.std.proofs.Common.{◌≡◌, ◌+◌, ◌<◌, Bool, true, false, not, cond, List, [], ◌∷◌, ◌++◌, length, Some, refl, sym, ap, ◌∙◌, subst, arith}
+use Rattle.std.proofs.Common.{◌≡◌, ◌+◌, ◌<◌, Bool, true, false, not, cond, List, [], ◌∷◌, ◌++◌, length, None, Some, refl, sym, ap, ◌∙◌, subst, arith}
 use Rattle.std.specs.Prelude.{◌≢◌}
 use Rattle.std.specs.List.{AllByRecursion}
 use Rattle.std.proofs.lemmas.List.{append-nil}
 use Rattle.std.proofs.lemmas.List.Sums.{sum_by-cons}
-use Rattle.sgb_search.specs.Ends.{first, last, without_first, without_last}
-use Rattle.sgb_search.specs.Neighbours.{neighbours, on_pairs}
-use Rattle.sgb_search.specs.Split.{joined, IsAccepted, IsRefusedAcross, IsSplit, put_before, split, refused_pairs, TakesFirst, TakesLast}
+use Rattle.sgb_search.specs.declared.end.End.{End}
+use Rattle.sgb_search.specs.declared.end.End.TheVariants.{Front, Back}
+use Rattle.sgb_search.specs.Lists.{put_at, first, last, without_first, without_last, neighbours, on_pairs}
+use Rattle.sgb_search.proofs.Pairs.{in_order}
+use Rattle.sgb_search.specs.Split.{joined, IsAccepted, IsRefusedAcross, IsSplit, put_before, split, refused_pairs, TakesPiece}
 
 pub last_push : {X : Type 0} (xs : List X) (y : X) → last (xs ++ y ∷ []) ≡ Some y
 last_push [] y = refl
@@ -104,13 +106,16 @@ module _ {A : Type 0} (p : A → A → Bool) where
       ap (put_before p (p x z) x) (split_last (z ∷ zs) y ys a r) ∙ rw h.is (put_before_push (p x z) x (z ∷ h.more) h.others (y ∷ ys))
 
   -- what comes off a list whose outermost part is accepted inside and refused towards the rest
-  pub takes_first : (x : A) (xs rest : List A) → IsAccepted p (x ∷ xs) → IsRefusedAcross p (x ∷ xs, rest) → TakesFirst p ((x ∷ xs) ++ rest) (Some (x ∷ xs)) rest
-  takes_first x xs rest a r = let e = split_first x xs rest a r in (ap first (sym e), ap without_first (sym e))
+  pub takes_piece : (e : End) (x : A) (xs rest : List A) → IsAccepted p (x ∷ xs) → IsRefusedAcross p (in_order e (x ∷ xs) rest)
+      → TakesPiece p e (put_at e (x ∷ xs) rest) (Some (x ∷ xs)) rest
+  takes_piece Front x xs rest a r = let e = split_first x xs rest a r in (ap first (sym e), ap without_first (sym e))
+  takes_piece Back x xs rest a r =
+      let e = split_last rest x xs a r in
+      (sym (ap last e ∙ last_push (split p rest) (x ∷ xs)), sym (ap without_last e ∙ without_last_push (split p rest) (x ∷ xs)))
 
-  pub takes_last : (rest : List A) (y : A) (ys : List A) → IsAccepted p (y ∷ ys) → IsRefusedAcross p (rest, y ∷ ys) → TakesLast p (rest ++ y ∷ ys) (Some (y ∷ ys)) rest
-  takes_last rest y ys a r =
-      let e = split_last rest y ys a r in
-      (sym (ap last e ∙ last_push (split p rest) (y ∷ ys)), sym (ap without_last e ∙ without_last_push (split p rest) (y ∷ ys)))
+  pub takes_nothing : (e : End) → TakesPiece p e [] None []
+  takes_nothing Front = (refl, refl)
+  takes_nothing Back = (refl, refl)
 
   -- how many pieces there are
   length-put_before : (b : Bool) (x : A) (g : List A) (gs : List (List A)) → length (put_before p b x (g ∷ gs)) ≡ cond (not b) 1 0 + length (g ∷ gs)

@@ -1,32 +1,38 @@
--- What a call of an iterator over groups gives of the list that remains: one definition for all families, which differ in what they ask.
-use Rattle.std.specs.Prelude.{◌≡◌, ℕ, ◌<◌, List, [], ◌++◌, length, Option, MatchOption}
+-- What contracts see of an iterator over groups, and what a call gives of the list that remains: one definition for all families, which
+-- differ in what they ask.
+use Rattle.std.specs.Prelude.{List, length, ◌≡◌, ℕ, ◌<◌, Bool, [], Option, MatchOption}
+use Rattle.std.specs.Iterator.{Count, at_most}
+use Rattle.sgb_search.specs.declared.end.End.{End}
 use Rattle.sgb_search.specs.declared.judge.Judge.{Ghosts}
-use Rattle.sgb_search.specs.Runs.{MayAskAll}
-use Rattle.sgb_search.specs.Groups.{Groups}
+use Rattle.sgb_search.specs.Lists.{put_at, on_pairs}
+use Rattle.sgb_search.specs.Judges.{MayAskAll, AnswersBy}
+
+-- the elements that it has not handed out yet, and its judge
+pub record Groups (T J : Type 0) : Type 0 where
+  pub remainder : List T
+  pub judge : J
+
+-- no more groups come than elements remain
+abbrev pub groups_left : {T J : Type 0} → Groups T J → Count
+groups_left s = at_most (length s.remainder)
 
 module _ {T J : Type 0} where
-  -- asks xs n j k: a call that takes n of the elements xs may lead the judge from j to k
-  module _ (asks : List T → ℕ → J → J → Type 0) where
-    -- the group is a nonempty beginning of the remainder, and t has the rest
-    pub record IsGroupAtFront (s : Groups T J) (group : List T) (t : Groups T J) : Type 0 where
+  -- asks e xs n j k: a call at the end e that takes n of the elements xs may lead the judge from j to k
+  module _ (asks : End → List T → ℕ → J → J → Type 0) (e : End) where
+    -- the group is a nonempty part at the end of the remainder, and t has the rest
+    pub record IsGroupAt (s : Groups T J) (group : List T) (t : Groups T J) : Type 0 where
       pub nonempty : 0 < length group
-      pub cut : s.remainder ≡ group ++ t.remainder
-      pub asked : asks s.remainder (length group) s.judge t.judge
+      pub cut : s.remainder ≡ put_at e group t.remainder
+      pub asked : asks e s.remainder (length group) s.judge t.judge
 
-    -- the same at the back
-    pub record IsGroupAtBack (s : Groups T J) (group : List T) (t : Groups T J) : Type 0 where
-      pub nonempty : 0 < length group
-      pub cut : s.remainder ≡ t.remainder ++ group
-      pub asked : asks s.remainder (length group) s.judge t.judge
-
-    -- a call at the front: it gives the group there, or `None` exactly where nothing remains, and then nothing is asked and nothing changes
-    abbrev pub CallAtFront : Groups T J → Option (List T) → Groups T J → Type 0
-    CallAtFront s group t = MatchOption group ((s.remainder ≡ []) × (t ≡ s)) (λ x. IsGroupAtFront s x t)
-
-    -- a call at the back
-    abbrev pub CallAtBack : Groups T J → Option (List T) → Groups T J → Type 0
-    CallAtBack s group t = MatchOption group ((s.remainder ≡ []) × (t ≡ s)) (λ x. IsGroupAtBack s x t)
+    -- a call: it gives the group there, or `None` exactly where nothing remains, and then nothing is asked and nothing changes
+    abbrev pub CallAt : Groups T J → Option (List T) → Groups T J → Type 0
+    CallAt s group t = MatchOption group ((s.remainder ≡ []) × (t ≡ s)) (λ x. IsGroupAt s x t)
 
   -- allowed xs are the pairs that a call may ask about where xs remains: the judge may be asked about each, now and after any such questions
   abbrev pub IsCallableBy : (List T → T × T → Type 0) → Ghosts J T → Groups T J → Type 0
   IsCallableBy allowed g s = MayAskAll g.may_ask g.answers (allowed s.remainder) s.judge
+
+  -- each answer to allowed questions is what p says; whether they may be asked it leaves open
+  abbrev pub ComputesBy : (List T → T × T → Type 0) → Ghosts J T → Groups T J → (T → T → Bool) → Type 0
+  ComputesBy allowed g s p = AnswersBy g.may_ask g.answers (allowed s.remainder) (on_pairs p) s.judge

@@ -1,10 +1,9 @@
--- What judges may be asked, and what they answer. A question is a pair: of a linear call the left element first, of one that jumps the outermost.
-use Rattle.std.specs.Prelude.{◌≡◌, ℕ, ◌+◌, Bool, List}
+-- Runs of questions, and what judges may be asked and what they answer. A question is a pair: of a linear call the left element first, of a
+-- binary or exponential one the outermost.
+use Rattle.std.specs.Prelude.{◌≡◌, ℕ, ◌+◌, ◌≤◌, Bool, true, List, [], ◌∷◌, length}
+use Rattle.std.specs.List.{AllByRecursion}
 use Rattle.std.specs.Borrow.{Bor}
 use Rattle.std.specs.Fn.{Takes, TakesAt, TakesAtTwo, Called, CalledAt, CalledAtTwo, AlwaysReturns, Mut}
-use Rattle.sgb_search.specs.Runs.{MayAskAll, AnswersBy}
-use Rattle.sgb_search.specs.Neighbours.{AreNeighbours, on_pairs}
-use Rattle.sgb_search.specs.Apart.{AreApart}
 use Rattle.sgb_search.specs.declared.judge.Judge.{Ghosts}
 use Rattle.sgb_search.specs.declared.judge.PredicateJudge.{PredicateJudge}
 use Rattle.sgb_search.specs.declared.judge.KeyJudge.{KeyJudge}
@@ -12,22 +11,34 @@ use Rattle.sgb_search.specs.declared.judge.CharPredicateJudge.{CharPredicateJudg
 use Rattle.sgb_search.specs.declared.judge.CharKeyJudge.{CharKeyJudge}
 use Rattle.sgb_search.specs.declared.judge.EqualityJudge.{EqualityJudge}
 
-module _ {J T : Type 0} (g : Ghosts J T) where
-  -- the judge may be asked about each neighbouring pair of the list, now and after any such questions
-  abbrev pub MayAskAlong : List T → J → Type 0
-  MayAskAlong xs j = MayAskAll g.may_ask g.answers (AreNeighbours xs) j
+-- A run speaks of the states of a judge, a comparator or a key function, and so holds of each call that its state can tell: code that is
+-- generic in the judge is held to it by a judge that keeps a list of its calls.
 
-  -- each answer to questions about neighbouring pairs of the list, in any order, is what p says; whether they may be asked it leaves open
-  abbrev pub AnswersAlong : List T → (T → T → Bool) → J → Type 0
-  AnswersAlong xs p j = AnswersBy g.may_ask g.answers (AreNeighbours xs) (on_pairs p) j
+-- may s q: in the state s the question q may be asked; gives s q a t: the answer may be a, and then the state is t
+module _ {S Q A : Type 0} (may : S → Q → Type 0) (gives : S → Q → A → S → Type 0) where
+  -- from s to t: each pair is a question and its answer, asked in the state in which the one before it ended, and allowed there
+  abbrev pub IsRun : S → List (Q × A) → S → Type 0
+  IsRun s [] t = t ≡ s
+  IsRun s (r ∷ rs) t = may s r.0 × ((u : S) × gives s r.0 r.1 u × IsRun u rs t)
 
-  -- the judge may be asked about every two different places of the list, in both orders, now and after any such questions
-  abbrev pub MayAskApart : List T → J → Type 0
-  MayAskApart xs j = MayAskAll g.may_ask g.answers (AreApart xs) j
+  -- some run of n questions leads from s to t
+  abbrev pub IsRunOf : ℕ → S → S → Type 0
+  IsRunOf n s t = (rs : List (Q × A)) × IsRun s rs t × (length rs ≡ n)
 
-  -- each answer to such questions is what p says; whether they may be asked it leaves open
-  abbrev pub AnswersApart : List T → (T → T → Bool) → J → Type 0
-  AnswersApart xs p j = AnswersBy g.may_ask g.answers (AreApart xs) (on_pairs p) j
+  -- in every state that runs of allowed questions reach, each allowed question may be asked
+  abbrev pub MayAskAll : (Q → Type 0) → S → Type 0
+  MayAskAll allowed s = (rs : List (Q × A)) (t : S) → IsRun s rs t → AllByRecursion (λ r. allowed r.0) rs → (q : Q) → allowed q → may t q
+
+  -- each allowed question has the one answer, in every state that runs of allowed questions reach
+  pub record AnswersBy (allowed : Q → Type 0) (answer : Q → A) (s : S) : Type 0 where
+    pub at : (rs : List (Q × A)) (t : S) → IsRun s rs t → AllByRecursion (λ r. allowed r.0) rs → AllByRecursion (λ r. r.1 ≡ answer r.0) rs
+
+-- some number of questions was asked from q to r: at most what is due at q less what is due at r, and just that number where exact
+pub record AsksWithin {Q : Type 0} (asked : Q → Q → ℕ → Type 0) (due : Q → ℕ) (exact : Bool) (q r : Q) : Type 0 where
+  pub number : ℕ
+  pub asks : asked q r number
+  pub most : number + due r ≤ due q
+  pub all : exact ≡ true → number + due r ≡ due q
 
 -- by predicate: one call
 abbrev pub by_predicate : {P T : Type 0} → Mut P (Bor T × (Bor T × Unit {0})) Bool → Ghosts (PredicateJudge P) T

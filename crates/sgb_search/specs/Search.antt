@@ -10,10 +10,10 @@ use Rattle.std.specs.Borrow.{Bor}
 use Rattle.std.specs.Ordering.{ordering_index, is_lt}
 use Rattle.std.specs.declared.cmp.Ordering.{Ordering}
 use Rattle.std.specs.declared.cmp.Ordering.TheVariants.{Less, Equal, Greater}
-use Rattle.sgb_search.specs.Digits.{digits}
-use Rattle.sgb_search.specs.Galloping.{place_of}
-use Rattle.sgb_search.specs.Neighbours.{neighbours}
-use Rattle.sgb_search.specs.Runs.{IsRun, MayAskAll, AnswersBy}
+use Rattle.sgb_search.specs.Searching.{digits}
+use Rattle.sgb_search.specs.Places.{place_of}
+use Rattle.sgb_search.specs.Lists.{neighbours}
+use Rattle.sgb_search.specs.Judges.{IsRun, MayAskAll, AnswersBy}
 
 module _ {T : Type 0} (ord : T → Ordering) (xs : List T) where
   -- the element at place i is answered o

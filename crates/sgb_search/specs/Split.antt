@@ -2,10 +2,11 @@
 --     IsSplit p xs ps       ps are the pieces of xs for the test p
 --     split p xs            those pieces, computed
 --     refused_pairs p xs    how many neighbouring pairs of xs the test refuses
-use Rattle.std.specs.Prelude.{◌≡◌, ◌≢◌, ℕ, Bool, true, false, not, List, [], ◌∷◌, Option, Some, flat_map, count_by}
+--     IsGrouped p xs        so a binary or exponential call finds the pieces of xs for the test p
+use Rattle.std.specs.Prelude.{◌≡◌, ◌≢◌, ℕ, Bool, true, false, not, List, [], ◌∷◌, Option, Some, flat_map, count_by, ◌↔◌, ◌+◌, ◌<◌, slice_get, slice_range}
 use Rattle.std.specs.List.{AllByRecursion}
-use Rattle.sgb_search.specs.Ends.{first, last, without_first, without_last}
-use Rattle.sgb_search.specs.Neighbours.{neighbours, on_pairs}
+use Rattle.sgb_search.specs.declared.end.End.{End}
+use Rattle.sgb_search.specs.Lists.{first, last, item_at, without, neighbours, on_pairs}
 
 module _ {A : Type 0} where
   -- the lists, one after another
@@ -44,10 +45,12 @@ module _ {A : Type 0} where
     abbrev pub refused_pairs : List A → ℕ
     refused_pairs xs = count_by (λ q. not (on_pairs p q)) (neighbours xs)
 
-    -- o is the first piece of the split of xs, or nothing where there is none, and ys is split into the others
-    abbrev pub TakesFirst : List A → Option (List A) → List A → Type 0
-    TakesFirst xs o ys = (o ≡ first (split xs)) × (split ys ≡ without_first (split xs))
+    -- o is the piece at the end of the split of xs, or nothing where there is none, and ys is split into the others
+    abbrev pub TakesPiece : End → List A → Option (List A) → List A → Type 0
+    TakesPiece e xs o ys = (o ≡ item_at e (split xs)) × (split ys ≡ without e (split xs))
 
-    -- the same of the last piece
-    abbrev pub TakesLast : List A → Option (List A) → List A → Type 0
-    TakesLast xs o ys = (o ≡ last (split xs)) × (split ys ≡ without_last (split xs))
+module _ {A : Type 0} where
+  -- any two different places agree, in either order, exactly if each neighbouring pair between them is accepted
+  pub record IsGrouped (p : A → A → Bool) (xs : List A) : Type 0 where
+    pub at : (i j : ℕ) (x y : A) → i < j → slice_get xs i ≡ Some x → slice_get xs j ≡ Some y
+        → ((p x y ≡ true) ↔ IsAccepted p (slice_range xs i (j + 1))) × ((p y x ≡ true) ↔ IsAccepted p (slice_range xs i (j + 1)))

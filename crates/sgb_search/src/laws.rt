@@ -2,13 +2,13 @@
 ghost use Rattle.std.specs.Prelude.{◌≡◌, ℕ, ◌+◌, ◌-◌, ◌^◌, ◌<◌, ◌≤◌, ◌++◌, Bool, List, length, map};
 ghost use Rattle.std.specs.Fn.{ComputesKey, TakesAt, TakesAtTwo};
 ghost use Rattle.std.specs.List.{Contains};
-ghost use Rattle.sgb_search.specs.Digits.{digits};
-ghost use Rattle.sgb_search.specs.Apart.{AreApart, IsGrouped};
+ghost use Rattle.sgb_search.specs.declared.end.End.{End};
+ghost use Rattle.sgb_search.specs.Searching.{digits, MayAskApart, AnswersApart};
+ghost use Rattle.sgb_search.specs.Lists.{AreApart, neighbours, AreNeighbours};
+ghost use Rattle.sgb_search.specs.Split.{IsGrouped, IsSplit, split, refused_pairs};
 ghost use Rattle.sgb_search.specs.Search.{MayCall, Computes, NeverDescends};
-ghost use Rattle.sgb_search.specs.Split.{IsSplit, split, refused_pairs};
-ghost use Rattle.sgb_search.specs.Neighbours.{neighbours, AreNeighbours, front_questions, back_questions};
-ghost use Rattle.sgb_search.specs.Runs.{IsRunOf};
-ghost use Rattle.sgb_search.specs.Judges.{MayAskAlong, AnswersAlong, MayAskApart, AnswersApart, by_predicate, predicate_judge, MayCallOnPairs, by_key, key_judge, by_char_predicate, char_predicate_judge, by_char_key, char_key_judge, by_equality};
+ghost use Rattle.sgb_search.specs.Linear.{questions, MayAskAlong, AnswersAlong};
+ghost use Rattle.sgb_search.specs.Judges.{IsRunOf, by_predicate, predicate_judge, MayCallOnPairs, by_key, key_judge, by_char_predicate, char_predicate_judge, by_char_key, char_key_judge, by_equality};
 ghost use Rattle.sgb_search.specs.declared.judge.EqualityJudge.{EqualityJudge};
 
 /// Each list has exactly one split for a test. It has one piece more than the test refuses pairs, and none if it is
@@ -25,10 +25,8 @@ pub fn one_split<T>()
 #[inline]
 pub fn question_count<T>()
     ensures pairs { (xs : List T) → length (neighbours xs) ≡ length xs - 1 }
-    ensures front { (xs : List T) (g : ℕ) → 0 < g → g < length xs → length (front_questions xs g) ≡ g }
-    ensures back { (xs : List T) (g : ℕ) → 0 < g → g < length xs → length (back_questions xs g) ≡ g }
-    ensures front_last { (xs : List T) (g : ℕ) → 0 < g → g ≡ length xs → length (front_questions xs g) ≡ g - 1 }
-    ensures back_last { (xs : List T) (g : ℕ) → 0 < g → g ≡ length xs → length (back_questions xs g) ≡ g - 1 }
+    ensures some_remain { (e : End) (xs : List T) (g : ℕ) → 0 < g → g < length xs → length (questions e xs g) ≡ g }
+    ensures none_remain { (e : End) (xs : List T) (g : ℕ) → 0 < g → g ≡ length xs → length (questions e xs g) ≡ g - 1 }
 {}
 
 /// A predicate that may always be called may be asked about the neighbouring pairs of every slice.

@@ -1,17 +1,17 @@
-//! What decides whether two elements belong together, and the definitions that every group stands on.
+//! The base of the library: what decides whether two elements belong together, the definitions that every group stands on, and
+//! the searches of a slice.
 //!
-//! The definitions are in `specs/`, and are meant to be read first: `Split` (what the groups are), `Neighbours`
-//! (which questions a linear call asks), `Runs` (what a list of questions does to the state of a judge), `Calls` and
-//! `LinearCalls` (what a call gives of a list, and what a linear one asks), `Apart` (which slices are grouped), `Jumps` and
-//! `JumpingCalls` (what a binary or exponential call asks and gives), `Search` (what the searches find).
+//! The definitions are in `specs/`, and are meant to be read first: `Split` (what the groups are), `Lists` (a list from an
+//! end, and its pairs), `Judges` (what a list of questions does to the state of a judge, and what judges answer), `Calls`
+//! (what a call gives of a list), `Linear` (what a linear call asks), `Searching` (what a binary or exponential call asks),
+//! `Search` (what the searches of a slice find).
 #![tactic(auto)]
 
-pub mod cut;
+pub mod end;
+pub mod gallop;
 pub mod judge;
 pub mod laws;
-pub mod probe;
 pub mod questions;
 pub mod search;
-pub mod strategy;
 #[cfg(test)]
 mod tests;

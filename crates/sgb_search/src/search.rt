@@ -6,7 +6,7 @@ ghost use Rattle.std.specs.Fn.{TakesAt, CalledAt};
 ghost use Rattle.std.specs.declared.cmp.Ordering.{Ordering};
 ghost use Rattle.sgb_search.specs.Search.{MayCall, Computes, ComparesKey, IsSearch, IsLocalAnswer, IsLessEqualGreater, FindsIn, NeverDescends};
 
-use crate::probe::{Probe, gallop};
+use crate::gallop::{Places, gallop};
 use std::cmp::Ordering;
 
 // The elements of a slice, of which a comparator is asked.
@@ -15,14 +15,14 @@ pub(crate) struct Elements<'a, T> {
     slice: &'a [T],
 }
 
-impl<'a, T, F: FnMut(&T) -> Ordering> Probe<Elements<'a, T>> for F {
-    ghost may_probe = { λ f c i. (i < length c.slice.now) × ((x : T) → slice_get c.slice.now i ≡ Some x → TakesAt F.FnMut f x) };
+impl<'a, T, F: FnMut(&T) -> Ordering> Places<F> for Elements<'a, T> {
+    ghost may_compare = { λ f c i. (i < length c.slice.now) × ((x : T) → slice_get c.slice.now i ≡ Some x → TakesAt F.FnMut f x) };
 
-    ghost probed = { λ f c i o h. (x : T) × (slice_get c.slice.now i ≡ Some x) × CalledAt F.FnMut f x o h };
+    ghost compares = { λ f c i o h. (x : T) × (slice_get c.slice.now i ≡ Some x) × CalledAt F.FnMut f x o h };
 
     #[inline]
-    fn probe(&mut self, context: &Elements<'a, T>, place: usize) -> Ordering {
-        self(&context.slice[place])
+    fn compare(&self, asker: &mut F, place: usize) -> Ordering {
+        asker(&self.slice[place])
     }
 }
 
@@ -33,14 +33,14 @@ pub(crate) struct Keyed<'a, T, B> {
     key: &'a B,
 }
 
-impl<'a, T, B: Ord + Drop, F: FnMut(&T) -> B> Probe<Keyed<'a, T, B>> for F {
-    ghost may_probe = { λ f c i. (i < length c.slice.now) × ((x : T) → slice_get c.slice.now i ≡ Some x → TakesAt F.FnMut f x) };
+impl<'a, T, B: Ord + Drop, F: FnMut(&T) -> B> Places<F> for Keyed<'a, T, B> {
+    ghost may_compare = { λ f c i. (i < length c.slice.now) × ((x : T) → slice_get c.slice.now i ≡ Some x → TakesAt F.FnMut f x) };
 
-    ghost probed = { λ f c i o h. (x : T) × (slice_get c.slice.now i ≡ Some x) × ComparesKey F.FnMut B.cmp c.key.now f x o h };
+    ghost compares = { λ f c i o h. (x : T) × (slice_get c.slice.now i ≡ Some x) × ComparesKey F.FnMut B.cmp c.key.now f x o h };
 
     #[inline]
-    fn probe(&mut self, context: &Keyed<'a, T, B>, place: usize) -> Ordering {
-        self(&context.slice[place]).cmp(context.key)
+    fn compare(&self, asker: &mut F, place: usize) -> Ordering {
+        asker(&self.slice[place]).cmp(self.key)
     }
 }
 

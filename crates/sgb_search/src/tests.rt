@@ -1,7 +1,9 @@
 //! The definitions, computed at small cases.
 ghost use Rattle.std.specs.Prelude.{◌≡◌, ◌+◌, ◌-◌, ◌*◌, ℕ, true, false, [], ◌∷◌, nat_eq, nat_lt};
-ghost use Rattle.sgb_search.specs.Digits.{digits};
-ghost use Rattle.sgb_search.specs.Neighbours.{neighbours, front_questions, back_questions};
+ghost use Rattle.sgb_search.specs.Searching.{digits};
+ghost use Rattle.sgb_search.specs.declared.end.End.TheVariants.{Front, Back};
+ghost use Rattle.sgb_search.specs.Lists.{neighbours};
+ghost use Rattle.sgb_search.specs.Linear.{questions};
 ghost use Rattle.sgb_search.specs.Split.{split, refused_pairs};
 
 fn splits()
@@ -15,11 +17,11 @@ fn splits()
 // Of 1, 2, 3, 2, 3 under `<` the first group has three elements and the last has two.
 fn questions()
     ensures pairs { neighbours {A = ℕ} (1 ∷ 2 ∷ 3 ∷ []) ≡ (1, 2) ∷ (2, 3) ∷ [] }
-    ensures front { front_questions {A = ℕ} (1 ∷ 2 ∷ 3 ∷ 2 ∷ 3 ∷ []) 3 ≡ ((1, 2), true) ∷ ((2, 3), true) ∷ ((3, 2), false) ∷ [] }
-    ensures front_end { front_questions {A = ℕ} (2 ∷ 3 ∷ []) 2 ≡ ((2, 3), true) ∷ [] }
-    ensures back { back_questions {A = ℕ} (1 ∷ 2 ∷ 3 ∷ 2 ∷ 3 ∷ []) 2 ≡ ((2, 3), true) ∷ ((3, 2), false) ∷ [] }
-    ensures back_end { back_questions {A = ℕ} (1 ∷ 2 ∷ 3 ∷ []) 3 ≡ ((2, 3), true) ∷ ((1, 2), true) ∷ [] }
-    ensures alone { front_questions {A = ℕ} (7 ∷ []) 1 ≡ [] }
+    ensures front { questions {A = ℕ} Front (1 ∷ 2 ∷ 3 ∷ 2 ∷ 3 ∷ []) 3 ≡ ((1, 2), true) ∷ ((2, 3), true) ∷ ((3, 2), false) ∷ [] }
+    ensures front_end { questions {A = ℕ} Front (2 ∷ 3 ∷ []) 2 ≡ ((2, 3), true) ∷ [] }
+    ensures back { questions {A = ℕ} Back (1 ∷ 2 ∷ 3 ∷ 2 ∷ 3 ∷ []) 2 ≡ ((2, 3), true) ∷ ((3, 2), false) ∷ [] }
+    ensures back_end { questions {A = ℕ} Back (1 ∷ 2 ∷ 3 ∷ []) 3 ≡ ((2, 3), true) ∷ ((1, 2), true) ∷ [] }
+    ensures alone { questions {A = ℕ} Front (7 ∷ []) 1 ≡ [] }
 {}
 
 #[test]
@@ -29,7 +31,7 @@ fn definitions_at_small_cases() {
 }
 
 // The most questions of a search that halves n places but one, and of one that gallops to a place.
-#[tactic(auto, unfolding(crate::specs::Digits::digits))]
+#[tactic(auto, unfolding(crate::specs::Searching::digits))]
 fn bounds()
     ensures one { digits (1 - 1) ≡ 0 }
     ensures two { digits (2 - 1) ≡ 1 }

@@ -1,4 +1,1 @@
 pub mod Gives
-pub mod Linear
-pub mod LinearMut
-pub mod Jumping

@@ -2,24 +2,28 @@
 ghost use Rattle.std.specs.Prelude.{◌≡◌, ℕ, Bool, length, MatchOption, nat_eq, if◌then◌else◌, IfSome};
 ghost use Rattle.std.specs.Iterator.{UpTo};
 ghost use Rattle.std.specs.Iterator.SizeHint.{IsWithinCount};
-ghost use Rattle.sgb_search.specs.Groups.{Groups, groups_left};
+ghost use Rattle.sgb_search.specs.declared.end.End.TheVariants.{Front, Back};
+ghost use Rattle.sgb_search.specs.Calls.{groups_left};
 
-use crate::cut::{GroupCut, Jump, Scan};
+use crate::group_end::GroupEnd;
+use crate::linear_group::Linear;
+use crate::searching::Search;
+use sgb_search::end::End;
 use sgb_search::judge::Judge;
 use std::iter::FusedIterator;
-use std::marker::{Model, PhantomData};
+use std::marker::PhantomData;
 
 /// An iterator over the groups of a slice, from both ends. `J` decides what belongs together, and `C` finds where a group ends.
 ///
-/// Contracts see of it the elements that it has not handed out yet, its `remainder`, and its `judge`.
+/// Contracts see of it the elements that it has not handed out yet, its `remainder`, and its `judge`: both are in `shown` of it.
 #[derive(Drop)]
 pub struct SliceGroups<'a, T, J, C> {
     slice: &'a [T],
-    // The remainder lies from the place `low` up to the place `high`.
+    // The remainder lies from the place `low` up to the place `high`, or to the end of the slice where that comes first.
     low: usize,
     high: usize,
     judge: J,
-    cut: PhantomData<C>,
+    group_end: PhantomData<C>,
 }
 
 /// An iterator over the groups of a slice, from both ends, that asks its judge about neighbouring elements.
@@ -27,7 +31,7 @@ pub struct SliceGroups<'a, T, J, C> {
 /// A call asks about the neighbouring pairs of the remainder from its end on, the left element first from both ends, up
 /// to the first pair that the judge refuses. So a group of g elements costs g questions, or g - 1 if nothing remains after
 /// it. A list of calls asks about no pair twice.
-pub type LinearGroups<'a, T, J> = SliceGroups<'a, T, J, Scan>;
+pub type LinearGroups<'a, T, J> = SliceGroups<'a, T, J, Linear>;
 
 /// An iterator over the groups of a slice, from both ends, that finds the end of a group by the search `S`.
 ///
@@ -38,24 +42,15 @@ pub type LinearGroups<'a, T, J> = SliceGroups<'a, T, J, Scan>;
 /// On a slice that is grouped for the judge, as one that is sorted is for `==`, the groups are those of the linear iterators. On
 /// any other, where the judge answers by its arguments alone, a group ends where the innermost element agrees with the
 /// outermost and the element beyond does not.
-pub type JumpingGroups<'a, T, J, S> = SliceGroups<'a, T, J, Jump<S>>;
-
-impl<'a, T, J, C> Model for SliceGroups<'a, T, J, C> {
-    ghost use Rattle.std.specs.Prelude.{◌≤◌, length, slice_range};
-    ghost use Rattle.sgb_search.specs.Groups.{Groups};
-
-    ghost Value = { Groups T J };
-
-    ghost view = { λ s. record { remainder = slice_range s.slice.now s.low s.high; judge = s.judge } };
-
-    ghost invariant = { λ s. record { order : s.low ≤ s.high; within : s.high ≤ length s.slice.now } };
-}
+pub type SearchGroups<'a, T, J, S> = SliceGroups<'a, T, J, Search<S>>;
 
 impl<'a, T, J, C> SliceGroups<'a, T, J, C> {
+    ghost use Rattle.sgb_slice_group.specs.Gives.{shown};
+
     // All groups of the slice are still to come.
     #[inline]
-    pub(crate) fn over(slice: &'a [T], judge: J) -> Self
-        ensures remainder { result.remainder ≡ slice.now }
+    pub(crate) fn with_judge(slice: &'a [T], judge: J) -> Self
+        ensures remainder { (shown result).remainder ≡ slice.now }
         ensures judge { result.judge ≡ judge }
     {
         SliceGroups {
@@ -63,88 +58,96 @@ impl<'a, T, J, C> SliceGroups<'a, T, J, C> {
             low: 0,
             high: slice.len(),
             judge,
-            cut: PhantomData,
+            group_end: PhantomData,
         }
     }
 
+    /// The elements that no call has handed out yet.
     #[inline]
-    pub(crate) fn rest(&self) -> &'a [T]
-        ensures { result.now ≡ self.now.remainder }
+    pub fn remainder(&self) -> &'a [T]
+        ensures { result.now ≡ (shown self.now).remainder }
     {
-        &self.slice[self.low..self.high]
+        // That the places lie in order and within the slice is tested here, and not kept of the fields: what is kept of a struct
+        // that holds a closure hides from callers what the closure captured.
+        let high = self.high.min(self.slice.len());
+        &self.slice[self.low.min(high)..high]
     }
 
+    /// How many elements no call has handed out yet.
     #[inline]
-    pub(crate) fn len(&self) -> usize
-        ensures { result ≡ length self.now.remainder }
+    pub fn remainder_len(&self) -> usize
+        ensures { result ≡ length (shown self.now).remainder }
     {
-        self.high - self.low
+        self.remainder().len()
+    }
+
+    /// Whether all elements are handed out.
+    #[inline]
+    pub fn is_empty(&self) -> bool
+        ensures { result ≡ nat_eq (length (shown self.now).remainder) 0 }
+    {
+        self.remainder_len() == 0
     }
 }
 
-impl<'a, T, J: Judge<T>, C: GroupCut> SliceGroups<'a, T, J, C> {
+impl<'a, T, J: Judge<T>, C: GroupEnd> SliceGroups<'a, T, J, C> {
     ghost use Rattle.sgb_search.specs.Calls.{IsCallableBy};
-    ghost use Rattle.sgb_slice_group.specs.Gives.{GivesAtFront, GivesAtBack};
+    ghost use Rattle.sgb_slice_group.specs.Gives.{shown, Gives};
 
+    // The group at the end.
     #[inline]
-    fn take_front(&mut self) -> Option<&'a [T]>
-        requires { IsCallableBy (C.allowed T) J.Judge self.old }
-        ensures gives { GivesAtFront (C.asks_front T J J.Judge) self.old result self.new }
-        ensures callable { IsCallableBy (C.allowed T) J.Judge self.new }
+    fn take(&mut self, end: &End) -> Option<&'a [T]>
+        requires { IsCallableBy (C.allowed T) J.Judge (shown self.old) }
+        ensures gives { Gives (C.asks T J J.Judge) end.now self.old result self.new }
+        ensures callable { IsCallableBy (C.allowed T) J.Judge (shown self.new) }
     {
-        if self.low == self.high {
+        let rest = self.remainder();
+        if rest.is_empty() {
             return None;
         }
-        let len = C::front_length(self.slice, self.low, self.high, &mut self.judge);
-        let end = self.low + len;
-        let group = &self.slice[self.low..end];
-        self.low = end;
-        Some(group)
-    }
-
-    #[inline]
-    fn take_back(&mut self) -> Option<&'a [T]>
-        requires { IsCallableBy (C.allowed T) J.Judge self.old }
-        ensures gives { GivesAtBack (C.asks_back T J J.Judge) self.old result self.new }
-        ensures callable { IsCallableBy (C.allowed T) J.Judge self.new }
-    {
-        if self.low == self.high {
-            return None;
+        let len = C::group_len(end, rest, &mut self.judge);
+        match end {
+            End::Front => {
+                let (group, _) = rest.split_at(len);
+                self.low += len;
+                Some(group)
+            }
+            End::Back => {
+                let start = rest.len() - len;
+                let (_, group) = rest.split_at(start);
+                self.high = self.low + start;
+                Some(group)
+            }
         }
-        let len = C::back_length(self.slice, self.low, self.high, &mut self.judge);
-        let start = self.high - len;
-        let group = &self.slice[start..self.high];
-        self.high = start;
-        Some(group)
     }
 }
 
-impl<'a, T, J: Judge<T> + Drop, C: GroupCut> Iterator for SliceGroups<'a, T, J, C> {
+impl<'a, T, J: Judge<T> + Drop, C: GroupEnd> Iterator for SliceGroups<'a, T, J, C> {
     type Item = &'a [T];
 
     ghost use Rattle.sgb_search.specs.Calls.{IsCallableBy};
-    ghost use Rattle.sgb_slice_group.specs.Gives.{GivesAtFront};
+    ghost use Rattle.sgb_slice_group.specs.Gives.{shown, Gives};
 
-    ghost can_next = { IsCallableBy (C.allowed T) J.Judge };
+    ghost can_next = { λ s. IsCallableBy (C.allowed T) J.Judge (shown s) };
 
-    ghost next_gives = { GivesAtFront (C.asks_front T J J.Judge) };
+    ghost next_gives = { Gives (C.asks T J J.Judge) Front };
 
-    ghost remaining = { groups_left };
+    ghost remaining = { λ s. groups_left (shown s) };
 
     /// The first group of the remainder, or `None` where nothing remains.
     #[inline]
     fn next(&mut self) -> Option<&'a [T]> {
-        self.take_front()
+        self.take(&End::Front)
     }
 
     /// No groups where nothing remains, and else at least one and at most as many as elements remain.
     #[inline]
     fn size_hint(&self) -> (usize, Option<usize>)
-        ensures value { result ≡ (if nat_eq (length self.now.remainder) 0 then (0, Some 0) else (1, Some (length self.now.remainder))) }
-        ensures lower { IsWithinCount result.0 (groups_left self.now) }
-        ensures upper { IfSome result.1 (UpTo (groups_left self.now)) }
+        ensures value { result ≡ (if nat_eq (length (shown self.now).remainder) 0 then (0, Some 0) else (1, Some (length (shown self.now).remainder))) }
+        ensures lower { IsWithinCount result.0 (groups_left (shown self.now)) }
+        ensures upper { IfSome result.1 (UpTo (groups_left (shown self.now))) }
     {
-        let len = self.len();
+        let len = self.remainder_len();
         if len == 0 {
             return (0, Some(0));
         }
@@ -152,26 +155,27 @@ impl<'a, T, J: Judge<T> + Drop, C: GroupCut> Iterator for SliceGroups<'a, T, J, 
     }
 }
 
-impl<'a, T, J: Judge<T> + Drop, C: GroupCut> DoubleEndedIterator for SliceGroups<'a, T, J, C> {
+impl<'a, T, J: Judge<T> + Drop, C: GroupEnd> DoubleEndedIterator for SliceGroups<'a, T, J, C> {
     ghost use Rattle.sgb_search.specs.Calls.{IsCallableBy};
-    ghost use Rattle.sgb_slice_group.specs.Gives.{GivesAtBack};
+    ghost use Rattle.sgb_slice_group.specs.Gives.{shown, Gives};
 
-    ghost can_next_back = { IsCallableBy (C.allowed T) J.Judge };
+    ghost can_next_back = { λ s. IsCallableBy (C.allowed T) J.Judge (shown s) };
 
-    ghost next_back_gives = { GivesAtBack (C.asks_back T J J.Judge) };
+    ghost next_back_gives = { Gives (C.asks T J J.Judge) Back };
 
     /// The last group of the remainder, or `None` where nothing remains.
     #[inline]
     fn next_back(&mut self) -> Option<&'a [T]> {
-        self.take_back()
+        self.take(&End::Back)
     }
 }
 
-impl<'a, T, J: Judge<T> + Drop, C: GroupCut> FusedIterator for SliceGroups<'a, T, J, C> {}
+impl<'a, T, J: Judge<T> + Drop, C: GroupEnd> FusedIterator for SliceGroups<'a, T, J, C> {}
 
-impl<'a, T, J: Judge<T> + Drop, C: GroupCut> SliceGroups<'a, T, J, C> {
+impl<'a, T, J: Judge<T> + Drop, C: GroupEnd> SliceGroups<'a, T, J, C> {
     ghost use Rattle.sgb_search.specs.Calls.{IsCallableBy};
-    ghost use Rattle.sgb_slice_group.specs.Gives.{GivesAtBack};
+    ghost use Rattle.sgb_slice_group.specs.declared.groups.SliceGroups.{SliceGroups};
+    ghost use Rattle.sgb_slice_group.specs.Gives.{shown, Gives};
 
     /// The last group of the remainder, or `None` where nothing remains: what `next_back` gives. The iterator is given up.
     ///
@@ -180,8 +184,8 @@ impl<'a, T, J: Judge<T> + Drop, C: GroupCut> SliceGroups<'a, T, J, C> {
     /// is not grouped, binary and exponential groups may end with another there.
     #[inline]
     pub fn last(mut self) -> Option<&'a [T]>
-        requires { IsCallableBy (C.allowed T) J.Judge self }
-        ensures { (t : Groups T J) × GivesAtBack (C.asks_back T J J.Judge) self.entry result t }
+        requires { IsCallableBy (C.allowed T) J.Judge (shown self) }
+        ensures { (t : SliceGroups T J C) × Gives (C.asks T J J.Judge) Back self.entry result t }
     {
         self.next_back()
     }

@@ -1,11 +1,15 @@
 //! The groups of a slice for writing, over any judge and any way to find where a group ends.
-ghost use Rattle.std.specs.Prelude.{◌≡◌, ℕ, Bool, true, false, [], ◌∷◌, ◌++◌, drop, length, nat_eq, if◌then◌else◌, IfSome};
+ghost use Rattle.std.specs.Prelude.{◌≡◌, ℕ, Bool, [], ◌∷◌, ◌++◌, drop, length, nat_eq, if◌then◌else◌, IfSome};
 ghost use Rattle.std.specs.Iterator.{UpTo};
 ghost use Rattle.std.specs.Iterator.SizeHint.{IsWithinCount};
+ghost use Rattle.sgb_search.specs.declared.end.End.TheVariants.{Front, Back};
 ghost use Rattle.sgb_loans.specs.GroupsMut.{GroupsMut, NothingOut, groups_mut_left};
 
-use crate::cut::{GroupCut, Jump, Scan};
+use crate::group_end::GroupEnd;
+use crate::linear_group::Linear;
+use crate::searching::Search;
 use sgb_loans::loans::{Ended, Loans};
+use sgb_search::end::End;
 use sgb_search::judge::Judge;
 use std::iter::FusedIterator;
 use std::marker::{Model, PhantomData};
@@ -22,14 +26,14 @@ pub struct SliceGroupsMut<'a, T, J, C> {
     slice: &'a mut [T],
     judge: J,
     loans: Loans<T>,
-    cut: PhantomData<C>,
+    group_end: PhantomData<C>,
 }
 
 /// An iterator over the groups of a slice for writing, that asks what `LinearGroups` asks.
-pub type LinearGroupsMut<'a, T, J> = SliceGroupsMut<'a, T, J, Scan>;
+pub type LinearGroupsMut<'a, T, J> = SliceGroupsMut<'a, T, J, Linear>;
 
-/// An iterator over the groups of a slice for writing, that asks what `JumpingGroups` asks.
-pub type JumpingGroupsMut<'a, T, J, S> = SliceGroupsMut<'a, T, J, Jump<S>>;
+/// An iterator over the groups of a slice for writing, that asks what `SearchGroups` asks.
+pub type SearchGroupsMut<'a, T, J, S> = SliceGroupsMut<'a, T, J, Search<S>>;
 
 impl<'a, T, J, C> Model for SliceGroupsMut<'a, T, J, C> {
     ghost use Rattle.std.specs.Prelude.{◌≡◌};
@@ -45,7 +49,7 @@ impl<'a, T, J, C> Model for SliceGroupsMut<'a, T, J, C> {
 impl<'a, T, J, C> SliceGroupsMut<'a, T, J, C> {
     // All groups of the slice are still to come.
     #[inline]
-    pub(crate) fn over(slice: &'a mut [T], judge: J) -> Self
+    pub(crate) fn with_judge(slice: &'a mut [T], judge: J) -> Self
         ensures remainder { result.remainder ≡ slice.old }
         ensures judge { result.judge ≡ judge }
         ensures loans { NothingOut slice.entry.ghost_name result.loans }
@@ -55,60 +59,63 @@ impl<'a, T, J, C> SliceGroupsMut<'a, T, J, C> {
             slice,
             judge,
             loans,
-            cut: PhantomData,
+            group_end: PhantomData,
         }
     }
 
+    /// The elements that no call has handed out yet.
     #[inline]
-    pub(crate) fn rest(&self) -> &[T]
+    pub fn remainder(&self) -> &[T]
         ensures { result.now ≡ self.now.remainder }
     {
         self.slice
     }
 
+    /// How many elements no call has handed out yet.
     #[inline]
-    pub(crate) fn len(&self) -> usize
+    pub fn remainder_len(&self) -> usize
         ensures { result ≡ length self.now.remainder }
     {
         self.slice.len()
     }
+
+    /// Whether all elements are handed out.
+    #[inline]
+    pub fn is_empty(&self) -> bool
+        ensures { result ≡ nat_eq (length self.now.remainder) 0 }
+    {
+        self.remainder_len() == 0
+    }
 }
 
-impl<'a, T, J: Judge<T>, C: GroupCut> SliceGroupsMut<'a, T, J, C> {
-    ghost use Rattle.sgb_slice_group.specs.Gives.{IsCallableByMut, GivesAtFrontMut, GivesAtBackMut};
+impl<'a, T, J: Judge<T>, C: GroupEnd> SliceGroupsMut<'a, T, J, C> {
+    ghost use Rattle.sgb_slice_group.specs.Gives.{IsCallableByMut, GivesMut};
 
+    // The group at the end.
     #[inline]
-    fn take_front(&mut self) -> Option<&'a mut [T]>
+    fn take(&mut self, end: &End) -> Option<&'a mut [T]>
         requires { IsCallableByMut (C.allowed T) J.Judge self.old }
-        ensures gives { GivesAtFrontMut (C.asks_front T J J.Judge) self.old result self.new }
+        ensures gives { GivesMut (C.asks T J J.Judge) end.now self.old result self.new }
         ensures callable { IsCallableByMut (C.allowed T) J.Judge self.new }
     {
-        let len = self.slice.len();
-        if len == 0 {
+        if self.slice.len() == 0 {
             return None;
         }
         let all = mem::take(&mut self.slice);
-        let count = C::front_length(all, 0, len, &mut self.judge);
-        let (group, rest) = self.loans.cut_front(all, count);
-        self.slice = rest;
-        Some(group)
-    }
-
-    #[inline]
-    fn take_back(&mut self) -> Option<&'a mut [T]>
-        requires { IsCallableByMut (C.allowed T) J.Judge self.old }
-        ensures gives { GivesAtBackMut (C.asks_back T J J.Judge) self.old result self.new }
-        ensures callable { IsCallableByMut (C.allowed T) J.Judge self.new }
-    {
-        let len = self.slice.len();
-        if len == 0 {
-            return None;
+        let len = C::group_len(end, all, &mut self.judge);
+        match end {
+            End::Front => {
+                let (group, rest) = self.loans.cut_front(all, len);
+                self.slice = rest;
+                Some(group)
+            }
+            End::Back => {
+                let start = all.len() - len;
+                let (rest, group) = self.loans.cut_back(all, start);
+                self.slice = rest;
+                Some(group)
+            }
         }
-        let all = mem::take(&mut self.slice);
-        let count = C::back_length(all, 0, len, &mut self.judge);
-        let (rest, group) = self.loans.cut_back(all, len - count);
-        self.slice = rest;
-        Some(group)
     }
 }
 
@@ -116,7 +123,7 @@ impl<'a, T, J: Drop, C> SliceGroupsMut<'a, T, J, C> {
     /// Takes note of how the oldest group that is out was left, which came off at the front.
     #[inline]
     pub fn note_front(&mut self, group: Ended<'_, T>)
-        requires { self.old.loans.cuts ≡ (true, group.name) ∷ drop 1 self.old.loans.cuts }
+        requires { self.old.loans.cuts ≡ (Front, group.name) ∷ drop 1 self.old.loans.cuts }
         ensures remainder { self.new.remainder ≡ self.old.remainder }
         ensures judge { self.new.judge ≡ self.old.judge }
         ensures root { self.new.loans.root ≡ self.old.loans.root }
@@ -130,7 +137,7 @@ impl<'a, T, J: Drop, C> SliceGroupsMut<'a, T, J, C> {
     /// Takes note of how the oldest group that is out was left, which came off at the back.
     #[inline]
     pub fn note_back(&mut self, group: Ended<'_, T>)
-        requires { self.old.loans.cuts ≡ (false, group.name) ∷ drop 1 self.old.loans.cuts }
+        requires { self.old.loans.cuts ≡ (Back, group.name) ∷ drop 1 self.old.loans.cuts }
         ensures remainder { self.new.remainder ≡ self.old.remainder }
         ensures judge { self.new.judge ≡ self.old.judge }
         ensures root { self.new.loans.root ≡ self.old.loans.root }
@@ -152,9 +159,20 @@ impl<'a, T, J: Drop, C> SliceGroupsMut<'a, T, J, C> {
             slice,
             judge: _,
             loans,
-            cut: _,
+            group_end: _,
         } = self;
         (slice, loans)
+    }
+
+    /// The elements that no call has handed out yet, for writing. The iterator is given up, and the loans with it: where
+    /// it is wanted what the input ends as, call `into_parts`.
+    #[inline]
+    pub fn into_remainder(self) -> &'a mut [T]
+        ensures value { result.now ≡ self.entry.remainder }
+        ensures name { result.ghost_name ≡ self.entry.loans.rest }
+    {
+        let (rest, _loans) = self.into_parts();
+        rest
     }
 
     /// No group is out: what remains stays as it is, and so the whole input is known.
@@ -168,27 +186,27 @@ impl<'a, T, J: Drop, C> SliceGroupsMut<'a, T, J, C> {
             slice,
             judge: _,
             loans,
-            cut: _,
+            group_end: _,
         } = self;
         loans.close(Ended::of(slice))
     }
 }
 
-impl<'a, T, J: Judge<T> + Drop, C: GroupCut> Iterator for SliceGroupsMut<'a, T, J, C> {
+impl<'a, T, J: Judge<T> + Drop, C: GroupEnd> Iterator for SliceGroupsMut<'a, T, J, C> {
     type Item = &'a mut [T];
 
-    ghost use Rattle.sgb_slice_group.specs.Gives.{IsCallableByMut, GivesAtFrontMut};
+    ghost use Rattle.sgb_slice_group.specs.Gives.{IsCallableByMut, GivesMut};
 
     ghost can_next = { IsCallableByMut (C.allowed T) J.Judge };
 
-    ghost next_gives = { GivesAtFrontMut (C.asks_front T J J.Judge) };
+    ghost next_gives = { GivesMut (C.asks T J J.Judge) Front };
 
     ghost remaining = { groups_mut_left };
 
     /// The first group of the remainder, or `None` where nothing remains.
     #[inline]
     fn next(&mut self) -> Option<&'a mut [T]> {
-        self.take_front()
+        self.take(&End::Front)
     }
 
     /// No groups where nothing remains, and else at least one and at most as many as elements remain.
@@ -206,25 +224,25 @@ impl<'a, T, J: Judge<T> + Drop, C: GroupCut> Iterator for SliceGroupsMut<'a, T, 
     }
 }
 
-impl<'a, T, J: Judge<T> + Drop, C: GroupCut> DoubleEndedIterator for SliceGroupsMut<'a, T, J, C> {
-    ghost use Rattle.sgb_slice_group.specs.Gives.{IsCallableByMut, GivesAtBackMut};
+impl<'a, T, J: Judge<T> + Drop, C: GroupEnd> DoubleEndedIterator for SliceGroupsMut<'a, T, J, C> {
+    ghost use Rattle.sgb_slice_group.specs.Gives.{IsCallableByMut, GivesMut};
 
     ghost can_next_back = { IsCallableByMut (C.allowed T) J.Judge };
 
-    ghost next_back_gives = { GivesAtBackMut (C.asks_back T J J.Judge) };
+    ghost next_back_gives = { GivesMut (C.asks T J J.Judge) Back };
 
     /// The last group of the remainder, or `None` where nothing remains.
     #[inline]
     fn next_back(&mut self) -> Option<&'a mut [T]> {
-        self.take_back()
+        self.take(&End::Back)
     }
 }
 
-impl<'a, T, J: Judge<T> + Drop, C: GroupCut> FusedIterator for SliceGroupsMut<'a, T, J, C> {}
+impl<'a, T, J: Judge<T> + Drop, C: GroupEnd> FusedIterator for SliceGroupsMut<'a, T, J, C> {}
 
-impl<'a, T, J: Judge<T> + Drop, C: GroupCut> SliceGroupsMut<'a, T, J, C> {
+impl<'a, T, J: Judge<T> + Drop, C: GroupEnd> SliceGroupsMut<'a, T, J, C> {
     ghost use Rattle.sgb_loans.specs.GroupsMut.{GroupsMut};
-    ghost use Rattle.sgb_slice_group.specs.Gives.{IsCallableByMut, GivesAtBackMut};
+    ghost use Rattle.sgb_slice_group.specs.Gives.{IsCallableByMut, GivesMut};
 
     /// The last group of the remainder, or `None` where nothing remains: what `next_back` gives, by its questions. The
     /// iterator is given up. `Iterator::last` walks all groups from the front.
@@ -234,7 +252,7 @@ impl<'a, T, J: Judge<T> + Drop, C: GroupCut> SliceGroupsMut<'a, T, J, C> {
     #[inline]
     pub fn last(mut self) -> Option<&'a mut [T]>
         requires { IsCallableByMut (C.allowed T) J.Judge self }
-        ensures { (t : GroupsMut T J) × GivesAtBackMut (C.asks_back T J J.Judge) self.entry result t }
+        ensures { (t : GroupsMut T J) × GivesMut (C.asks T J J.Judge) Back self.entry result t }
     {
         self.next_back()
     }

@@ -1,14 +1,16 @@
-//! Groups of a slice, for reading and for writing: linear groups by one scan over neighbouring pairs, binary and exponential
-//! groups by jumps from the outermost element.
+//! Groups of a slice, for reading and for writing: linear groups by one scan along the neighbouring pairs, binary and exponential
+//! groups by a search from the outermost element.
 #![tactic(auto)]
 
+pub mod binary_group;
+mod by_equality;
 mod by_key;
-mod by_key_mut;
-pub mod cut;
+mod by_predicate;
+pub mod exponential_group;
+pub mod group_end;
 pub mod groups;
 pub mod groups_mut;
-pub mod jumping;
-pub mod linear;
-mod scan;
+pub mod linear_group;
+pub mod searching;
 #[cfg(test)]
 mod tests;

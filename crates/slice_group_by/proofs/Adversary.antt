@@ -5,7 +5,7 @@ use borrow.Author.Tests.{lt-ltb, le-ltb}
 use Rattle.std.proofs.lemmas.Bool.{cases_lt}
 use Rattle.slice_group_by.specs.declared.plans.Plan.{Plan}
 use Rattle.slice_group_by.specs.declared.plans.Plan.TheVariants.{Answer, Ask'}
-use Rattle.sgb_search.specs.Digits.{digits}
+use Rattle.sgb_search.specs.Searching.{digits}
 use Rattle.sgb_search.proofs.Digits.{digits_double, digits_half, digits_le_self}
 use Rattle.slice_group_by.specs.Plans.{run, IsRight, IsRefuted, IsHalvingPlan}
 

@@ -4,22 +4,17 @@ use Rattle.std.specs.Prelude.{option_map}
 use Rattle.std.specs.List.{AllByRecursion}
 use Rattle.std.proofs.lemmas.List.{append-nil, reverse-append}
 use Rattle.std.proofs.lemmas.Grind.{flat_map-append}
-use Rattle.sgb_search.specs.Ends.{first, last, without_first, without_last}
-use Rattle.sgb_search.specs.Split.{IsSplit, IsAccepted, split, joined}
+use Rattle.sgb_search.specs.Lists.{put_at, TakesPart, first, last, without_first, without_last}
+use Rattle.sgb_search.specs.Split.{IsSplit, IsAccepted, TakesPiece, split, joined}
 use Rattle.sgb_search.proofs.Splits.{split_is, split_only}
-use Rattle.slice_group_by.specs.declared.queue.End.{End}
-use Rattle.slice_group_by.specs.declared.queue.End.TheVariants.{Front, Back}
-use Rattle.sgb_search.specs.Runs.{AsksWithin}
-use Rattle.slice_group_by.specs.Queue.{answer, after, answers, left}
-use Rattle.slice_group_by.specs.Walk.{TakesPiece, TakesPart, Partition, kept, IsChain, AnswersAsQueue}
+use Rattle.sgb_search.specs.declared.end.End.{End}
+use Rattle.sgb_search.specs.declared.end.End.TheVariants.{Front, Back}
+use Rattle.sgb_search.specs.Judges.{AsksWithin}
+use Rattle.slice_group_by.specs.Queue.{answers, left}
+use Rattle.slice_group_by.specs.Walk.{Partition, kept, IsChain, AnswersAsQueue}
 
 pub joined_push : {A : Type 0} (gs : List (List A)) (g : List A) → joined (gs ++ g ∷ []) ≡ joined gs ++ g
 joined_push gs g = flat_map-append (λ x. x) gs (g ∷ []) ∙ ap (λ l. joined gs ++ l) (append-nil g)
-
--- a call that takes a piece answers as a queue of the pieces
-pub piece_answers : {A : Type 0} (e : End) (p : A → A → Bool) (xs : List A) (o : Option (List A)) (ys : List A) → TakesPiece e p xs o ys → (o ≡ answer e (split p xs)) × (split p ys ≡ after e (split p xs))
-piece_answers Front p xs o ys h = h
-piece_answers Back p xs o ys h = h
 
 first_accepted : {A : Type 0} (p : A → A → Bool) (x : List A) (ps : List (List A)) → AllByRecursion (IsAccepted p) ps → Some x ≡ first ps → IsAccepted p x
 first_accepted p x [] a e = cc e
@@ -43,8 +38,14 @@ others_then_last (y ∷ z ∷ zs) x e = ap (λ l. y ∷ l) (others_then_last (z 
 pub others_and_last : {X : Type 0} (xs : List X) (x : X) (ys : List X) → Some x ≡ last xs → ys ≡ without_last xs → xs ≡ ys ++ x ∷ []
 others_and_last xs x ys e h = others_then_last xs x e ∙ ap (λ l. l ++ x ∷ []) (sym h)
 
+-- the piece, at its end of the others
+pub piece_and_others : {A : Type 0} (e : End) (p : A → A → Bool) (xs group ys : List A) → TakesPiece p e xs (Some group) ys
+    → split p xs ≡ put_at e (group ∷ []) (split p ys)
+piece_and_others Front p xs group ys h = first_and_others _ group _ h.0 h.1
+piece_and_others Back p xs group ys h = others_and_last _ group _ h.0 h.1
+
 -- and a piece is accepted inside
-pub piece_accepted : {A : Type 0} (e : End) (p : A → A → Bool) (xs group ys : List A) → TakesPiece e p xs (Some group) ys → IsAccepted p group
+pub piece_accepted : {A : Type 0} (e : End) (p : A → A → Bool) (xs group ys : List A) → TakesPiece p e xs (Some group) ys → IsAccepted p group
 piece_accepted Front p xs group ys h = first_accepted p group (split p xs) (split_is p xs).accepted h.0
 piece_accepted Back p xs group ys h = last_accepted p group (split p xs) (split_is p xs).accepted h.0
 
@@ -85,14 +86,14 @@ module _ {Q I : Type 0} (gives : End → Q → Option I → Q → Type 0) where
       pub answers : map (option_map shows) os ≡ answers (split p (remainder q)) es
       pub rest : split p (remainder r) ≡ left (split p (remainder q)) es
 
-    module _ (settled : Q → (A → A → Bool) → Type 0) (p : A → A → Bool) (piece : (e : End) (q : Q) (o : Option I) (t : Q) (p : A → A → Bool) → gives e q o t → settled q p → TakesPiece e p (remainder q) (option_map shows o) (remainder t) × settled t p) where
+    module _ (settled : Q → (A → A → Bool) → Type 0) (p : A → A → Bool) (piece : (e : End) (q : Q) (o : Option I) (t : Q) (p : A → A → Bool) → gives e q o t → settled q p → TakesPiece p e (remainder q) (option_map shows o) (remainder t) × settled t p) where
       pub chain_answers : (q : Q) (es : List End) (os : List (Option I)) (r : Q) → IsChain gives q es os r → settled q p → Answered settled p q es os r
       chain_answers q [] [] r c h = record { stays = subst (λ x. settled x p) (sym c) h; answers = refl; rest = ap (λ x. split p (remainder x)) c }
       chain_answers q [] (o ∷ os) r c h = absurd c
       chain_answers q (e ∷ es) [] r c h = absurd c
       chain_answers q (e ∷ es) (o ∷ os) r c h =
           let step = piece e q o c.0 p c.1 h in
-          let now = piece_answers e p (remainder q) (option_map shows o) (remainder c.0) step.0 in
+          let now = step.0 in
           let later = chain_answers c.0 es os r c.2 step.1 in
           record {
             stays = later.stays;

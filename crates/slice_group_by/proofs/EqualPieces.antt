@@ -1,22 +1,33 @@
--- Which piece a call on linear groups of equal elements, or of equal characters of a text, gives: lemmas that a caller's proof search can be told to use.
+-- Which piece a call on linear groups of equal elements, or of equal characters of a text, gives: lemmas that a caller's proof search
+-- can be told to use.
 use Rattle.std.proofs.Common.{◌≡◌, Bool, List, ◌∷◌, ◌++◌, [], Some}
-use Rattle.sgb_search.specs.Neighbours.{AreNeighbours}
+use Rattle.sgb_search.specs.declared.end.End.{End}
+use Rattle.sgb_search.specs.declared.end.End.TheVariants.{Front, Back}
+use Rattle.sgb_search.specs.Lists.{AreNeighbours, put_at}
 use Rattle.sgb_search.specs.declared.judge.EqualityJudge.{EqualityJudge}
+use Rattle.sgb_search.specs.Calls.{IsGroupAt}
 use Rattle.sgb_search.specs.Judges.{by_equality}
 use Rattle.sgb_search.specs.Split.{split}
 use Rattle.sgb_search.proofs.Equality.{equality_settled}
-use Rattle.sgb_search.specs.LinearCalls.{IsFrontGroup, IsBackGroup}
-use Rattle.sgb_search.proofs.LinearQueue.{front_piece, back_piece}
-use Rattle.slice_group_by.proofs.Chains.{first_and_others, others_and_last}
+use Rattle.sgb_search.specs.Linear.{LinearQuestions}
+use Rattle.sgb_search.proofs.LinearQueue.{piece}
+use Rattle.slice_group_by.proofs.Chains.{piece_and_others}
 
--- a group from the front is the first piece of the split, and the split of the rest is the others
-pub equal_piece : {T : Type 0} (eq : T → T → Bool) (xs x ys : List T) (j k : EqualityJudge) → IsFrontGroup (by_equality eq) (record { remainder = xs; judge = j }) x (record { remainder = ys; judge = k }) → split eq xs ≡ x ∷ split eq ys
-equal_piece eq xs x ys j k h =
-    let piece = front_piece (by_equality eq) (record { remainder = xs; judge = j }) (Some x) (record { remainder = ys; judge = k }) eq h (equality_settled eq (AreNeighbours xs) j) in
-    first_and_others _ x _ piece.0.0 piece.0.1
+module _ {T : Type 0} (eq : T → T → Bool) (xs x ys : List T) (j k : EqualityJudge) where
+  -- such a call takes the group x off xs, and leaves ys
+  abbrev Takes : End → Type 0
+  Takes e =
+      IsGroupAt (LinearQuestions (by_equality eq)) e (record { remainder = xs; judge = j }) x (record { remainder = ys; judge = k })
 
--- and one from the back the last
-pub equal_last_piece : {T : Type 0} (eq : T → T → Bool) (xs x ys : List T) (j k : EqualityJudge) → IsBackGroup (by_equality eq) (record { remainder = xs; judge = j }) x (record { remainder = ys; judge = k }) → split eq xs ≡ split eq ys ++ x ∷ []
-equal_last_piece eq xs x ys j k h =
-    let piece = back_piece (by_equality eq) (record { remainder = xs; judge = j }) (Some x) (record { remainder = ys; judge = k }) eq h (equality_settled eq (AreNeighbours xs) j) in
-    others_and_last _ x _ piece.0.0 piece.0.1
+  piece_at : (e : End) → Takes e → split eq xs ≡ put_at e (x ∷ []) (split eq ys)
+  piece_at e h = piece_and_others e eq xs x ys
+      (piece (by_equality eq) e (record { remainder = xs; judge = j }) (Some x) (record { remainder = ys; judge = k }) eq h
+      (equality_settled eq (AreNeighbours xs) j)).0
+
+  -- a group from the front is the first piece of the split, and the split of the rest is the others
+  pub equal_piece : Takes Front → split eq xs ≡ x ∷ split eq ys
+  equal_piece = piece_at Front
+
+  -- and one from the back the last
+  pub equal_last_piece : Takes Back → split eq xs ≡ split eq ys ++ x ∷ []
+  equal_last_piece = piece_at Back

@@ -1,55 +1,43 @@
 -- Which piece a call on groups for writing gives, where the group is noted then: lemmas that a proof of a caller's loop cites.
---     linear_piece, linear_last_piece, jumping_piece, jumping_last_piece             the group, and the split of what remains
---     linear_settled, linear_settled_back, jumping_settled, jumping_settled_back     the iterator stays settled
-use Rattle.std.proofs.Common.{◌≡◌, Bool, List, [], ◌∷◌, ◌++◌, Some, sym, ap, ◌∙◌}
+--     linear_piece, search_piece          the split of what remained is the group, at the call's end, and the split of what remains
+--     linear_settled, search_settled      the iterator stays settled
+use Rattle.std.proofs.Common.{◌≡◌, Bool, List, [], ◌∷◌, Some, sym, ap, ◌∙◌}
 use Rattle.std.specs.Borrow.{MutBor}
+use Rattle.sgb_search.specs.declared.end.End.{End}
 use Rattle.sgb_search.specs.declared.judge.Judge.{Ghosts}
-use Rattle.sgb_search.specs.Split.{split, TakesFirst, TakesLast}
-use Rattle.sgb_search.specs.Groups.{Groups}
-use Rattle.sgb_search.specs.Jumps.{SearchCost}
-use Rattle.sgb_search.specs.LinearCalls.{IsSettled}
-use Rattle.sgb_search.specs.JumpingCalls.{IsSettledApart}
+use Rattle.sgb_search.specs.Lists.{put_at}
+use Rattle.sgb_search.specs.Split.{split}
+use Rattle.sgb_search.specs.Calls.{Groups}
+use Rattle.sgb_search.specs.Searching.{SearchCost, IsSettledApart, SearchQuestions}
+use Rattle.sgb_search.specs.Linear.{IsSettled, LinearQuestions}
 use Rattle.sgb_search.proofs.LinearQueue as linear
-use Rattle.sgb_search.proofs.JumpingQueue as jumping
+use Rattle.sgb_search.proofs.SearchQueue as searched
 use Rattle.sgb_loans.specs.GroupsMut.{GroupsMut}
-use Rattle.sgb_slice_group.specs.Gives.{seen}
-use Rattle.sgb_slice_group.specs.LinearMut.{IsSettledMut, GivesFrontMut, GivesBackMut}
-use Rattle.sgb_slice_group.specs.Jumping.{IsSettledApartMut, JumpsFrontMut, JumpsBackMut}
-use Rattle.slice_group_by.proofs.Chains.{first_and_others, others_and_last}
+use Rattle.sgb_slice_group.specs.Gives.{seen, GivesMut}
+use Rattle.slice_group_by.proofs.Chains.{piece_and_others}
 
 -- a call leads from s to t, and a note from t to u
-module _ {T J : Type 0} (settled : Groups T J → (T → T → Bool) → Type 0) (p : T → T → Bool) (s t u : GroupsMut T J) (x : List T) (same : u.remainder ≡ t.remainder) where
-  first_piece : TakesFirst p s.remainder (Some x) t.remainder → split p s.remainder ≡ x ∷ split p u.remainder
-  first_piece h = first_and_others _ x _ h.0 h.1 ∙ ap (λ l. x ∷ split p l) (sym same)
+module _ {T J : Type 0} (g : Ghosts J T) (p : T → T → Bool) (e : End) (s t u : GroupsMut T J) (x : MutBor (List T))
+    (same : u.remainder ≡ t.remainder) where
+  still : (settled : Groups T J → (T → T → Bool) → Type 0) → u.judge ≡ t.judge → settled (seen t) p → settled (seen u) p
+  still settled asked h = rw (same, asked) h
 
-  last_piece : TakesLast p s.remainder (Some x) t.remainder → split p s.remainder ≡ split p u.remainder ++ x ∷ []
-  last_piece h = others_and_last _ x _ h.0 h.1 ∙ ap (λ l. split p l ++ x ∷ []) (sym same)
+  pub linear_piece : GivesMut (LinearQuestions g) e s (Some x) t → IsSettled g (seen s) p
+      → split p s.remainder ≡ put_at e (x.now ∷ []) (split p u.remainder)
+  linear_piece steps m =
+      piece_and_others e p _ _ _ (linear.piece g e (seen s) (Some x.now) (seen t) p steps.0 m).0
+      ∙ ap (λ l. put_at e (x.now ∷ []) (split p l)) (sym same)
 
-  still : u.judge ≡ t.judge → settled (seen t) p → settled (seen u) p
-  still asked h = rw (same, asked) h
+  pub linear_settled : GivesMut (LinearQuestions g) e s (Some x) t → u.judge ≡ t.judge → IsSettled g (seen s) p → IsSettled g (seen u) p
+  linear_settled steps asked m = still (IsSettled g) asked (linear.piece g e (seen s) (Some x.now) (seen t) p steps.0 m).1
 
-module _ {T J : Type 0} (g : Ghosts J T) (p : T → T → Bool) (s t u : GroupsMut T J) (x : MutBor (List T)) where
-  pub linear_piece : GivesFrontMut g s (Some x) t → u.remainder ≡ t.remainder → IsSettledMut g s p → split p s.remainder ≡ x.now ∷ split p u.remainder
-  linear_piece steps same m = first_piece (IsSettled g) p s t u x.now same (linear.front_piece g (seen s) (Some x.now) (seen t) p steps.0 m).0
+  module _ (cost : SearchCost) where
+    pub search_piece : GivesMut (SearchQuestions g cost) e s (Some x) t → IsSettledApart g (seen s) p
+        → split p s.remainder ≡ put_at e (x.now ∷ []) (split p u.remainder)
+    search_piece steps m =
+        piece_and_others e p _ _ _ (searched.piece g cost e (seen s) (Some x.now) (seen t) p steps.0 m).0
+        ∙ ap (λ l. put_at e (x.now ∷ []) (split p l)) (sym same)
 
-  pub linear_last_piece : GivesBackMut g s (Some x) t → u.remainder ≡ t.remainder → IsSettledMut g s p → split p s.remainder ≡ split p u.remainder ++ x.now ∷ []
-  linear_last_piece steps same m = last_piece (IsSettled g) p s t u x.now same (linear.back_piece g (seen s) (Some x.now) (seen t) p steps.0 m).0
-
-  pub linear_settled : GivesFrontMut g s (Some x) t → u.remainder ≡ t.remainder → u.judge ≡ t.judge → IsSettledMut g s p → IsSettledMut g u p
-  linear_settled steps same asked m = still (IsSettled g) p s t u x.now same asked (linear.front_piece g (seen s) (Some x.now) (seen t) p steps.0 m).1
-
-  pub linear_settled_back : GivesBackMut g s (Some x) t → u.remainder ≡ t.remainder → u.judge ≡ t.judge → IsSettledMut g s p → IsSettledMut g u p
-  linear_settled_back steps same asked m = still (IsSettled g) p s t u x.now same asked (linear.back_piece g (seen s) (Some x.now) (seen t) p steps.0 m).1
-
-module _ {T J : Type 0} (g : Ghosts J T) (cost : SearchCost) (p : T → T → Bool) (s t u : GroupsMut T J) (x : MutBor (List T)) where
-  pub jumping_piece : JumpsFrontMut g cost s (Some x) t → u.remainder ≡ t.remainder → IsSettledApartMut g s p → split p s.remainder ≡ x.now ∷ split p u.remainder
-  jumping_piece steps same m = first_piece (IsSettledApart g) p s t u x.now same (jumping.front_piece g cost (seen s) (Some x.now) (seen t) p steps.0 m).0
-
-  pub jumping_last_piece : JumpsBackMut g cost s (Some x) t → u.remainder ≡ t.remainder → IsSettledApartMut g s p → split p s.remainder ≡ split p u.remainder ++ x.now ∷ []
-  jumping_last_piece steps same m = last_piece (IsSettledApart g) p s t u x.now same (jumping.back_piece g cost (seen s) (Some x.now) (seen t) p steps.0 m).0
-
-  pub jumping_settled : JumpsFrontMut g cost s (Some x) t → u.remainder ≡ t.remainder → u.judge ≡ t.judge → IsSettledApartMut g s p → IsSettledApartMut g u p
-  jumping_settled steps same asked m = still (IsSettledApart g) p s t u x.now same asked (jumping.front_piece g cost (seen s) (Some x.now) (seen t) p steps.0 m).1
-
-  pub jumping_settled_back : JumpsBackMut g cost s (Some x) t → u.remainder ≡ t.remainder → u.judge ≡ t.judge → IsSettledApartMut g s p → IsSettledApartMut g u p
-  jumping_settled_back steps same asked m = still (IsSettledApart g) p s t u x.now same asked (jumping.back_piece g cost (seen s) (Some x.now) (seen t) p steps.0 m).1
+    pub search_settled : GivesMut (SearchQuestions g cost) e s (Some x) t → u.judge ≡ t.judge → IsSettledApart g (seen s) p
+        → IsSettledApart g (seen u) p
+    search_settled steps asked m = still (IsSettledApart g) asked (searched.piece g cost e (seen s) (Some x.now) (seen t) p steps.0 m).1

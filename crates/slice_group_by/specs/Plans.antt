@@ -4,7 +4,7 @@
 use Rattle.std.specs.Prelude.{◌≡◌, ℕ, ◌+◌, ◌-◌, ◌/◌, ◌<◌, ◌≤◌, ◌⊎◌, ◌≢◌, cond, nat_lt}
 use Rattle.slice_group_by.specs.declared.plans.Plan.{Plan}
 use Rattle.slice_group_by.specs.declared.plans.Plan.TheVariants.{Answer, Ask'}
-use Rattle.sgb_search.specs.Digits.{digits}
+use Rattle.sgb_search.specs.Searching.{digits}
 
 -- what the plan answers, and after how many questions: the element at place q agrees with the first exactly if q < l
 abbrev pub run : Plan → ℕ → ℕ × ℕ

@@ -1,20 +1,9 @@
 -- What one call of a queue of groups does, and what a list of calls does.
 use Rattle.std.specs.Prelude.{◌≡◌, Bool, List, [], ◌∷◌, ◌++◌, Option, Some, reverse}
-use Rattle.sgb_search.specs.Ends.{CutsFront, CutsBack}
-use Rattle.sgb_search.specs.Split.{joined, IsSplit, TakesFirst, TakesLast}
+use Rattle.sgb_search.specs.Split.{joined, IsSplit}
 use Rattle.slice_group_by.specs.Queue.{answers, left}
-use Rattle.slice_group_by.specs.declared.queue.End.{End}
-use Rattle.slice_group_by.specs.declared.queue.End.TheVariants.{Front, Back}
-
--- the group is a nonempty part at the end e of xs, and ys the rest; there is none exactly where xs is empty
-abbrev pub TakesPart : {A : Type 0} → End → List A → Option (List A) → List A → Type 0
-TakesPart Front xs group ys = CutsFront xs group ys
-TakesPart Back xs group ys = CutsBack xs group ys
-
--- the group is the piece at the end e of the split of xs, or nothing where there is none, and ys is split into the others
-abbrev pub TakesPiece : {A : Type 0} → End → (A → A → Bool) → List A → Option (List A) → List A → Type 0
-TakesPiece Front p xs group ys = TakesFirst p xs group ys
-TakesPiece Back p xs group ys = TakesLast p xs group ys
+use Rattle.sgb_search.specs.declared.end.End.{End}
+use Rattle.sgb_search.specs.declared.end.End.TheVariants.{Front, Back}
 
 -- calls at the ends lead from q to r and give these answers: there is a queue between every two calls
 abbrev pub IsChain : {Q I : Type 0} → (End → Q → Option I → Q → Type 0) → Q → List End → List (Option I) → Q → Type 0

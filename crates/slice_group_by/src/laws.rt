@@ -11,25 +11,27 @@ ghost use Rattle.std.specs.declared.iter.Rev.{Rev};
 ghost use Rattle.std.proofs.lemmas.Iterator.{YieldsList};
 ghost use Rattle.std.specs.Str.{chars, IsUtf8};
 ghost use Rattle.std.specs.List.{AllByRecursion};
-ghost use Rattle.sgb_search.specs.Ends.{first, last, without_first, without_last};
+ghost use Rattle.sgb_search.specs.Lists.{from, put_at, first, last, without};
 ghost use Rattle.sgb_search.specs.Split.{joined, IsAccepted, split};
-ghost use Rattle.sgb_search.specs.Runs.{IsRunOf, AsksWithin};
-ghost use Rattle.sgb_search.specs.Groups.{Groups};
-ghost use Rattle.slice_group_by.specs.declared.queue.End.{End};
-ghost use Rattle.slice_group_by.specs.declared.queue.End.TheVariants.{Front, Back};
-ghost use Rattle.sgb_search.specs.LinearCalls.{AsksEachOnce};
-ghost use Rattle.sgb_slice_group.specs.Linear.{GivesFront, GivesBack};
-ghost use Rattle.sgb_slice_group.specs.Gives.{seen};
-ghost use Rattle.sgb_slice_group.specs.LinearMut.{GivesFrontMut, GivesBackMut};
+ghost use Rattle.sgb_search.specs.Judges.{IsRunOf, AsksWithin};
+ghost use Rattle.sgb_search.specs.declared.end.End.{End};
+ghost use Rattle.sgb_search.specs.declared.end.End.TheVariants.{Front, Back};
+ghost use Rattle.sgb_search.specs.Linear.{AsksEachOnce, LinearQuestions};
+ghost use Rattle.sgb_slice_group.specs.declared.linear_group.Linear.{Linear};
+ghost use Rattle.sgb_slice_group.specs.declared.groups.SliceGroups.{SliceGroups};
+ghost use Rattle.sgb_slice_group.specs.Gives.{shown, seen, Gives, GivesMut};
 ghost use Rattle.sgb_loans.specs.GroupsMut.{GroupsMut};
-ghost use Rattle.sgb_linear_str_group.specs.Texts.{TextGroups, in_characters, GivesFrontText, GivesBackText};
-ghost use Rattle.sgb_linear_str_group.specs.TextsMut.{TextGroupsMut, seen_text, GivesFrontTextMut, GivesBackTextMut};
-ghost use Rattle.sgb_search.specs.Digits.{digits};
+ghost use Rattle.sgb_linear_str_group.specs.Texts.{shown_text, in_characters, GivesText};
+ghost use Rattle.sgb_linear_str_group.specs.TextsMut.{TextGroupsMut, seen_text, GivesTextMut};
+ghost use Rattle.sgb_search.specs.Searching.{digits};
 ghost use Rattle.slice_group_by.specs.declared.plans.Plan.{Plan};
 ghost use Rattle.slice_group_by.specs.Plans.{run, IsRight, IsHalvingPlan};
 ghost use Rattle.slice_group_by.specs.Walk.{Partition, IsChain};
-ghost use Rattle.slice_group_by.specs.Queue.{at_end, answers, left};
+ghost use Rattle.slice_group_by.specs.Queue.{answers, left};
 
+pub use crate::counts::{
+    calls_ask, linear_counts, mapped_calls_ask, questions_count, search_asks, text_questions_count,
+};
 pub use crate::families::{
     families_agree, families_agree_mut, groups_end_locally, groups_end_locally_mut,
     reading_and_writing_agree,
@@ -62,14 +64,11 @@ pub fn calls_take_pieces<Q: GroupQueue>(_queue: &Q)
         → Q.gives Front q group t → Q.is_settled q p → option_map Q.shows group ≡ first (split p (Q.remainder q)) }
     ensures back { (p : Q.Element → Q.Element → Bool) (q t : Q) (group : Option Q.Item)
         → Q.gives Back q group t → Q.is_settled q p → option_map Q.shows group ≡ last (split p (Q.remainder q)) }
-    ensures after_front { (p : Q.Element → Q.Element → Bool) (q t : Q) (group : Option Q.Item)
-        → Q.gives Front q group t → Q.is_settled q p → split p (Q.remainder t) ≡ without_first (split p (Q.remainder q)) }
-    ensures after_back { (p : Q.Element → Q.Element → Bool) (q t : Q) (group : Option Q.Item)
-        → Q.gives Back q group t → Q.is_settled q p → split p (Q.remainder t) ≡ without_last (split p (Q.remainder q)) }
-    ensures next { (p : Q.Element → Q.Element → Bool) (q t : Q) (group : Q.Item)
-        → Q.gives Front q (Some group) t → Q.is_settled q p → split p (Q.remainder q) ≡ Q.shows group ∷ split p (Q.remainder t) }
-    ensures next_back { (p : Q.Element → Q.Element → Bool) (q t : Q) (group : Q.Item)
-        → Q.gives Back q (Some group) t → Q.is_settled q p → split p (Q.remainder q) ≡ split p (Q.remainder t) ++ Q.shows group ∷ [] }
+    ensures others { (p : Q.Element → Q.Element → Bool) (e : End) (q t : Q) (group : Option Q.Item)
+        → Q.gives e q group t → Q.is_settled q p → split p (Q.remainder t) ≡ without e (split p (Q.remainder q)) }
+    ensures whole { (p : Q.Element → Q.Element → Bool) (e : End) (q t : Q) (group : Q.Item)
+        → Q.gives e q (Some group) t → Q.is_settled q p
+        → split p (Q.remainder q) ≡ put_at e (Q.shows group ∷ []) (split p (Q.remainder t)) }
     ensures settled { (p : Q.Element → Q.Element → Bool) (e : End) (q t : Q) (group : Option Q.Item)
         → Q.gives e q group t → Q.is_settled q p → Q.is_settled t p }
     ensures accepted { (p : Q.Element → Q.Element → Bool) (e : End) (q t : Q) (group : Q.Item)
@@ -107,26 +106,20 @@ pub fn chains_answer<Q: GroupQueue>(_queue: &Q)
 /// standard library that take it stand in `Rattle.std.proofs.lemmas.Iterator.Consumers`, as `count_from_yields_List`.
 #[inline]
 pub fn sees_pieces<Q: GroupQueue>(_queue: &Q)
-    ensures front { (p : Q.Element → Q.Element → Bool) (q : Q) → Q.is_settled q p
-        → YieldsList (Q.gives Front) Q.shows q (split p (Q.remainder q)) }
-    ensures back { (p : Q.Element → Q.Element → Bool) (q : Q) → Q.is_settled q p
-        → YieldsList (Q.gives Back) Q.shows q (reverse (split p (Q.remainder q))) }
+    ensures pieces { (p : Q.Element → Q.Element → Bool) (e : End) (q : Q) → Q.is_settled q p
+        → YieldsList (Q.gives e) Q.shows q (from e (split p (Q.remainder q))) }
     ensures rev { (p : Q.Element → Q.Element → Bool) (q : Rev Q) → Q.is_settled (rev_source q) p
         → YieldsList (rev_steps (Q.gives Back)) Q.shows q (reverse (split p (Q.remainder (rev_source q)))) }
 {}
 
-/// The groups that calls at one end give, joined, are what goes off that end, whatever the judge answers: all of it, where
-/// the calls go on until `None`.
+/// The groups that calls at one end give, joined in their order, are what goes off that end, whatever the judge answers: all of
+/// it, where the calls go on until `None`.
 #[inline]
 pub fn groups_join<Q: GroupQueue>(_queue: &Q)
-    ensures front { (q t : Q) (groups : List Q.Item) → Yields (Q.gives Front) q groups t
-        → joined (map Q.shows groups) ++ Q.remainder t ≡ Q.remainder q }
-    ensures back { (q t : Q) (groups : List Q.Item) → Yields (Q.gives Back) q groups t
-        → Q.remainder t ++ joined (reverse (map Q.shows groups)) ≡ Q.remainder q }
-    ensures whole_front { (q : Q) (groups : List Q.Item) → Drains (Q.gives Front) q groups
-        → joined (map Q.shows groups) ≡ Q.remainder q }
-    ensures whole_back { (q : Q) (groups : List Q.Item) → Drains (Q.gives Back) q groups
-        → joined (reverse (map Q.shows groups)) ≡ Q.remainder q }
+    ensures part { (e : End) (q t : Q) (groups : List Q.Item) → Yields (Q.gives e) q groups t
+        → put_at e (joined (from e (map Q.shows groups))) (Q.remainder t) ≡ Q.remainder q }
+    ensures whole { (e : End) (q : Q) (groups : List Q.Item) → Drains (Q.gives e) q groups
+        → joined (from e (map Q.shows groups)) ≡ Q.remainder q }
 {}
 
 /// Front and back agree: the groups from the back until nothing remains are, in reverse, those from the front, for every
@@ -154,20 +147,20 @@ pub fn groups_still_come<Q: GroupQueue>(_queue: &Q)
 /// about no other: so until nothing remains of n > 0 elements it asks exactly n - 1 questions.
 #[inline]
 pub fn each_pair_asked_once<T, J: Judge<T>>(_groups: &LinearGroups<'_, T, J>)
-    ensures pairs { (s t : Groups T J) (ends : List End) (out : List (Option (Bor (List T))))
-        → IsChain (at_end (GivesFront J.Judge) (GivesBack J.Judge)) s ends out t → AsksEachOnce J.Judge s t }
-    ensures whole { (s t : Groups T J) (ends : List End) (out : List (Option (Bor (List T))))
-        → IsChain (at_end (GivesFront J.Judge) (GivesBack J.Judge)) s ends out t → t.remainder ≡ []
-        → IsRunOf J.may_ask J.answers (length s.remainder - 1) s.judge t.judge }
+    ensures pairs { (s t : SliceGroups T J Linear) (ends : List End) (out : List (Option (Bor (List T))))
+        → IsChain (Gives (LinearQuestions J.Judge)) s ends out t → AsksEachOnce J.Judge (shown s) (shown t) }
+    ensures whole { (s t : SliceGroups T J Linear) (ends : List End) (out : List (Option (Bor (List T))))
+        → IsChain (Gives (LinearQuestions J.Judge)) s ends out t → (shown t).remainder ≡ []
+        → IsRunOf J.may_ask J.answers (length (shown s).remainder - 1) s.judge t.judge }
 {}
 
 /// The same of linear groups for writing.
 #[inline]
 pub fn each_pair_asked_once_mut<T, J: Judge<T>>(_groups: &LinearGroupsMut<'_, T, J>)
     ensures pairs { (s t : GroupsMut T J) (ends : List End) (out : List (Option (MutBor (List T))))
-        → IsChain (at_end (GivesFrontMut J.Judge) (GivesBackMut J.Judge)) s ends out t → AsksEachOnce J.Judge (seen s) (seen t) }
+        → IsChain (GivesMut (LinearQuestions J.Judge)) s ends out t → AsksEachOnce J.Judge (seen s) (seen t) }
     ensures whole { (s t : GroupsMut T J) (ends : List End) (out : List (Option (MutBor (List T))))
-        → IsChain (at_end (GivesFrontMut J.Judge) (GivesBackMut J.Judge)) s ends out t → t.remainder ≡ []
+        → IsChain (GivesMut (LinearQuestions J.Judge)) s ends out t → t.remainder ≡ []
         → IsRunOf J.may_ask J.answers (length s.remainder - 1) s.judge t.judge }
 {}
 
@@ -175,56 +168,46 @@ pub fn each_pair_asked_once_mut<T, J: Judge<T>>(_groups: &LinearGroupsMut<'_, T,
 /// remains or not. What `groups_join` and `walk` say of characters, this says of bytes.
 #[inline]
 pub fn texts_join<J: Judge<char>>(_groups: &LinearStrGroups<'_, J>)
-    ensures calls { (s t : TextGroups J) (ends : List End) (out : List (Option (Bor (List ℕ))))
-        → IsChain (at_end (GivesFrontText J.Judge) (GivesBackText J.Judge)) s ends out t
-        → Partition ends (map (option_map (λ group. group.now)) out) t.text s.text }
-    ensures front { (s t : TextGroups J) (groups : List (Bor (List ℕ))) → Yields (GivesFrontText J.Judge) s groups t
-        → joined (map (λ group. group.now) groups) ++ t.text ≡ s.text }
-    ensures back { (s t : TextGroups J) (groups : List (Bor (List ℕ))) → Yields (GivesBackText J.Judge) s groups t
-        → t.text ++ joined (reverse (map (λ group. group.now) groups)) ≡ s.text }
-    ensures whole_front { (s : TextGroups J) (groups : List (Bor (List ℕ))) → Drains (GivesFrontText J.Judge) s groups
-        → joined (map (λ group. group.now) groups) ≡ s.text }
-    ensures whole_back { (s : TextGroups J) (groups : List (Bor (List ℕ))) → Drains (GivesBackText J.Judge) s groups
-        → joined (reverse (map (λ group. group.now) groups)) ≡ s.text }
+    ensures calls { (s t : LinearStrGroups J) (ends : List End) (out : List (Option (Bor (List ℕ))))
+        → IsChain (GivesText J.Judge) s ends out t → Partition ends (map (option_map (λ group. group.now)) out) (shown_text t).text (shown_text s).text }
+    ensures part { (e : End) (s t : LinearStrGroups J) (groups : List (Bor (List ℕ))) → Yields (GivesText J.Judge e) s groups t
+        → put_at e (joined (from e (map (λ group. group.now) groups))) (shown_text t).text ≡ (shown_text s).text }
+    ensures whole { (e : End) (s : LinearStrGroups J) (groups : List (Bor (List ℕ))) → Drains (GivesText J.Judge e) s groups
+        → joined (from e (map (λ group. group.now) groups)) ≡ (shown_text s).text }
 {}
 
 /// The same of the bytes of a text for writing. Each group of a list of calls is UTF-8, as it was when it was handed out.
 #[inline]
 pub fn texts_join_mut<J: Judge<char>>(_groups: &LinearStrGroupsMut<'_, J>)
     ensures utf8 { (s t : TextGroupsMut J) (ends : List End) (out : List (Option (MutBor (List ℕ))))
-        → IsChain (at_end (GivesFrontTextMut J.Judge) (GivesBackTextMut J.Judge)) s ends out t
+        → IsChain (GivesTextMut J.Judge) s ends out t
         → AllByRecursion (λ o. IfSome o (λ group. IsUtf8 group.now)) out }
     ensures calls { (s t : TextGroupsMut J) (ends : List End) (out : List (Option (MutBor (List ℕ))))
-        → IsChain (at_end (GivesFrontTextMut J.Judge) (GivesBackTextMut J.Judge)) s ends out t
-        → Partition ends (map (option_map (λ group. group.now)) out) t.text s.text }
-    ensures front { (s t : TextGroupsMut J) (groups : List (MutBor (List ℕ))) → Yields (GivesFrontTextMut J.Judge) s groups t
-        → joined (map (λ group. group.now) groups) ++ t.text ≡ s.text }
-    ensures back { (s t : TextGroupsMut J) (groups : List (MutBor (List ℕ))) → Yields (GivesBackTextMut J.Judge) s groups t
-        → t.text ++ joined (reverse (map (λ group. group.now) groups)) ≡ s.text }
-    ensures whole_front { (s : TextGroupsMut J) (groups : List (MutBor (List ℕ))) → Drains (GivesFrontTextMut J.Judge) s groups
-        → joined (map (λ group. group.now) groups) ≡ s.text }
-    ensures whole_back { (s : TextGroupsMut J) (groups : List (MutBor (List ℕ))) → Drains (GivesBackTextMut J.Judge) s groups
-        → joined (reverse (map (λ group. group.now) groups)) ≡ s.text }
+        → IsChain (GivesTextMut J.Judge) s ends out t → Partition ends (map (option_map (λ group. group.now)) out) t.text s.text }
+    ensures part { (e : End) (s t : TextGroupsMut J) (groups : List (MutBor (List ℕ))) → Yields (GivesTextMut J.Judge e) s groups t
+        → put_at e (joined (from e (map (λ group. group.now) groups))) t.text ≡ s.text }
+    ensures whole { (e : End) (s : TextGroupsMut J) (groups : List (MutBor (List ℕ))) → Drains (GivesTextMut J.Judge e) s groups
+        → joined (from e (map (λ group. group.now) groups)) ≡ s.text }
 {}
 
 /// A list of calls on a text asks about each pair of neighbouring characters that goes once, however the ends are mixed, and
 /// about no other.
 #[inline]
 pub fn each_char_pair_asked_once<J: Judge<char>>(_groups: &LinearStrGroups<'_, J>)
-    ensures pairs { (s t : TextGroups J) (ends : List End) (out : List (Option (Bor (List ℕ))))
-        → IsChain (at_end (GivesFrontText J.Judge) (GivesBackText J.Judge)) s ends out t → AsksEachOnce J.Judge (in_characters s) (in_characters t) }
-    ensures whole { (s t : TextGroups J) (ends : List End) (out : List (Option (Bor (List ℕ))))
-        → IsChain (at_end (GivesFrontText J.Judge) (GivesBackText J.Judge)) s ends out t → t.text ≡ []
-        → IsRunOf J.may_ask J.answers (length (chars s.text) - 1) s.judge t.judge }
+    ensures pairs { (s t : LinearStrGroups J) (ends : List End) (out : List (Option (Bor (List ℕ))))
+        → IsChain (GivesText J.Judge) s ends out t → AsksEachOnce J.Judge (in_characters (shown_text s)) (in_characters (shown_text t)) }
+    ensures whole { (s t : LinearStrGroups J) (ends : List End) (out : List (Option (Bor (List ℕ))))
+        → IsChain (GivesText J.Judge) s ends out t → (shown_text t).text ≡ []
+        → IsRunOf J.may_ask J.answers (length (chars (shown_text s).text) - 1) s.judge t.judge }
 {}
 
 /// The same of the bytes of a text for writing.
 #[inline]
 pub fn each_char_pair_asked_once_mut<J: Judge<char>>(_groups: &LinearStrGroupsMut<'_, J>)
     ensures pairs { (s t : TextGroupsMut J) (ends : List End) (out : List (Option (MutBor (List ℕ))))
-        → IsChain (at_end (GivesFrontTextMut J.Judge) (GivesBackTextMut J.Judge)) s ends out t → AsksEachOnce J.Judge (in_characters (seen_text s)) (in_characters (seen_text t)) }
+        → IsChain (GivesTextMut J.Judge) s ends out t → AsksEachOnce J.Judge (in_characters (seen_text s)) (in_characters (seen_text t)) }
     ensures whole { (s t : TextGroupsMut J) (ends : List End) (out : List (Option (MutBor (List ℕ))))
-        → IsChain (at_end (GivesFrontTextMut J.Judge) (GivesBackTextMut J.Judge)) s ends out t → t.text ≡ []
+        → IsChain (GivesTextMut J.Judge) s ends out t → t.text ≡ []
         → IsRunOf J.may_ask J.answers (length (chars s.text) - 1) s.judge t.judge }
 {}
 

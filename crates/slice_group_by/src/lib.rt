@@ -14,6 +14,7 @@
 //! ```
 #![tactic(auto)]
 
+mod counts;
 mod families;
 mod join;
 pub mod laws;
@@ -45,22 +46,18 @@ pub use sgb_linear_str_group::linear_str_group_mut::LinearStrGroupMut;
 pub use sgb_search::search::{
     exponential_search, exponential_search_by, exponential_search_by_key,
 };
-pub use sgb_slice_group::jumping::binary::{BinaryGroup, BinaryGroupBy, BinaryGroupByKey};
-pub use sgb_slice_group::jumping::binary_mut::{
-    BinaryGroupByKeyMut, BinaryGroupByMut, BinaryGroupMut,
+pub use sgb_slice_group::binary_group::{
+    BinaryGroup, BinaryGroupBy, BinaryGroupByKey, BinaryGroupByKeyMut, BinaryGroupByMut,
+    BinaryGroupMut,
 };
-pub use sgb_slice_group::jumping::exponential::{
-    ExponentialGroup, ExponentialGroupBy, ExponentialGroupByKey,
+pub use sgb_slice_group::exponential_group::{
+    ExponentialGroup, ExponentialGroupBy, ExponentialGroupByKey, ExponentialGroupByKeyMut,
+    ExponentialGroupByMut, ExponentialGroupMut,
 };
-pub use sgb_slice_group::jumping::exponential_mut::{
-    ExponentialGroupByKeyMut, ExponentialGroupByMut, ExponentialGroupMut,
+pub use sgb_slice_group::linear_group::{
+    LinearGroup, LinearGroupBy, LinearGroupByKey, LinearGroupByKeyMut, LinearGroupByMut,
+    LinearGroupMut,
 };
-pub use sgb_slice_group::linear::group::LinearGroup;
-pub use sgb_slice_group::linear::group_by::LinearGroupBy;
-pub use sgb_slice_group::linear::group_by_key::LinearGroupByKey;
-pub use sgb_slice_group::linear::group_by_key_mut::LinearGroupByKeyMut;
-pub use sgb_slice_group::linear::group_by_mut::LinearGroupByMut;
-pub use sgb_slice_group::linear::group_mut::LinearGroupMut;
 pub use sorted::is_sorted_for_groups;
 pub use str_traits::{StrGroupBy, StrGroupByMut};
 pub use traits::GroupBy;

@@ -8,30 +8,29 @@ impl<'a, J: Judge<char> + Drop> GroupQueue for LinearStrGroups<'a, J> {
 
     ghost use Rattle.std.specs.Prelude.{ℕ, length, true};
     ghost use Rattle.std.specs.Str.{chars};
-    ghost use Rattle.sgb_search.specs.Neighbours.{neighbours};
-    ghost use Rattle.sgb_search.specs.Runs.{IsRunOf};
+    ghost use Rattle.sgb_search.specs.Lists.{neighbours};
+    ghost use Rattle.sgb_search.specs.Judges.{IsRunOf};
     ghost use Rattle.sgb_search.proofs.Runs.{run_of_none, run_of_more};
-    ghost use Rattle.sgb_linear_str_group.specs.Texts.{IsCallableText, IsSettledText, GivesFrontText, GivesBackText};
+    ghost use Rattle.sgb_linear_str_group.specs.Texts.{shown_text, IsCallableText, IsSettledText, GivesText};
     ghost use Rattle.sgb_linear_str_group.proofs.Queue as laws;
-    ghost use Rattle.slice_group_by.specs.Queue.{at_end, each_end};
 
     ghost Element = { ℕ };
 
-    ghost remainder = { λ q. chars q.text };
+    ghost remainder = { λ q. chars (shown_text q).text };
 
     ghost shows = { λ group. chars group.now };
 
-    ghost is_settled = { IsSettledText J.Judge };
+    ghost is_settled = { λ q. IsSettledText J.Judge (shown_text q) };
 
-    ghost gives = { at_end (GivesFrontText J.Judge) (GivesBackText J.Judge) };
+    ghost gives = { GivesText J.Judge };
 
     ghost asked = { λ q r n. IsRunOf J.may_ask J.answers n q.judge r.judge };
 
-    ghost due = { λ q. length (neighbours (chars q.text)) };
+    ghost due = { λ q. length (neighbours (chars (shown_text q).text)) };
 
     ghost exact = { true };
 
-    ghost can_pop = { IsCallableText J.Judge };
+    ghost can_pop = { λ q. IsCallableText J.Judge (shown_text q) };
 
     #[inline]
     fn pop_front(&mut self) -> Option<&'a str> {
@@ -43,17 +42,17 @@ impl<'a, J: Judge<char> + Drop> GroupQueue for LinearStrGroups<'a, J> {
         self.next_back()
     }
 
-    ghost part = { each_end _ (laws.front_part J.Judge (λ s. s) (λ group. group.now)) (laws.back_part J.Judge (λ s. s) (λ group. group.now)) };
+    ghost part = { λ e q r t h. laws.part J.Judge e shown_text (λ group. group.now) q r t (laws.call J.Judge e q r t h) };
 
-    ghost none = { each_end _ (λ _ _ h. h.1) (λ _ _ h. h.1) };
+    ghost none = { λ _ _ _ h. h.1 };
 
-    ghost piece = { each_end _ (laws.front_piece J.Judge (λ s. s) (λ group. group.now)) (laws.back_piece J.Judge (λ s. s) (λ group. group.now)) };
+    ghost piece = { λ e q r t p h. laws.piece J.Judge e shown_text (λ group. group.now) q r t (laws.call J.Judge e q r t h) p };
 
-    ghost keeps = { each_end _ (laws.front_keeps J.Judge (λ s. s) (λ group. group.now)) (laws.back_keeps J.Judge (λ s. s) (λ group. group.now)) };
+    ghost keeps = { λ e q r t h. laws.keeps J.Judge e shown_text (λ group. group.now) q r t (laws.call J.Judge e q r t h) };
 
     ghost asked_none = { λ q. run_of_none J.may_ask J.answers q.judge };
 
     ghost asked_more = { λ q r t. run_of_more J.may_ask J.answers q.judge r.judge t.judge };
 
-    ghost asks = { each_end _ (laws.front_asks J.Judge (λ s. s) (λ group. group.now)) (laws.back_asks J.Judge (λ s. s) (λ group. group.now)) };
+    ghost asks = { λ e q r t h. laws.asks J.Judge e shown_text (λ group. group.now) q r t (laws.call J.Judge e q r t h) };
 }

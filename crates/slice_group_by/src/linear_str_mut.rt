@@ -8,12 +8,12 @@ impl<'a, J: Judge<char> + Drop> GroupQueue for LinearStrGroupsMut<'a, J> {
 
     ghost use Rattle.std.specs.Prelude.{ℕ, length, true};
     ghost use Rattle.std.specs.Str.{chars};
-    ghost use Rattle.sgb_search.specs.Neighbours.{neighbours};
-    ghost use Rattle.sgb_search.specs.Runs.{IsRunOf};
+    ghost use Rattle.sgb_search.specs.Lists.{neighbours};
+    ghost use Rattle.sgb_search.specs.Judges.{IsRunOf};
     ghost use Rattle.sgb_search.proofs.Runs.{run_of_none, run_of_more};
-    ghost use Rattle.sgb_linear_str_group.specs.TextsMut.{seen_text, IsCallableTextMut, IsSettledTextMut, GivesFrontTextMut, GivesBackTextMut};
+    ghost use Rattle.sgb_linear_str_group.specs.Texts.{IsCallableText, IsSettledText};
+    ghost use Rattle.sgb_linear_str_group.specs.TextsMut.{seen_text, GivesTextMut};
     ghost use Rattle.sgb_linear_str_group.proofs.Queue as laws;
-    ghost use Rattle.slice_group_by.specs.Queue.{at_end, each_end};
 
     ghost Element = { ℕ };
 
@@ -21,9 +21,9 @@ impl<'a, J: Judge<char> + Drop> GroupQueue for LinearStrGroupsMut<'a, J> {
 
     ghost shows = { λ group. chars group.now };
 
-    ghost is_settled = { IsSettledTextMut J.Judge };
+    ghost is_settled = { λ q. IsSettledText J.Judge (seen_text q) };
 
-    ghost gives = { at_end (GivesFrontTextMut J.Judge) (GivesBackTextMut J.Judge) };
+    ghost gives = { GivesTextMut J.Judge };
 
     ghost asked = { λ q r n. IsRunOf J.may_ask J.answers n q.judge r.judge };
 
@@ -31,7 +31,7 @@ impl<'a, J: Judge<char> + Drop> GroupQueue for LinearStrGroupsMut<'a, J> {
 
     ghost exact = { true };
 
-    ghost can_pop = { IsCallableTextMut J.Judge };
+    ghost can_pop = { λ q. IsCallableText J.Judge (seen_text q) };
 
     #[inline]
     fn pop_front(&mut self) -> Option<&'a mut [u8]> {
@@ -43,17 +43,17 @@ impl<'a, J: Judge<char> + Drop> GroupQueue for LinearStrGroupsMut<'a, J> {
         self.next_back()
     }
 
-    ghost part = { each_end _ (λ s group t h. laws.front_part J.Judge seen_text (λ x. x.now) s group t h.0) (λ s group t h. laws.back_part J.Judge seen_text (λ x. x.now) s group t h.0) };
+    ghost part = { λ e q r t h. laws.part J.Judge e seen_text (λ group. group.now) q r t h.0 };
 
-    ghost none = { each_end _ (λ _ _ h. h.1) (λ _ _ h. h.1) };
+    ghost none = { λ _ _ _ h. h.1 };
 
-    ghost piece = { each_end _ (λ s group t p h. laws.front_piece J.Judge seen_text (λ x. x.now) s group t p h.0) (λ s group t p h. laws.back_piece J.Judge seen_text (λ x. x.now) s group t p h.0) };
+    ghost piece = { λ e q r t p h. laws.piece J.Judge e seen_text (λ group. group.now) q r t h.0 p };
 
-    ghost keeps = { each_end _ (λ s group t h. laws.front_keeps J.Judge seen_text (λ x. x.now) s group t h.0) (λ s group t h. laws.back_keeps J.Judge seen_text (λ x. x.now) s group t h.0) };
+    ghost keeps = { λ e q r t h. laws.keeps J.Judge e seen_text (λ group. group.now) q r t h.0 };
 
     ghost asked_none = { λ q. run_of_none J.may_ask J.answers q.judge };
 
     ghost asked_more = { λ q r t. run_of_more J.may_ask J.answers q.judge r.judge t.judge };
 
-    ghost asks = { each_end _ (λ s group t h. laws.front_asks J.Judge seen_text (λ x. x.now) s group t h.0) (λ s group t h. laws.back_asks J.Judge seen_text (λ x. x.now) s group t h.0) };
+    ghost asks = { λ e q r t h. laws.asks J.Judge e seen_text (λ group. group.now) q r t h.0 };
 }

@@ -1,18 +1,14 @@
 //! Groups as a two-ended queue, and a walk over it.
 ghost use Rattle.std.specs.Prelude.{◌≡◌, ℕ, ◌+◌, Bool, List, ◌++◌, length, Option, None, map, option_map, reverse, ⊤};
-ghost use Rattle.sgb_search.specs.Split.{split};
-ghost use Rattle.sgb_search.specs.Runs.{AsksWithin};
-ghost use Rattle.slice_group_by.specs.declared.queue.End.{End};
-ghost use Rattle.slice_group_by.specs.declared.queue.End.TheVariants.{Front, Back};
+ghost use Rattle.sgb_search.specs.Lists.{TakesPart};
+ghost use Rattle.sgb_search.specs.Split.{split, TakesPiece};
+ghost use Rattle.sgb_search.specs.Judges.{AsksWithin};
+ghost use Rattle.sgb_search.specs.declared.end.End.{End};
+ghost use Rattle.sgb_search.specs.declared.end.End.TheVariants.{Front, Back};
 ghost use Rattle.slice_group_by.specs.Queue.{answers, left};
-ghost use Rattle.slice_group_by.specs.Walk.{TakesPart, TakesPiece, Partition, IsChain, AnswersAsQueue};
+ghost use Rattle.slice_group_by.specs.Walk.{Partition, IsChain, AnswersAsQueue};
 
-/// An end of a queue of groups.
-#[derive(Drop)]
-pub enum End {
-    Front,
-    Back,
-}
+pub use sgb_search::end::End;
 
 /// An iterator over groups, as a two-ended queue of them.
 ///
@@ -71,7 +67,7 @@ pub trait GroupQueue {
     // Of a settled queue it gives the outermost piece of the split, and leaves it settled.
     ghost piece: { (e : End) (q : Self) (group : Option Self.Item) (t : Self) (p : Element → Element → Bool)
         → gives e q group t → is_settled q p
-        → TakesPiece e p (remainder q) (option_map shows group) (remainder t) × is_settled t p };
+        → TakesPiece p e (remainder q) (option_map shows group) (remainder t) × is_settled t p };
 
     // Where a call may be made, one may be made after it.
     ghost keeps: { (e : End) (q : Self) (group : Option Self.Item) (t : Self) → gives e q group t → can_pop q → can_pop t };

@@ -4,7 +4,7 @@ ghost use Rattle.slice_group_by.specs.Ranks.{ranks};
 
 use crate::laws::calls_take_pieces;
 use crate::loans::{Ended, settle};
-use sgb_slice_group::linear::group_mut::LinearGroupMut;
+use sgb_slice_group::linear_group::LinearGroupMut;
 
 fn ranked(slice: &mut [usize]) -> Ended<'_, usize>
     ensures name { result.name ≡ slice.entry.ghost_name }

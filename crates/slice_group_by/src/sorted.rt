@@ -1,7 +1,7 @@
 //! Whether a slice is sorted, and so grouped.
 ghost use Rattle.std.specs.Prelude.{◌≡◌, List, map, true};
 ghost use Rattle.std.specs.List.Sorted.{IsSorted, IsSortedByKey};
-ghost use Rattle.sgb_search.specs.Apart.{IsGrouped};
+ghost use Rattle.sgb_search.specs.Split.{IsGrouped};
 ghost use Rattle.sgb_search.specs.Search.{NeverDescends};
 
 /// Whether no neighbouring pair of the slice descends. Then it is grouped for `==`, so that the binary and exponential

@@ -2,7 +2,8 @@
 ghost use Rattle.std.specs.Prelude.{◌≡◌, ◌≤◌, [], map, nat_eq};
 ghost use Rattle.std.specs.Ordering.{nat_cmp};
 ghost use Rattle.slice_group_by.specs.Judges.{by_key};
-ghost use Rattle.slice_group_by.specs.Jumping.{IsCallableApartMut, IsSettledApartMut};
+ghost use Rattle.slice_group_by.specs.Searching.{IsCallableApart, IsSettledApart};
+ghost use Rattle.slice_group_by.specs.Gives.{seen};
 ghost use Rattle.slice_group_by.specs.Search.{NeverDescends};
 ghost use Rattle.slice_group_by.specs.Split.{split, joined};
 ghost use Rattle.users.specs.Keys.{same_key};
@@ -24,8 +25,8 @@ fn total_of(group: &[Entry]) -> u32
 fn totals_kept<'a, F: FnMut(&Entry) -> u32>(
     mut groups: ExponentialGroupByKeyMut<'a, Entry, F, u32>,
 ) -> Ended<'a, Entry>
-    requires callable { IsCallableApartMut (by_key F.FnMut nat_eq) groups }
-    requires settled { IsSettledApartMut (by_key F.FnMut nat_eq) groups same_key }
+    requires callable { IsCallableApart (by_key F.FnMut nat_eq) (seen groups) }
+    requires settled { IsSettledApart (by_key F.FnMut nat_eq) (seen groups) same_key }
     requires fits { total groups.remainder ≤ 4294967295 }
     requires before { groups.loans.before ≡ [] }
     requires after { groups.loans.after ≡ [] }

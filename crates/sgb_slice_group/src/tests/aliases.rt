@@ -1,18 +1,20 @@
 //! Each binary and exponential type searches as its name says: what its `next` gives, in the words of the contracts.
 ghost use Rattle.sgb_search.specs.Judges.{by_equality, by_key, by_predicate};
-ghost use Rattle.sgb_search.specs.JumpingCalls.{IsCallableApart};
-ghost use Rattle.sgb_search.specs.Jumps.{galloping, halving};
-ghost use Rattle.sgb_slice_group.specs.Jumping.{IsCallableApartMut, JumpsFront, JumpsFrontMut};
+ghost use Rattle.sgb_search.specs.Searching.{IsCallableApart, SearchQuestions, exponential, binary};
+ghost use Rattle.sgb_search.specs.declared.end.End.TheVariants.{Front};
+ghost use Rattle.sgb_slice_group.specs.Gives.{shown, seen, Gives, GivesMut};
 
-use crate::jumping::binary::{BinaryGroup, BinaryGroupBy, BinaryGroupByKey};
-use crate::jumping::binary_mut::{BinaryGroupByKeyMut, BinaryGroupByMut, BinaryGroupMut};
-use crate::jumping::exponential::{ExponentialGroup, ExponentialGroupBy, ExponentialGroupByKey};
-use crate::jumping::exponential_mut::{
-    ExponentialGroupByKeyMut, ExponentialGroupByMut, ExponentialGroupMut,
+use crate::binary_group::{
+    BinaryGroup, BinaryGroupBy, BinaryGroupByKey, BinaryGroupByKeyMut, BinaryGroupByMut,
+    BinaryGroupMut,
+};
+use crate::exponential_group::{
+    ExponentialGroup, ExponentialGroupBy, ExponentialGroupByKey, ExponentialGroupByKeyMut,
+    ExponentialGroupByMut, ExponentialGroupMut,
 };
 
 fn binary_halves<'a, T: PartialEq>(groups: &mut BinaryGroup<'a, T>) -> Option<&'a [T]>
-    ensures { JumpsFront (by_equality T.eq) halving groups.old result groups.new }
+    ensures { Gives (SearchQuestions (by_equality T.eq) binary) Front groups.old result groups.new }
 {
     groups.next()
 }
@@ -20,8 +22,8 @@ fn binary_halves<'a, T: PartialEq>(groups: &mut BinaryGroup<'a, T>) -> Option<&'
 fn binary_by_halves<'a, T, P: FnMut(&T, &T) -> bool>(
     groups: &mut BinaryGroupBy<'a, T, P>,
 ) -> Option<&'a [T]>
-    requires { IsCallableApart (by_predicate P.FnMut) groups.old }
-    ensures { JumpsFront (by_predicate P.FnMut) halving groups.old result groups.new }
+    requires { IsCallableApart (by_predicate P.FnMut) (shown groups.old) }
+    ensures { Gives (SearchQuestions (by_predicate P.FnMut) binary) Front groups.old result groups.new }
 {
     groups.next()
 }
@@ -29,14 +31,14 @@ fn binary_by_halves<'a, T, P: FnMut(&T, &T) -> bool>(
 fn binary_by_key_halves<'a, T, F: FnMut(&T) -> K, K: PartialEq + Drop>(
     groups: &mut BinaryGroupByKey<'a, T, F, K>,
 ) -> Option<&'a [T]>
-    requires { IsCallableApart (by_key F.FnMut K.eq) groups.old }
-    ensures { JumpsFront (by_key F.FnMut K.eq) halving groups.old result groups.new }
+    requires { IsCallableApart (by_key F.FnMut K.eq) (shown groups.old) }
+    ensures { Gives (SearchQuestions (by_key F.FnMut K.eq) binary) Front groups.old result groups.new }
 {
     groups.next()
 }
 
 fn binary_mut_halves<'a, T: PartialEq>(groups: &mut BinaryGroupMut<'a, T>) -> Option<&'a mut [T]>
-    ensures { JumpsFrontMut (by_equality T.eq) halving groups.old result groups.new }
+    ensures { GivesMut (SearchQuestions (by_equality T.eq) binary) Front groups.old result groups.new }
 {
     groups.next()
 }
@@ -44,8 +46,8 @@ fn binary_mut_halves<'a, T: PartialEq>(groups: &mut BinaryGroupMut<'a, T>) -> Op
 fn binary_by_mut_halves<'a, T, P: FnMut(&T, &T) -> bool>(
     groups: &mut BinaryGroupByMut<'a, T, P>,
 ) -> Option<&'a mut [T]>
-    requires { IsCallableApartMut (by_predicate P.FnMut) groups.old }
-    ensures { JumpsFrontMut (by_predicate P.FnMut) halving groups.old result groups.new }
+    requires { IsCallableApart (by_predicate P.FnMut) (seen groups.old) }
+    ensures { GivesMut (SearchQuestions (by_predicate P.FnMut) binary) Front groups.old result groups.new }
 {
     groups.next()
 }
@@ -53,14 +55,14 @@ fn binary_by_mut_halves<'a, T, P: FnMut(&T, &T) -> bool>(
 fn binary_by_key_mut_halves<'a, T, F: FnMut(&T) -> K, K: PartialEq + Drop>(
     groups: &mut BinaryGroupByKeyMut<'a, T, F, K>,
 ) -> Option<&'a mut [T]>
-    requires { IsCallableApartMut (by_key F.FnMut K.eq) groups.old }
-    ensures { JumpsFrontMut (by_key F.FnMut K.eq) halving groups.old result groups.new }
+    requires { IsCallableApart (by_key F.FnMut K.eq) (seen groups.old) }
+    ensures { GivesMut (SearchQuestions (by_key F.FnMut K.eq) binary) Front groups.old result groups.new }
 {
     groups.next()
 }
 
 fn exponential_gallops<'a, T: PartialEq>(groups: &mut ExponentialGroup<'a, T>) -> Option<&'a [T]>
-    ensures { JumpsFront (by_equality T.eq) galloping groups.old result groups.new }
+    ensures { Gives (SearchQuestions (by_equality T.eq) exponential) Front groups.old result groups.new }
 {
     groups.next()
 }
@@ -68,8 +70,8 @@ fn exponential_gallops<'a, T: PartialEq>(groups: &mut ExponentialGroup<'a, T>) -
 fn exponential_by_gallops<'a, T, P: FnMut(&T, &T) -> bool>(
     groups: &mut ExponentialGroupBy<'a, T, P>,
 ) -> Option<&'a [T]>
-    requires { IsCallableApart (by_predicate P.FnMut) groups.old }
-    ensures { JumpsFront (by_predicate P.FnMut) galloping groups.old result groups.new }
+    requires { IsCallableApart (by_predicate P.FnMut) (shown groups.old) }
+    ensures { Gives (SearchQuestions (by_predicate P.FnMut) exponential) Front groups.old result groups.new }
 {
     groups.next()
 }
@@ -77,8 +79,8 @@ fn exponential_by_gallops<'a, T, P: FnMut(&T, &T) -> bool>(
 fn exponential_by_key_gallops<'a, T, F: FnMut(&T) -> K, K: PartialEq + Drop>(
     groups: &mut ExponentialGroupByKey<'a, T, F, K>,
 ) -> Option<&'a [T]>
-    requires { IsCallableApart (by_key F.FnMut K.eq) groups.old }
-    ensures { JumpsFront (by_key F.FnMut K.eq) galloping groups.old result groups.new }
+    requires { IsCallableApart (by_key F.FnMut K.eq) (shown groups.old) }
+    ensures { Gives (SearchQuestions (by_key F.FnMut K.eq) exponential) Front groups.old result groups.new }
 {
     groups.next()
 }
@@ -86,7 +88,7 @@ fn exponential_by_key_gallops<'a, T, F: FnMut(&T) -> K, K: PartialEq + Drop>(
 fn exponential_mut_gallops<'a, T: PartialEq>(
     groups: &mut ExponentialGroupMut<'a, T>,
 ) -> Option<&'a mut [T]>
-    ensures { JumpsFrontMut (by_equality T.eq) galloping groups.old result groups.new }
+    ensures { GivesMut (SearchQuestions (by_equality T.eq) exponential) Front groups.old result groups.new }
 {
     groups.next()
 }
@@ -94,8 +96,8 @@ fn exponential_mut_gallops<'a, T: PartialEq>(
 fn exponential_by_mut_gallops<'a, T, P: FnMut(&T, &T) -> bool>(
     groups: &mut ExponentialGroupByMut<'a, T, P>,
 ) -> Option<&'a mut [T]>
-    requires { IsCallableApartMut (by_predicate P.FnMut) groups.old }
-    ensures { JumpsFrontMut (by_predicate P.FnMut) galloping groups.old result groups.new }
+    requires { IsCallableApart (by_predicate P.FnMut) (seen groups.old) }
+    ensures { GivesMut (SearchQuestions (by_predicate P.FnMut) exponential) Front groups.old result groups.new }
 {
     groups.next()
 }
@@ -103,8 +105,8 @@ fn exponential_by_mut_gallops<'a, T, P: FnMut(&T, &T) -> bool>(
 fn exponential_by_key_mut_gallops<'a, T, F: FnMut(&T) -> K, K: PartialEq + Drop>(
     groups: &mut ExponentialGroupByKeyMut<'a, T, F, K>,
 ) -> Option<&'a mut [T]>
-    requires { IsCallableApartMut (by_key F.FnMut K.eq) groups.old }
-    ensures { JumpsFrontMut (by_key F.FnMut K.eq) galloping groups.old result groups.new }
+    requires { IsCallableApart (by_key F.FnMut K.eq) (seen groups.old) }
+    ensures { GivesMut (SearchQuestions (by_key F.FnMut K.eq) exponential) Front groups.old result groups.new }
 {
     groups.next()
 }

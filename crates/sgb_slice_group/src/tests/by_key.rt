@@ -1,6 +1,6 @@
 //! Groups by a key, case by case.
-use crate::jumping::binary::BinaryGroupByKey;
-use crate::jumping::exponential::ExponentialGroupByKey;
+use crate::binary_group::BinaryGroupByKey;
+use crate::exponential_group::ExponentialGroupByKey;
 use std::test::Fail;
 
 #[test]

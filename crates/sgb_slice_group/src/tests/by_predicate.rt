@@ -1,6 +1,6 @@
 //! Groups by a predicate, case by case.
-use crate::jumping::binary::BinaryGroup;
-use crate::jumping::exponential::{ExponentialGroup, ExponentialGroupBy};
+use crate::binary_group::BinaryGroup;
+use crate::exponential_group::{ExponentialGroup, ExponentialGroupBy};
 
 #[test]
 fn exponential_views(rt: HostRuntime) {

@@ -4,8 +4,8 @@ ghost use Rattle.std.proofs.Common.{rules};
 ghost use Rattle.std.specs.Cmp.Rules.{comparing};
 ghost use Rattle.std.specs.Ordering.{on};
 
-use crate::jumping::binary::BinaryGroup;
-use crate::jumping::exponential::ExponentialGroup;
+use crate::binary_group::BinaryGroup;
+use crate::exponential_group::ExponentialGroup;
 use std::array;
 use std::cell::Cell;
 

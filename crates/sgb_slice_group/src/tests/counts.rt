@@ -1,6 +1,6 @@
 //! How many questions a call asks at most.
-use crate::jumping::binary::BinaryGroupBy;
-use crate::jumping::exponential::ExponentialGroupBy;
+use crate::binary_group::BinaryGroupBy;
+use crate::exponential_group::ExponentialGroupBy;
 use std::array;
 use std::cell::Cell;
 
@@ -40,7 +40,7 @@ fn exponential_back(slice: &[usize]) -> (usize, usize) {
 }
 
 #[test]
-fn halving(rt: HostRuntime) {
+fn binary(rt: HostRuntime) {
     let zeros = [0usize; 1000];
     let places: [usize; 1000] = array::from_fn(|place| place);
     for (n, most) in [
@@ -66,7 +66,7 @@ fn halving(rt: HostRuntime) {
 }
 
 #[test]
-fn galloping(rt: HostRuntime) {
+fn exponential(rt: HostRuntime) {
     for (g, most) in [
         (1, 3),
         (2, 5),

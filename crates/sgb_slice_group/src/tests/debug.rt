@@ -1,6 +1,6 @@
 //! The text of each iterator that has one.
-use crate::jumping::binary::{BinaryGroupBy, BinaryGroupByKey};
-use crate::jumping::exponential::{ExponentialGroupBy, ExponentialGroupByKey};
+use crate::binary_group::{BinaryGroupBy, BinaryGroupByKey};
+use crate::exponential_group::{ExponentialGroupBy, ExponentialGroupByKey};
 use std::test::Fail;
 
 #[test]

@@ -1,6 +1,6 @@
 //! Which questions are asked.
-use crate::jumping::binary::BinaryGroupBy;
-use crate::jumping::exponential::ExponentialGroupBy;
+use crate::binary_group::BinaryGroupBy;
+use crate::exponential_group::ExponentialGroupBy;
 use std::cell::Cell;
 
 // Counts a question, and whether it is one about the outermost element and another, and accepts.

@@ -1,6 +1,6 @@
 //! Elements of no bytes.
-use crate::jumping::binary::BinaryGroupBy;
-use crate::jumping::exponential::ExponentialGroupBy;
+use crate::binary_group::BinaryGroupBy;
+use crate::exponential_group::ExponentialGroupBy;
 
 #[test]
 fn five_units(rt: HostRuntime) {

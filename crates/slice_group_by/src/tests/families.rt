@@ -2,11 +2,9 @@
 //! contracts.
 ghost use Rattle.std.specs.Prelude.{◌≡◌, ◌≤◌, ◌<◌, ◌-◌, ◌/◌, ℕ, [], ◌∷◌, Some, not, length, map, option_map, nat_eq};
 ghost use Rattle.std.specs.Ordering.{nat_cmp};
-ghost use Rattle.slice_group_by.specs.Apart.{IsGrouped};
-ghost use Rattle.slice_group_by.specs.Digits.{digits};
-ghost use Rattle.slice_group_by.specs.Jumps.{IsLocalEnd};
+ghost use Rattle.slice_group_by.specs.Split.{IsGrouped, split};
+ghost use Rattle.slice_group_by.specs.Searching.{digits, IsLocalEnd};
 ghost use Rattle.slice_group_by.specs.Search.{NeverDescends};
-ghost use Rattle.slice_group_by.specs.Split.{split};
 ghost use Rattle.slice_group_by.specs.Queue.{answers};
 
 use crate::laws::{

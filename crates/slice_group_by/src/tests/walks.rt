@@ -1,6 +1,6 @@
 //! Walks at concrete types, and the definitions of a queue computed at small cases.
 ghost use Rattle.std.specs.Prelude.{◌≡◌, ℕ, [], ◌∷◌, Some, None};
-ghost use Rattle.slice_group_by.specs.declared.queue.End.TheVariants.{Front, Back};
+ghost use Rattle.sgb_search.specs.declared.end.End.TheVariants.{Front, Back};
 ghost use Rattle.slice_group_by.specs.Queue.{answers, left};
 ghost use Rattle.slice_group_by.specs.Walk.{handed};
 

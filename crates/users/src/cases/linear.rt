@@ -1,133 +1,91 @@
 //! Linear groups of equal elements, case by case.
+use super::families::*;
 use slice_group_by::LinearGroup;
+
+// Slices that are not sorted.
+const UNSORTED_GROUPS: Case = Case {
+    slice: &[1, 1, 1, 3, 3, 2, 2, 2],
+    groups: &[&[1, 1, 1], &[3, 3], &[2, 2, 2]],
+};
+
+const UNSORTED_LITTLE_GROUPS: Case = Case {
+    slice: &[1, 3, 2],
+    groups: &[&[1], &[3], &[2]],
+};
 
 #[test]
 fn one_big_group(rt: HostRuntime) {
-    let slice: [i32; 4] = [1, 1, 1, 1];
-    let mut groups = LinearGroup::new(&slice);
-    assert_eq!(rt; groups.next(), Some([1, 1, 1, 1].as_slice()));
-    assert_eq!(rt; groups.next(), None);
+    assert!(rt; come_from_front::<Linear>(ONE_BIG_GROUP));
 }
 
 #[test]
 fn two_equal_groups(rt: HostRuntime) {
-    let slice: [i32; 8] = [1, 1, 1, 1, 2, 2, 2, 2];
-    let mut groups = LinearGroup::new(&slice);
-    assert_eq!(rt; groups.next(), Some([1, 1, 1, 1].as_slice()));
-    assert_eq!(rt; groups.next(), Some([2, 2, 2, 2].as_slice()));
-    assert_eq!(rt; groups.next(), None);
+    assert!(rt; come_from_front::<Linear>(TWO_EQUAL_GROUPS));
 }
 
 #[test]
 fn two_little_equal_groups(rt: HostRuntime) {
-    let slice: [i32; 2] = [1, 2];
-    let mut groups = LinearGroup::new(&slice);
-    assert_eq!(rt; groups.next(), Some([1].as_slice()));
-    assert_eq!(rt; groups.next(), Some([2].as_slice()));
-    assert_eq!(rt; groups.next(), None);
+    assert!(rt; come_from_front::<Linear>(TWO_LITTLE_GROUPS));
 }
 
 #[test]
 fn three_groups(rt: HostRuntime) {
-    let slice: [i32; 8] = [1, 1, 1, 3, 3, 2, 2, 2];
-    let mut groups = LinearGroup::new(&slice);
-    assert_eq!(rt; groups.next(), Some([1, 1, 1].as_slice()));
-    assert_eq!(rt; groups.next(), Some([3, 3].as_slice()));
-    assert_eq!(rt; groups.next(), Some([2, 2, 2].as_slice()));
-    assert_eq!(rt; groups.next(), None);
+    assert!(rt; come_from_front::<Linear>(UNSORTED_GROUPS));
 }
 
 #[test]
 fn three_little_groups(rt: HostRuntime) {
-    let slice: [i32; 3] = [1, 3, 2];
-    let mut groups = LinearGroup::new(&slice);
-    assert_eq!(rt; groups.next(), Some([1].as_slice()));
-    assert_eq!(rt; groups.next(), Some([3].as_slice()));
-    assert_eq!(rt; groups.next(), Some([2].as_slice()));
-    assert_eq!(rt; groups.next(), None);
+    assert!(rt; come_from_front::<Linear>(UNSORTED_LITTLE_GROUPS));
 }
 
 #[test]
 fn last_three_little_groups(rt: HostRuntime) {
-    let slice: [i32; 3] = [1, 3, 2];
-    let groups = LinearGroup::new(&slice);
-    assert_eq!(rt; groups.last(), Some([2].as_slice()));
+    assert!(rt; ends_with_last::<Linear>(UNSORTED_LITTLE_GROUPS));
 }
 
 #[test]
 fn last_three_groups(rt: HostRuntime) {
-    let slice: [i32; 8] = [1, 1, 1, 3, 3, 2, 2, 2];
-    let groups = LinearGroup::new(&slice);
-    assert_eq!(rt; groups.last(), Some([2, 2, 2].as_slice()));
+    assert!(rt; ends_with_last::<Linear>(UNSORTED_GROUPS));
+}
+
+#[test]
+fn last_of_nothing(rt: HostRuntime) {
+    assert!(rt; ends_with_last::<Linear>(NOTHING));
 }
 
 #[test]
 fn back_empty_slice(rt: HostRuntime) {
-    let slice: [i32; 0] = [];
-    let mut groups = LinearGroup::new(&slice);
-    assert_eq!(rt; groups.next_back(), None);
+    assert!(rt; come_from_back::<Linear>(NOTHING));
 }
 
 #[test]
 fn back_one_little_group(rt: HostRuntime) {
-    let slice: [i32; 1] = [1];
-    let mut groups = LinearGroup::new(&slice);
-    assert_eq!(rt; groups.next_back(), Some([1].as_slice()));
-    assert_eq!(rt; groups.next_back(), None);
-    assert_eq!(rt; groups.next(), None);
+    assert!(rt; come_from_back::<Linear>(ONE_LITTLE_GROUP));
 }
 
 #[test]
 fn back_three_little_groups(rt: HostRuntime) {
-    let slice: [i32; 3] = [1, 3, 2];
-    let mut groups = LinearGroup::new(&slice);
-    assert_eq!(rt; groups.next_back(), Some([2].as_slice()));
-    assert_eq!(rt; groups.next_back(), Some([3].as_slice()));
-    assert_eq!(rt; groups.next_back(), Some([1].as_slice()));
-    assert_eq!(rt; groups.next_back(), None);
+    assert!(rt; come_from_back::<Linear>(UNSORTED_LITTLE_GROUPS));
 }
 
 #[test]
 fn back_three_groups(rt: HostRuntime) {
-    let slice: [i32; 8] = [1, 1, 1, 3, 3, 2, 2, 2];
-    let mut groups = LinearGroup::new(&slice);
-    assert_eq!(rt; groups.next_back(), Some([2, 2, 2].as_slice()));
-    assert_eq!(rt; groups.next_back(), Some([3, 3].as_slice()));
-    assert_eq!(rt; groups.next_back(), Some([1, 1, 1].as_slice()));
-    assert_eq!(rt; groups.next_back(), None);
+    assert!(rt; come_from_back::<Linear>(UNSORTED_GROUPS));
 }
 
 #[test]
 fn double_ended_dont_cross(rt: HostRuntime) {
-    let slice: [i32; 8] = [1, 1, 1, 3, 3, 2, 2, 2];
-    let mut groups = LinearGroup::new(&slice);
-    assert_eq!(rt; groups.next(), Some([1, 1, 1].as_slice()));
-    assert_eq!(rt; groups.next_back(), Some([2, 2, 2].as_slice()));
-    assert_eq!(rt; groups.next(), Some([3, 3].as_slice()));
-    assert_eq!(rt; groups.next_back(), None);
-    assert_eq!(rt; groups.next(), None);
+    assert!(rt; come_from_both_ends::<Linear>(UNSORTED_GROUPS));
 }
 
 #[test]
 fn fused_iterator(rt: HostRuntime) {
-    let slice: [i32; 3] = [1, 2, 3];
-    let mut groups = LinearGroup::new(&slice);
-    assert_eq!(rt; groups.next(), Some([1].as_slice()));
-    assert_eq!(rt; groups.next(), Some([2].as_slice()));
-    assert_eq!(rt; groups.next(), Some([3].as_slice()));
-    assert_eq!(rt; groups.next(), None);
-    assert_eq!(rt; groups.next(), None);
+    assert!(rt; come_from_front::<Linear>(THREE_LITTLE_GROUPS));
 }
 
 #[test]
 fn back_fused_iterator(rt: HostRuntime) {
-    let slice: [i32; 3] = [1, 2, 3];
-    let mut groups = LinearGroup::new(&slice);
-    assert_eq!(rt; groups.next_back(), Some([3].as_slice()));
-    assert_eq!(rt; groups.next_back(), Some([2].as_slice()));
-    assert_eq!(rt; groups.next_back(), Some([1].as_slice()));
-    assert_eq!(rt; groups.next_back(), None);
-    assert_eq!(rt; groups.next_back(), None);
+    assert!(rt; come_from_back::<Linear>(THREE_LITTLE_GROUPS));
 }
 
 #[test]
@@ -149,11 +107,4 @@ fn elements_of_no_bytes(rt: HostRuntime) {
     assert_eq!(rt; groups.size_hint(), (1, Some(5)));
     assert_eq!(rt; groups.next_back(), Some([(), (), (), (), ()].as_slice()));
     assert_eq!(rt; groups.next(), None);
-}
-
-#[test]
-fn last_of_nothing(rt: HostRuntime) {
-    let slice: [i32; 0] = [];
-    let groups = LinearGroup::new(&slice);
-    assert_eq!(rt; groups.last(), None);
 }

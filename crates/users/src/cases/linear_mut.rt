@@ -1,17 +1,11 @@
 //! Linear groups for writing, case by case.
+use super::ends_mut::holds;
 use slice_group_by::laws::rank_groups;
 use slice_group_by::{
     End, GroupByMut, LinearGroupByKeyMut, LinearGroupByMut, LinearGroupMut, walk,
 };
 use std::slice::from_mut;
 use std::test::Fail;
-
-fn holds(group: Option<&mut [i32]>, wanted: &[i32]) -> bool {
-    match group {
-        Some(group) => *group == *wanted,
-        None => false,
-    }
-}
 
 #[test]
 fn group_by_key_mut(rt: HostRuntime) {
@@ -21,16 +15,6 @@ fn group_by_key_mut(rt: HostRuntime) {
     assert!(rt; holds(groups.next(), &[2, 4]));
     assert!(rt; holds(groups.next(), &[5, 7]));
     assert!(rt; holds(groups.next(), &[8, 8]));
-    assert!(rt; groups.next().is_none());
-}
-
-#[test]
-fn by_key_from_both_ends(rt: HostRuntime) {
-    let mut array = [10, 11, 20, 21, 22];
-    let mut slice = array.as_mut_slice();
-    let mut groups = slice.linear_group_by_key_mut(|x| x / 10);
-    assert!(rt; holds(groups.next(), &[10, 11]));
-    assert!(rt; holds(groups.next_back(), &[20, 21, 22]));
     assert!(rt; groups.next().is_none());
 }
 
@@ -45,16 +29,6 @@ fn by_predicate_from_both_ends(rt: HostRuntime) {
 }
 
 #[test]
-fn equal_from_both_ends(rt: HostRuntime) {
-    let mut array = [1, 1, 2];
-    let mut slice = array.as_mut_slice();
-    let mut groups = slice.linear_group_mut();
-    assert!(rt; holds(groups.next(), &[1, 1]));
-    assert!(rt; holds(groups.next_back(), &[2]));
-    assert!(rt; groups.next().is_none());
-}
-
-#[test]
 fn group_outlives_the_iterator(rt: HostRuntime) {
     let mut slice = [1, 1, 2, 2];
     let group = {
@@ -66,25 +40,6 @@ fn group_outlives_the_iterator(rt: HostRuntime) {
         group[0] = 7;
     }
     assert_eq!(rt; slice, [7, 1, 2, 2]);
-}
-
-#[test]
-fn groups_from_both_ends_at_once(rt: HostRuntime) {
-    let mut slice = [1, 1, 2, 3, 3];
-    let mut groups = LinearGroupMut::new(&mut slice);
-    let first = groups.next();
-    let last = groups.next_back();
-    if let Some(first) = first {
-        assert_eq!(rt; &*first, [1, 1].as_slice());
-        first.fill(2);
-    }
-    if let Some(last) = last {
-        assert_eq!(rt; &*last, [3, 3].as_slice());
-        last.fill(2);
-    }
-    assert!(rt; holds(groups.next(), &[2]));
-    assert!(rt; groups.next().is_none());
-    assert_eq!(rt; slice, [2, 2, 2, 2, 2]);
 }
 
 #[test]

@@ -1,5 +1,4 @@
-use Rattle.sgb_search.specs.Neighbours.{AreNeighbours}
-use Rattle.sgb_search.specs.Apart.{AreApart}
+use Rattle.sgb_search.specs.Lists.{AreNeighbours, AreApart}
 use Rattle.sgb_search.proofs.OnElements.{pairs_callable_always}
 use Rattle.sgb_search.proofs.laws.callable_now_on_pairs.Goals as goal
 

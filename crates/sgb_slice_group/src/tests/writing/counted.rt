@@ -4,9 +4,9 @@ ghost use Rattle.std.proofs.Common.{rules};
 ghost use Rattle.std.specs.Cmp.Rules.{comparing};
 ghost use Rattle.std.specs.Ordering.{on};
 
-use crate::jumping::binary_mut::BinaryGroupMut;
-use crate::jumping::exponential_mut::ExponentialGroupMut;
-use crate::linear::group_mut::LinearGroupMut;
+use crate::binary_group::BinaryGroupMut;
+use crate::exponential_group::ExponentialGroupMut;
+use crate::linear_group::LinearGroupMut;
 use std::array;
 use std::cell::Cell;
 

@@ -1,8 +1,7 @@
 //! The text of each iterator for writing that has one.
-use crate::jumping::binary_mut::{BinaryGroupByKeyMut, BinaryGroupByMut};
-use crate::jumping::exponential_mut::{ExponentialGroupByKeyMut, ExponentialGroupByMut};
-use crate::linear::group_by_key_mut::LinearGroupByKeyMut;
-use crate::linear::group_by_mut::LinearGroupByMut;
+use crate::binary_group::{BinaryGroupByKeyMut, BinaryGroupByMut};
+use crate::exponential_group::{ExponentialGroupByKeyMut, ExponentialGroupByMut};
+use crate::linear_group::{LinearGroupByKeyMut, LinearGroupByMut};
 use std::test::Fail;
 
 #[test]

@@ -1,8 +1,7 @@
 //! What no call has handed out yet, and the caller's writes to it.
 use super::holds;
-use crate::jumping::binary_mut::{BinaryGroupByKeyMut, BinaryGroupByMut};
-use crate::jumping::exponential_mut::{ExponentialGroupByKeyMut, ExponentialGroupByMut};
-use crate::linear::group_by_key_mut::LinearGroupByKeyMut;
+use crate::binary_group::{BinaryGroupByKeyMut, BinaryGroupByMut};
+use crate::exponential_group::{ExponentialGroupByKeyMut, ExponentialGroupByMut};
 
 // Writes 9 into the slice if it is [2, 2], and else leaves it.
 fn fill_twos(remainder: &mut [i32]) {
@@ -25,16 +24,6 @@ fn remainder_of_exponential_by_predicate_is_for_writing(rt: HostRuntime) {
 fn remainder_of_exponential_by_key_is_for_writing(rt: HostRuntime) {
     let mut slice = [1, 1, 2, 2];
     let mut groups = ExponentialGroupByKeyMut::new(&mut slice, |x| *x);
-    assert!(rt; groups.remainder_len() == 4 && holds(groups.next(), &[1, 1]));
-    assert!(rt; groups.remainder_len() == 2 && !groups.is_empty());
-    fill_twos(groups.into_remainder());
-    assert_eq!(rt; slice, [1, 1, 9, 9]);
-}
-
-#[test]
-fn remainder_of_linear_by_key_is_for_writing(rt: HostRuntime) {
-    let mut slice = [1, 1, 2, 2];
-    let mut groups = LinearGroupByKeyMut::new(&mut slice, |x| *x);
     assert!(rt; groups.remainder_len() == 4 && holds(groups.next(), &[1, 1]));
     assert!(rt; groups.remainder_len() == 2 && !groups.is_empty());
     fill_twos(groups.into_remainder());

@@ -1,14 +1,12 @@
-use Rattle.sgb_search.proofs.JumpingPieces.{front_ends_locally, back_ends_locally, front_computes, back_computes}
+use Rattle.std.proofs.Common.{Some}
+use Rattle.sgb_slice_group.specs.Gives.{shown}
+use Rattle.sgb_search.proofs.SearchPieces.{ends_locally}
+use Rattle.sgb_search.proofs.SearchQueue.{computes_on}
 use Rattle.slice_group_by.proofs.families.groups_end_locally.Goals as goal
 
-pub returns-clause-front : goal.returns-clause-front
-returns-clause-front g c p s t group = front_ends_locally g.J.Judge g.S.GroupSearch.cost p s group.now t
+pub returns-clause-ends : goal.returns-clause-ends
+returns-clause-ends g c p e s t group m h = ends_locally g.J.Judge g.S.GroupSearch.cost p e (shown s) group.now (shown t) m h
 
-pub returns-clause-back : goal.returns-clause-back
-returns-clause-back g c p s t group = back_ends_locally g.J.Judge g.S.GroupSearch.cost p s group.now t
-
-pub returns-clause-after_front : goal.returns-clause-after_front
-returns-clause-after_front g c p s t group = front_computes g.J.Judge g.S.GroupSearch.cost p s group.now t
-
-pub returns-clause-after_back : goal.returns-clause-after_back
-returns-clause-after_back g c p s t group = back_computes g.J.Judge g.S.GroupSearch.cost p s group.now t
+pub returns-clause-computes : goal.returns-clause-computes
+returns-clause-computes g c p e s t group m h =
+    computes_on g.J.Judge g.S.GroupSearch.cost p e (shown s) (Some group.now) (shown t) h m

@@ -1,15 +1,12 @@
+use Rattle.std.proofs.Common.{Some}
 use Rattle.sgb_slice_group.specs.Gives.{seen}
-use Rattle.sgb_search.proofs.JumpingPieces.{front_ends_locally, back_ends_locally, front_computes, back_computes}
+use Rattle.sgb_search.proofs.SearchPieces.{ends_locally}
+use Rattle.sgb_search.proofs.SearchQueue.{computes_on}
 use Rattle.slice_group_by.proofs.families.groups_end_locally_mut.Goals as goal
 
-pub returns-clause-front : goal.returns-clause-front
-returns-clause-front g c p s t group m h = front_ends_locally g.J.Judge g.S.GroupSearch.cost p (seen s) group.now (seen t) m h.0
+pub returns-clause-ends : goal.returns-clause-ends
+returns-clause-ends g c p e s t group m h = ends_locally g.J.Judge g.S.GroupSearch.cost p e (seen s) group.now (seen t) m h.0
 
-pub returns-clause-back : goal.returns-clause-back
-returns-clause-back g c p s t group m h = back_ends_locally g.J.Judge g.S.GroupSearch.cost p (seen s) group.now (seen t) m h.0
-
-pub returns-clause-after_front : goal.returns-clause-after_front
-returns-clause-after_front g c p s t group m h = front_computes g.J.Judge g.S.GroupSearch.cost p (seen s) group.now (seen t) m h.0
-
-pub returns-clause-after_back : goal.returns-clause-after_back
-returns-clause-after_back g c p s t group m h = back_computes g.J.Judge g.S.GroupSearch.cost p (seen s) group.now (seen t) m h.0
+pub returns-clause-computes : goal.returns-clause-computes
+returns-clause-computes g c p e s t group m h =
+    computes_on g.J.Judge g.S.GroupSearch.cost p e (seen s) (Some group.now) (seen t) h.0 m

@@ -1,11 +1,11 @@
-use Rattle.slice_group_by.specs.Queue.{at_end}
-use Rattle.sgb_slice_group.specs.Linear.{GivesFront, GivesBack}
-use Rattle.slice_group_by.proofs.PairsAsked.{chain_asks_once, whole_asks, asks_once}
+use Rattle.sgb_slice_group.specs.Gives.{shown, Gives}
+use Rattle.sgb_search.specs.Linear.{LinearQuestions}
+use Rattle.slice_group_by.proofs.PairsAsked.{chain_asks_once, whole_asks, reading_asks_once}
 use Rattle.slice_group_by.proofs.laws.each_pair_asked_once.Goals as goal
 
 pub returns-clause-pairs : goal.returns-clause-pairs
-returns-clause-pairs g c = chain_asks_once g.J.Judge (at_end (GivesFront g.J.Judge) (GivesBack g.J.Judge)) (λ s. s) (asks_once g.J.Judge)
+returns-clause-pairs g c = chain_asks_once g.J.Judge (Gives (LinearQuestions g.J.Judge)) shown (reading_asks_once g.J.Judge)
 
 pub returns-clause-whole : goal.returns-clause-whole
 returns-clause-whole g c s t es os h z =
-    whole_asks g.J.Judge s t (chain_asks_once g.J.Judge (at_end (GivesFront g.J.Judge) (GivesBack g.J.Judge)) (λ s. s) (asks_once g.J.Judge) s t es os h) z
+    whole_asks g.J.Judge (shown s) (shown t) (chain_asks_once g.J.Judge (Gives (LinearQuestions g.J.Judge)) shown (reading_asks_once g.J.Judge) s t es os h) z

@@ -1,6 +1,6 @@
 use Rattle.std.proofs.Common.{arith, take_all, rules}
 use Rattle.std.proofs.lemmas.List.{take_more, take_more_set}
-use Rattle.slice_group_by.specs.declared.queue.End.TheVariants.{Front}
+use Rattle.sgb_search.specs.declared.end.End.TheVariants.{Front}
 use Rattle.slice_group_by.specs.Walk.{IsChain}
 use Rattle.slice_group_by.proofs.Chains.{chain_push, chain_parts, chain_answers, chain_settled, chain_asks}
 use Rattle.slice_group_by.proofs.queue.walk.Goals as goal

@@ -1,7 +1,7 @@
-use Rattle.std.proofs.Common.{◌≡◌, ℕ, ◌+◌, ◌++◌, ◌∷◌, [], true, drop, List, length, nat_eq, replicate, ap, ◌∙◌, sym, arith, refl, Some}
+use Rattle.std.proofs.Common.{◌≡◌, ℕ, ◌+◌, ◌++◌, ◌∷◌, [], drop, List, length, nat_eq, replicate, ap, ◌∙◌, sym, arith, refl, Some}
 use Rattle.std.proofs.lemmas.List.{length-append, length-replicate}
 use Rattle.sgb_search.specs.Split.{split}
-use Rattle.slice_group_by.specs.declared.queue.End.TheVariants.{Front}
+use Rattle.sgb_search.specs.declared.end.End.TheVariants.{Front}
 use Rattle.slice_group_by.proofs.Numbered.{numbered, ranks_numbered, one_more}
 use Rattle.slice_group_by.proofs.ranks.ranked.Goals as goal
 
@@ -9,7 +9,7 @@ pub loop-group-init : goal.loop-group-init
 loop-group-init c =
     let loans = c.new-groups.ensures.loans in
     record {
-      settled = c.new-groups.ensures.settled;
+      settled = c.new-groups.ensures.settled tt;
       root = refl;
       cuts = loans.cuts;
       after = loans.after;
@@ -27,7 +27,7 @@ loop-group-preserved c =
     let before_it = c.loop-group.groups in
     let after_it = c.next.new.self in
     let cut : split nat_eq before_it.remainder ≡ group ∷ split nat_eq after_it.remainder =
-    c.calls_take_pieces.ensures.next nat_eq before_it after_it c.in-Some.group steps i.settled in
+    c.calls_take_pieces.ensures.whole nat_eq Front before_it after_it c.in-Some.group steps i.settled in
     let stays = c.calls_take_pieces.ensures.settled nat_eq Front before_it after_it (Some c.in-Some.group) steps i.settled in
     let filled : c.of.result.value ≡ replicate (length group) c.loop-group.rank = c.of.ensures.value ∙ c.fill.ensures.after (λ _ h. h) in
     let before : c.note_front.new.self.loans.before ≡ c.loop-group.groups.loans.before ++ c.of.result.value =
@@ -39,7 +39,7 @@ loop-group-preserved c =
     record {
       settled = rw (note.remainder, note.judge) stays;
       root = note.root ∙ steps.1.root ∙ i.root;
-      cuts = note.cuts ∙ ap (drop 1) (steps.1.cuts ∙ ap (λ cs. cs ++ (true, c.in-Some.group.ghost_name) ∷ []) i.cuts);
+      cuts = note.cuts ∙ ap (drop 1) (steps.1.cuts ∙ ap (λ cs. cs ++ (Front, c.in-Some.group.ghost_name) ∷ []) i.cuts);
       after = note.after ∙ steps.1.after ∙ i.after;
       ranked = ap (λ (l : List ℕ). l ++ numbered (c.loop-group.rank + 1) (split nat_eq c.note_front.new.self.remainder)) before
           ∙ ap (λ (l : List ℕ). (c.loop-group.groups.loans.before ++ c.of.result.value) ++ numbered (c.loop-group.rank + 1) (split nat_eq l)) note.remainder

@@ -1,8 +1,9 @@
 use Rattle.std.proofs.Common.{rules, arith, ap, ◌∙◌, ◌≡◌, ◌++◌}
 use Rattle.std.proofs.lemmas.List.Sums.{sum_by-append}
-use Rattle.slice_group_by.proofs.WrittenPieces.{jumping_piece, jumping_settled}
+use Rattle.slice_group_by.proofs.WrittenPieces.{search_piece, search_settled}
 use Rattle.users.specs.Totals.{kept}
 use Rattle.users.proofs.KeptTotals.{one_more, set_is_kept}
+use Rattle.slice_group_by.specs.End.TheVariants.{Front}
 use Rattle.users.proofs.totals.totals_kept.Goals as goal
 
 pub loop-group-preserved-derived : goal.loop-group-preserved-derived
@@ -15,10 +16,10 @@ loop-group-preserved g c =
     let note = c.note_front.ensures in
     let value : c.of.result.value ≡ kept c.in-Some.group.now = c.of.ensures.value ∙ set_is_kept c.in-Some.group.now c.total_of.result c.total_of.ensures in
     record {
-      settled = jumping_settled _ _ _ c.loop-group.groups c.next.new.self c.note_front.new.self c.in-Some.group steps note.remainder note.judge i.settled;
+      settled = search_settled _ _ Front c.loop-group.groups c.next.new.self c.note_front.new.self c.in-Some.group note.remainder _ steps note.judge i.settled;
       fits = grind (arith, sum_by-append);
       root = search rules;
       cuts = search rules;
       after = search rules;
-      done = one_more _ _ _ _ _ _ _ i.done (jumping_piece _ _ _ c.loop-group.groups c.next.new.self c.note_front.new.self c.in-Some.group steps note.remainder i.settled) (note.before ∙ ap (λ l. l ++ c.of.result.value) steps.1.before) value;
+      done = one_more _ _ _ _ _ _ _ i.done (search_piece _ _ Front c.loop-group.groups c.next.new.self c.note_front.new.self c.in-Some.group note.remainder _ steps i.settled) (note.before ∙ ap (λ l. l ++ c.of.result.value) steps.1.before) value;
     }

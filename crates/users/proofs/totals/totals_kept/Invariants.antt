@@ -1,6 +1,7 @@
 use Rattle.std.proofs.Common.{◌≡◌, ◌≤◌, ◌++◌, [], map, nat_eq, length}
 use Rattle.slice_group_by.specs.Judges.{by_key}
-use Rattle.slice_group_by.specs.Jumping.{IsSettledApartMut}
+use Rattle.slice_group_by.specs.Searching.{IsSettledApart}
+use Rattle.slice_group_by.specs.Gives.{seen}
 use Rattle.slice_group_by.specs.Split.{split, joined}
 use Rattle.users.specs.Keys.{same_key}
 use Rattle.users.specs.Totals.{total, kept}
@@ -8,7 +9,7 @@ use Rattle.users.proofs.totals.totals_kept.Given as goal
 
 abbrev pub invariant-loop-group : goal.invariant-loop-group
 invariant-loop-group g l = record {
-  settled : IsSettledApartMut (by_key g.F.FnMut nat_eq) l.groups same_key;
+  settled : IsSettledApart (by_key g.F.FnMut nat_eq) (seen l.groups) same_key;
   fits : total l.groups.remainder ≤ 4294967295;
   root : l.groups.loans.root ≡ l.initial.groups.loans.root;
   cuts : l.groups.loans.cuts ≡ [];

@@ -1,5 +1,7 @@
 -- The remainder is given up too, so all that the slice ends as is known.
-use Rattle.std.proofs.Common.{◌≡◌, List, [], ◌∷◌, ◌++◌, refl, sym, subst, Bool}
+use Rattle.sgb_search.specs.declared.end.End.{End}
+use Rattle.sgb_search.specs.declared.end.End.TheVariants.{Front, Back}
+use Rattle.std.proofs.Common.{◌≡◌, List, [], ◌∷◌, ◌++◌, refl, sym, subst}
 use mir.Syntax.{a_type}
 use mir.Val.{Val}
 use mir.MapTy.{inst_fn}
@@ -47,7 +49,7 @@ close_spec 𝓤 𝓛 𝓜 𝓡 wired T L =
     qed 𝓛 (((‵ (flft κs.0 qs.0) ⊛ ‵ (fsep (flft κs.1.0 qs.1.0) ftrue)) ⊛ ‵ (owns (types_at En.signature.params κs) z.0.3 z.0.4)) ∷ raw (fact 𝓤 (κs.1.0 ⊑ T.lives)) ∷ raw (fact 𝓤 (l.cuts ≡ [])) ∷ raw (fact 𝓤 (p.name ≡ l.rest)) ∷ []) ∵
     move ! (2 ∷ []) $ heard ! (l.cuts ≡ []) (λ none. move ! (2 ∷ []) $ heard ! (p.name ≡ l.rest) (λ same.
     split ! $ split ! $ move ! (2 ∷ []) $ fsplit3 ! $ fsplit ! $ move ! (2 ∷ []) $ fsplit ! $ keep ! (3 ∷ 1 ∷ 5 ∷ 6 ∷ []) $
-    rewrite ! 0 (λ (cs : List (Bool × GName)). ‵ (loan_owns R l.root l.before l.after cs l.rest)) none refl $ rewrite ! 1 (λ (k : GName). ‵ (ended_as R k p.value)) same refl $
+    rewrite ! 0 (λ (cs : List (End × GName)). ‵ (loan_owns R l.root l.before l.after cs l.rest)) none refl $ rewrite ! 1 (λ (k : GName). ‵ (ended_as R k p.value)) same refl $
     use2 𝓛 (‵ (ended_as R l.root all)) (closes 𝓛 R l.root l.rest l.before l.after p.value) $
     suffices ! (Run Vs) (subst (λ (us : List Val). ent 𝓤 (Run Vs) (Run us)) (sym (λ i. u.1 i ++ (v.1 i ++ []))) (id⊢ 𝓤 (Run Vs))) $
     enter ! 𝓣.C 𝓣.Λ fn Vs Post $ alloc_all ! (λ k. pass_all ! refl (u.2, (v.2, tt)) $

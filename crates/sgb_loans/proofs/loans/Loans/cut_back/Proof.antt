@@ -1,5 +1,7 @@
 -- The slice is split, and the link between its name and the parts' is kept.
-use Rattle.std.proofs.Common.{◌≡◌, ℕ, ◌≤◌, List, [], ◌∷◌, ◌++◌, length, refl, sym, subst, false}
+use Rattle.sgb_search.specs.declared.end.End.{End}
+use Rattle.sgb_search.specs.declared.end.End.TheVariants.{Front, Back}
+use Rattle.std.proofs.Common.{◌≡◌, ℕ, ◌≤◌, List, [], ◌∷◌, ◌++◌, length, refl, sym, subst}
 use mir.Syntax.{a_type, named, w64}
 use mir.Val.{Val, vptr, vint}
 use mir.MapTy.{inst_fn}
@@ -80,14 +82,14 @@ cut_back_spec 𝓤 𝓛 𝓜 𝓡 wired T L =
     -- [the parts; the tokens of all; the link; the loans' borrow and its token]
     lands_as ! refl refl good $
     move ! (3 ∷ 4 ∷ []) $ fsplit ! $ opens ! tt S b o (λ us. move ! (1 ∷ []) $ fsplit ! $
-    move ! (1 ∷ 8 ∷ []) $ rewrite ! 1 (λ (j : GName). ‵ (cut_link R j false y.1.ghost_name y.0.ghost_name)) same refl $
-    use2 𝓛 (‵ (loan_owns R l.root l.before l.after (l.cuts ++ (false, y.1.ghost_name) ∷ []) y.0.ghost_name)) (cuts 𝓛 R l.root y.1.ghost_name l.rest y.0.ghost_name l.before l.after false l.cuts) $
-    let l' = record l { cuts = l.cuts ++ (false, y.1.ghost_name) ∷ []; rest = y.0.ghost_name } in
+    move ! (1 ∷ 8 ∷ []) $ rewrite ! 1 (λ (j : GName). ‵ (cut_link R j Back y.1.ghost_name y.0.ghost_name)) same refl $
+    use2 𝓛 (‵ (loan_owns R l.root l.before l.after (l.cuts ++ (Back, y.1.ghost_name) ∷ []) y.0.ghost_name)) (cuts 𝓛 R l.root y.1.ghost_name l.rest y.0.ghost_name l.before l.after Back l.cuts) $
+    let l' = record l { cuts = l.cuts ++ (Back, y.1.ghost_name) ∷ []; rest = y.0.ghost_name } in
     move ! (1 ∷ 0 ∷ []) $ fjoin ! $ move ! (1 ∷ 0 ∷ []) $ closes ! tt S l' us b o $ fjoin ! $
     feq_i ! (List Val) z.0.4.0 (vptr b o ∷ []) are.0.0 $ fjoin ! $ nothing ! $ nothing ! $ fjoin ! $ nothing ! $ fjoin ! $ move ! (1 ∷ 0 ∷ []) $ fjoin ! $
     -- [what is left of the parameters; the loans' token; the parts; the tokens of all]
     move ! (3 ∷ []) $ split ! $ fjoin ! $ move ! (2 ∷ 0 ∷ []) $ join ! $
-    use0 𝓛 (raw (fact 𝓤 (l'.cuts ≡ l.cuts ++ (false, y.1.ghost_name) ∷ []))) (fact_i 𝓤 (l'.cuts ≡ l.cuts ++ (false, y.1.ghost_name) ∷ []) (emp 𝓤) refl) $ use0 𝓛 (raw (fact 𝓤 (l'.rest ≡ y.0.ghost_name))) (fact_i 𝓤 (l'.rest ≡ y.0.ghost_name) (emp 𝓤) refl) $ join ! $
+    use0 𝓛 (raw (fact 𝓤 (l'.cuts ≡ l.cuts ++ (Back, y.1.ghost_name) ∷ []))) (fact_i 𝓤 (l'.cuts ≡ l.cuts ++ (Back, y.1.ghost_name) ∷ []) (emp 𝓤) refl) $ use0 𝓛 (raw (fact 𝓤 (l'.rest ≡ y.0.ghost_name))) (fact_i 𝓤 (l'.rest ≡ y.0.ghost_name) (emp 𝓤) refl) $ join ! $
     use0 𝓛 (raw (fact 𝓤 (l'.after ≡ l.after))) (fact_i 𝓤 (l'.after ≡ l.after) (emp 𝓤) refl) $ join ! $
     use0 𝓛 (raw (fact 𝓤 (l'.before ≡ l.before))) (fact_i 𝓤 (l'.before ≡ l.before) (emp 𝓤) refl) $ join ! $
     use0 𝓛 (raw (fact 𝓤 (l'.root ≡ l.root))) (fact_i 𝓤 (l'.root ≡ l.root) (emp 𝓤) refl) $ join ! $

@@ -1,5 +1,7 @@
 -- The one part that is out ended as the token says.
-use Rattle.std.proofs.Common.{◌≡◌, ℕ, List, [], ◌∷◌, ◌++◌, refl, sym, subst, Bool, false, drop}
+use Rattle.sgb_search.specs.declared.end.End.{End}
+use Rattle.sgb_search.specs.declared.end.End.TheVariants.{Front, Back}
+use Rattle.std.proofs.Common.{◌≡◌, ℕ, List, [], ◌∷◌, ◌++◌, refl, sym, subst, drop}
 use mir.Syntax.{a_type}
 use mir.Val.{Val, vptr, vunit}
 use mir.MapTy.{inst_fn}
@@ -41,15 +43,15 @@ note_back_spec 𝓤 𝓛 𝓜 𝓡 wired T L =
     let r = z.0.3.0 in let b : ℕ = r.ref_ptr.0 in let o : ℕ = r.ref_ptr.1 in let l = r.now in let p = z.0.3.1.0 in let a = named_lft 3 1 tt κs in
     let v = one (layout (end.the_row a R)) z.0.4.1.0 (((ended_laws.the_row_laws a R LR).lawful 𝓛).typed p z.0.4.1.0 are.1.0) in let Vs : List Val = vptr b o ∷ v.0 ∷ [] in
     let l' = record l { after = p.value ++ l.after; cuts = drop 1 l.cuts } in
-    qed 𝓛 (((‵ (flft κs.0 qs.0) ⊛ ‵ (fsep (flft κs.1.0 qs.1.0) (fsep (flft κs.1.1.0 qs.1.1.0) ftrue))) ⊛ ‵ (owns (types_at En.signature.params κs) z.0.3 z.0.4)) ∷ raw (fact 𝓤 (κs.1.1.0 ⊑ T.lives)) ∷ raw (fact 𝓤 (l.cuts ≡ (false, p.name) ∷ drop 1 l.cuts)) ∷ []) ∵
-    move ! (2 ∷ []) $ heard ! (l.cuts ≡ (false, p.name) ∷ drop 1 l.cuts) (λ out.
+    qed 𝓛 (((‵ (flft κs.0 qs.0) ⊛ ‵ (fsep (flft κs.1.0 qs.1.0) (fsep (flft κs.1.1.0 qs.1.1.0) ftrue))) ⊛ ‵ (owns (types_at En.signature.params κs) z.0.3 z.0.4)) ∷ raw (fact 𝓤 (κs.1.1.0 ⊑ T.lives)) ∷ raw (fact 𝓤 (l.cuts ≡ (Back, p.name) ∷ drop 1 l.cuts)) ∷ []) ∵
+    move ! (2 ∷ []) $ heard ! (l.cuts ≡ (Back, p.name) ∷ drop 1 l.cuts) (λ out.
     split ! $ split ! $ move ! (2 ∷ []) $ fsplit3 ! $ fsplit ! $ move ! (2 ∷ []) $ fsplit ! $
     -- [the token's data; what it says; what the pointer is; the borrow; nothing; two parts of the tokens; lives]
     keep ! (3 ∷ 5 ∷ 1 ∷ 6 ∷ []) $
     suffices ! (Run Vs) (subst (λ (us : List Val). ent 𝓤 (Run Vs) (Run us)) (sym (λ i. are.0.0 i ++ (v.1 i ++ []))) (id⊢ 𝓤 (Run Vs))) $
     enter ! 𝓣.C 𝓣.Λ fn Vs Post $ alloc_all ! (λ k. pass_all ! refl ((tt, tt), (v.2, tt)) $
     fsplit ! $ opens ! tt S b o (λ us. move ! (1 ∷ []) $ fsplit ! $
-    move ! (1 ∷ 6 ∷ []) $ rewrite ! 0 (λ (cs : List (Bool × GName)). ‵ (loan_owns R l.root l.before l.after cs l.rest)) out refl $
+    move ! (1 ∷ 6 ∷ []) $ rewrite ! 0 (λ (cs : List (End × GName)). ‵ (loan_owns R l.root l.before l.after cs l.rest)) out refl $
     use2 𝓛 (‵ (loan_owns R l.root l.before (p.value ++ l.after) (drop 1 l.cuts) l.rest)) (notes_back 𝓛 R l.root p.name l.rest l.before l.after p.value (drop 1 l.cuts)) $
     move ! (1 ∷ 0 ∷ []) $ fjoin ! $ move ! (1 ∷ 0 ∷ []) $ closes ! tt S l' us b o $ fjoin ! $
     feq_i ! (List Val) z.0.4.0 (vptr b o ∷ []) are.0.0 $ fjoin ! $ nothing ! $ nothing ! $ fjoin ! $ move ! (1 ∷ 0 ∷ []) $ fjoin ! $ move ! (1 ∷ 2 ∷ []) $ join ! $

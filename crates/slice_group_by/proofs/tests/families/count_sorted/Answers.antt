@@ -1,9 +1,10 @@
 use Rattle.std.proofs.Common.{refl}
 use Rattle.std.proofs.lemmas.Iterator.Consumers.{count_from_yields_List}
+use Rattle.sgb_search.specs.declared.end.End.TheVariants.{Front}
 use Rattle.slice_group_by.proofs.tests.families.count_sorted.Goals as goal
 
 pub returns : goal.returns
 returns g c n e =
     let settled = c.new-groups.ensures.settled (c.if-not-is_sorted_for_groups.ensures.grouped refl) in
-    let counted = rw c.new-groups.ensures.remainder at (count_from_yields_List _ _ c.count.ensures.ran (c.sees_pieces.ensures.front g.T.PartialEq.eq _ settled)) in
+    let counted = rw c.new-groups.ensures.remainder at (count_from_yields_List _ _ c.count.ensures.ran (c.sees_pieces.ensures.pieces g.T.PartialEq.eq Front c.new-groups.result settled)) in
     cc (e, counted)

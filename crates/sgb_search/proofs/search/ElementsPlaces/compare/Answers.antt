@@ -1,0 +1,7 @@
+use Rattle.std.proofs.Common.{refl, sym}
+use Rattle.std.proofs.lemmas.Option.{slice_get_read}
+use Rattle.sgb_search.proofs.search.ElementsPlaces.compare.Goals as goal
+
+pub returns : goal.returns
+returns g c =
+    (c.index-self-place.result, slice_get_read _ _ c.args.place _ refl c.requires.0 c.index-self-place.is, record { shown = _; shows = sym c.index-self-place.is; called = c.asker.ensures })

@@ -1,0 +1,82 @@
+//! Halving and galloping over places, in either direction.
+ghost use Rattle.std.specs.Prelude.{◌≡◌, ℕ, ◌≤◌, ◌<◌, ◌+◌, ◌-◌, List, length, ◌⊎◌};
+ghost use Rattle.std.specs.declared.cmp.Ordering.{Ordering};
+ghost use Rattle.sgb_search.specs.Searching.{digits};
+ghost use Rattle.sgb_search.specs.Places.{MayProbe, IsHalved, IsBracket, IsGalloped};
+
+use std::cmp::Ordering;
+
+/// Places that can each be compared with what is sought, by a question to an asker, which the question may change.
+pub trait Places<A> {
+    // The asker may be asked about the place.
+    ghost may_compare: { A → Self → ℕ → Type 0 };
+
+    // The asker before, the place, an answer that may come, and the asker after.
+    ghost compares: { A → Self → ℕ → Ordering → A → Type 0 };
+
+    /// How the place compares with what is sought: one question.
+    fn compare(&self, asker: &mut A, place: usize) -> Ordering
+        requires { may_compare asker.old self.now place }
+        ensures { compares asker.old self.now place result asker.new };
+}
+
+/// Halves the places from `low` up to, not including, `high` until one answers `Equal` or none is left.
+///
+/// `Ok(i)` is the place that answered `Equal`; `Err(i)` is where the search ended, from `low` up to `high`. At most
+/// `digits(high - low)` questions, each about one of these places.
+#[inline]
+pub fn halve<A, P: Places<A>>(
+    asker: &mut A,
+    places: &P,
+    low: usize,
+    high: usize,
+) -> Result<usize, usize>
+    requires order { low ≤ high }
+    requires callable { MayProbe (λ s i. P.may_compare s places.now i) (λ s i o t. P.compares s places.now i o t) low high asker.old }
+    ensures { IsHalved (λ s i. P.may_compare s places.now i) (λ s i o t. P.compares s places.now i o t) low high asker.old result asker.new }
+{
+    let mut from = low;
+    let mut upto = high;
+    while from < upto {
+        let middle = from + (upto - from) / 2;
+        match places.compare(asker, middle) {
+            Ordering::Less => from = middle + 1,
+            Ordering::Equal => return Ok(middle),
+            Ordering::Greater => upto = middle,
+        }
+    }
+    Err(from)
+}
+
+/// Doubles the place while it is below the length and answers `Less`: the ends between which to halve. Its questions and
+/// those of the halving are together at most `2 * digits(low + 1) + 1`.
+#[inline]
+fn bracket<A, P: Places<A>>(asker: &mut A, places: &P, len: usize) -> (usize, usize)
+    requires { MayProbe (λ s i. P.may_compare s places.now i) (λ s i o t. P.compares s places.now i o t) 0 len asker.old }
+    ensures { IsBracket (λ s i. P.may_compare s places.now i) (λ s i o t. P.compares s places.now i o t) len asker.old result.0 result.1 asker.new }
+{
+    let mut low = 0;
+    let mut place = 1;
+    while place < len {
+        match places.compare(asker, place) {
+            Ordering::Less => {}
+            _ => return (low, place + 1),
+        }
+        low = place;
+        place = if place < len - place { place * 2 } else { len };
+    }
+    (low, len)
+}
+
+/// Gallops over the `len` places from the first on, and then halves.
+///
+/// `Ok(i)` is a place that answered `Equal`; `Err(i)` is where the search ended, at most `len`. At most
+/// `2 * digits(i + 1) + 1` questions, each about one of these places, and none if `len` is 0.
+#[inline]
+pub fn gallop<A, P: Places<A>>(asker: &mut A, places: &P, len: usize) -> Result<usize, usize>
+    requires { MayProbe (λ s i. P.may_compare s places.now i) (λ s i o t. P.compares s places.now i o t) 0 len asker.old }
+    ensures { IsGalloped (λ s i. P.may_compare s places.now i) (λ s i o t. P.compares s places.now i o t) len asker.old result asker.new }
+{
+    let (low, high) = bracket(asker, places, len);
+    halve(asker, places, low, high)
+}

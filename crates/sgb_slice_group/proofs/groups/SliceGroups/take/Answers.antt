@@ -1,0 +1,23 @@
+use Rattle.std.proofs.Common.{Some, arith}
+use Rattle.sgb_slice_group.proofs.Cuts.{front_cut, back_cut}
+use Rattle.sgb_slice_group.proofs.groups.SliceGroups.take.Goals as goal
+
+pub returns-in-Front-clause-gives : goal.returns-in-Front-clause-gives
+returns-in-Front-clause-gives g c =
+    let s = c.args.self.now in
+    let e = c.group_len-len.ensures in
+    rw (c.in-Front.is, c.split_at.ensures.front) (front_cut (g.C.GroupEnd.asks _ _ g.J.Judge) s.slice.now s.low s.high _ _ _
+    c.remainder-rest.ensures _ e.within e.nonempty (rw c.in-Front.is at e.asked))
+
+pub returns-in-Front-clause-callable : goal.returns-in-Front-clause-callable
+returns-in-Front-clause-callable g c = g.C.GroupEnd.keeps _ _ g.J.Judge _ _ (Some _) _ (returns-in-Front-clause-gives g c) c.requires
+
+pub returns-in-Back-clause-gives : goal.returns-in-Back-clause-gives
+returns-in-Back-clause-gives g c =
+    let s = c.args.self.now in
+    let e = c.group_len-len.ensures in
+    rw (c.in-Back.is, c.split_at-in-Back.ensures.back) (back_cut (g.C.GroupEnd.asks _ _ g.J.Judge) s.slice.now s.low s.high _ _ _
+    c.remainder-rest.ensures _ (omega (arith, e.within)) _ (omega (arith, e.within)) e.nonempty (rw c.in-Back.is at e.asked))
+
+pub returns-in-Back-clause-callable : goal.returns-in-Back-clause-callable
+returns-in-Back-clause-callable g c = g.C.GroupEnd.keeps _ _ g.J.Judge _ _ (Some _) _ (returns-in-Back-clause-gives g c) c.requires

@@ -1,0 +1,202 @@
+//! Linear groups, found by a scan along the neighbouring pairs.
+ghost use Rattle.std.specs.Prelude.{ℕ, ◌<◌, ◌≤◌, length};
+ghost use Rattle.sgb_search.specs.declared.end.End.TheVariants.{Front, Back};
+ghost use Rattle.sgb_search.specs.Judges.{IsRun};
+ghost use Rattle.sgb_search.specs.Linear.{questions, MayAskAlong};
+
+use crate::group_end::GroupEnd;
+use crate::groups::LinearGroups;
+use crate::groups_mut::LinearGroupsMut;
+use sgb_search::end::End;
+use sgb_search::judge::{EqualityJudge, Judge, KeyJudge, PredicateJudge};
+use std::fmt;
+
+/// An iterator over the groups of equal elements of a slice, by `==` of neighbours.
+///
+/// ```
+/// let mut groups = LinearGroup::new(&[1, 1, 1, 3, 3, 2, 2, 2]);
+/// groups.next();      // Some([1, 1, 1])
+/// groups.next_back(); // Some([2, 2, 2])
+/// groups.next();      // Some([3, 3])
+/// groups.next_back(); // None
+/// ```
+pub type LinearGroup<'a, T> = LinearGroups<'a, T, EqualityJudge>;
+
+/// An iterator over the groups of a slice by a predicate, which is asked about neighbours, the left one first.
+///
+/// ```
+/// let mut groups = LinearGroupBy::new(&[1, 2, 3, 2, 3], |a, b| a < b);
+/// groups.next(); // Some([1, 2, 3])
+/// groups.next(); // Some([2, 3])
+/// groups.next(); // None
+/// ```
+pub type LinearGroupBy<'a, T, P> = LinearGroups<'a, T, PredicateJudge<P>>;
+
+/// An iterator over the groups of a slice by a key: a question is a call of the key function on the left element, then
+/// one on the right, then `==` of the keys.
+///
+/// ```
+/// let mut groups = LinearGroupByKey::new(&[10, 11, 20, 21, 22], |x| *x / 10);
+/// groups.next();      // Some([10, 11])
+/// groups.next_back(); // Some([20, 21, 22])
+/// groups.next();      // None
+/// ```
+pub type LinearGroupByKey<'a, T, F, K> = LinearGroups<'a, T, KeyJudge<F, K>>;
+
+/// An iterator over the groups of equal elements of a slice for writing, by `==` of neighbours.
+///
+/// ```
+/// let mut array = [1, 1, 2, 3, 3];
+/// let mut groups = LinearGroupMut::new(&mut array);
+/// if let Some(group) = groups.next() {
+///     group.fill(7); // array is [7, 7, 2, 3, 3]
+/// }
+/// ```
+pub type LinearGroupMut<'a, T> = LinearGroupsMut<'a, T, EqualityJudge>;
+
+/// An iterator over the groups of a slice by a predicate for writing. The predicate is asked about neighbours, the left one
+/// first, as they are when the call is made.
+///
+/// ```
+/// let mut array = [1, 2, 3, 2, 3];
+/// let mut groups = LinearGroupByMut::new(&mut array, |a, b| a < b);
+/// if let Some(group) = groups.next_back() {
+///     group.fill(0); // array is [1, 2, 3, 0, 0]
+/// }
+/// ```
+pub type LinearGroupByMut<'a, T, P> = LinearGroupsMut<'a, T, PredicateJudge<P>>;
+
+/// An iterator over the groups of a slice by a key for writing: a question is a call of the key function on the left
+/// element, then one on the right, then `==` of the keys, of the elements as they are when the call is made.
+///
+/// ```
+/// let mut array = [10, 11, 20, 21, 22];
+/// let mut groups = LinearGroupByKeyMut::new(&mut array, |x| *x / 10);
+/// if let Some(group) = groups.next() {
+///     group.fill(0); // array is [0, 0, 20, 21, 22]
+/// }
+/// ```
+pub type LinearGroupByKeyMut<'a, T, F, K> = LinearGroupsMut<'a, T, KeyJudge<F, K>>;
+
+/// Asks about one neighbouring pair after another, from the end on, up to the first that is refused.
+#[derive(Drop)]
+pub struct Linear {}
+
+impl GroupEnd for Linear {
+    ghost use Rattle.std.specs.Prelude.{true, ⊤};
+    ghost use Rattle.sgb_search.specs.Lists.{AreNeighbours, neighbours};
+    ghost use Rattle.sgb_search.specs.Linear.{LinearQuestions, IsSettled};
+    ghost use Rattle.sgb_search.proofs.LinearQueue as laws;
+
+    ghost allowed = { λ T. AreNeighbours };
+
+    ghost asks = { λ T J. LinearQuestions };
+
+    ghost fits = { λ T p xs. ⊤ };
+
+    ghost settled = { λ T J. IsSettled };
+
+    ghost due = { λ T xs. length (neighbours xs) };
+
+    ghost exact = { true };
+
+    ghost settles = { λ T J g s p computes fits. computes };
+
+    ghost piece = { λ T J. laws.piece };
+
+    ghost keeps = { λ T J. laws.keeps };
+
+    ghost asks_due = { λ T J. laws.asks };
+
+    #[inline]
+    fn group_len<T, J: Judge<T>>(end: &End, slice: &[T], judge: &mut J) -> usize {
+        match end {
+            End::Front => first_len(slice, judge),
+            End::Back => last_len(slice, judge),
+        }
+    }
+}
+
+/// How many elements the first group of the slice has.
+#[inline]
+fn first_len<T, J: Judge<T>>(slice: &[T], judge: &mut J) -> usize
+    requires nonempty { 0 < length slice.now }
+    requires callable { MayAskAlong J.Judge slice.now judge.old }
+    ensures nonempty { 0 < result }
+    ensures within { result ≤ length slice.now }
+    ensures asked { IsRun J.may_ask J.answers judge.old (questions Front slice.now result) judge.new }
+{
+    let mut end = 1;
+    while end < slice.len() {
+        let together = judge.ask(&slice[end - 1], &slice[end]);
+        if !together {
+            return end;
+        }
+        end += 1;
+    }
+    end
+}
+
+/// How many elements the last group of the slice has.
+#[inline]
+fn last_len<T, J: Judge<T>>(slice: &[T], judge: &mut J) -> usize
+    requires nonempty { 0 < length slice.now }
+    requires callable { MayAskAlong J.Judge slice.now judge.old }
+    ensures nonempty { 0 < result }
+    ensures within { result ≤ length slice.now }
+    ensures asked { IsRun J.may_ask J.answers judge.old (questions Back slice.now result) judge.new }
+{
+    let mut start = slice.len() - 1;
+    while start > 0 {
+        let together = judge.ask(&slice[start - 1], &slice[start]);
+        if !together {
+            return slice.len() - start;
+        }
+        start -= 1;
+    }
+    slice.len()
+}
+
+impl<'a, T: fmt::Debug, P> fmt::Debug for LinearGroups<'a, T, PredicateJudge<P>> {
+    fn fmt<W: fmt::Write>(&self, f: &mut fmt::Formatter<W>) -> fmt::Result {
+        write!(f, "LinearGroupBy {{ slice: {:?} }}", self.remainder())
+    }
+}
+
+impl<'a, T: fmt::Debug, F, K> fmt::Debug for LinearGroups<'a, T, KeyJudge<F, K>> {
+    fn fmt<W: fmt::Write>(&self, f: &mut fmt::Formatter<W>) -> fmt::Result {
+        write!(
+            f,
+            "LinearGroupByKey {{ remainder: {:?} }}",
+            self.remainder()
+        )
+    }
+}
+
+impl<'a, T: fmt::Debug, P> fmt::Debug for LinearGroupsMut<'a, T, PredicateJudge<P>> {
+    fn fmt<W: fmt::Write>(&self, f: &mut fmt::Formatter<W>) -> fmt::Result {
+        write!(f, "LinearGroupByMut {{ slice: {:?} }}", self.remainder())
+    }
+}
+
+impl<'a, T: fmt::Debug, F, K> fmt::Debug for LinearGroupsMut<'a, T, KeyJudge<F, K>> {
+    fn fmt<W: fmt::Write>(&self, f: &mut fmt::Formatter<W>) -> fmt::Result {
+        write!(
+            f,
+            "LinearGroupByKeyMut {{ remainder: {:?} }}",
+            self.remainder()
+        )
+    }
+}
+
+// The loans, the key's type and the way to find a group take no bytes, and neither does the judge of equality.
+const _: () = prove!(size_of::<LinearGroupMut<'static, u32>>() == size_of::<&mut [u32]>());
+
+const _: () = prove!(
+    size_of::<LinearGroupByMut<'static, u32, (u64, u8)>>() == size_of::<(&mut [u32], (u64, u8))>()
+);
+
+const _: () = prove!(
+    size_of::<LinearGroupByKeyMut<'static, u32, (u64, u8), [u8; 9]>>()
+        == size_of::<(&mut [u32], (u64, u8))>()
+);

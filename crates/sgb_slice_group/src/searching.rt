@@ -1,0 +1,156 @@
+//! The binary and the exponential way to find a group: a search among the places beside the outermost element, at either end of a
+//! slice.
+ghost use Rattle.std.specs.Prelude.{◌≡◌, ◌<◌, ◌≤◌, Bool, length, reverse};
+ghost use Rattle.sgb_search.specs.Searching.{MayAskApart, SearchCost, SearchRun};
+ghost use Rattle.sgb_search.specs.Places.{MayProbe, IsSought, MayAskAt, AnsweredAt, side};
+
+use crate::group_end::GroupEnd;
+use sgb_search::end::End;
+use sgb_search::gallop::Places;
+use sgb_search::judge::Judge;
+use std::cmp::Ordering;
+use std::marker::{Model, PhantomData};
+
+/// How the end of a group is sought.
+pub trait GroupSearch {
+    // What it may ask.
+    ghost cost: { SearchCost };
+
+    /// Searches the places below `len`: those that answer `Less` should come before those that answer `Greater`.
+    fn search<A, P: Places<A>>(asker: &mut A, places: &P, len: usize) -> Result<usize, usize>
+        requires { MayProbe (λ s i. P.may_compare s places.now i) (λ s i o t. P.compares s places.now i o t) 0 len asker.old }
+        ensures { IsSought (λ s i. P.may_compare s places.now i) (λ s i o t. P.compares s places.now i o t) cost len asker.old result asker.new };
+}
+
+/// Asks about the outermost element and others, by the search `S`.
+#[derive(Drop)]
+pub struct Search<S> {
+    search: PhantomData<S>,
+}
+
+impl<S: GroupSearch> GroupEnd for Search<S> {
+    ghost use Rattle.std.specs.Prelude.{false};
+    ghost use Rattle.sgb_search.specs.Lists.{AreApart};
+    ghost use Rattle.sgb_search.specs.Split.{IsGrouped};
+    ghost use Rattle.sgb_search.specs.Searching.{SearchQuestions, IsSettledApart};
+    ghost use Rattle.sgb_search.proofs.SearchQueue as laws;
+
+    ghost allowed = { λ T. AreApart };
+
+    ghost asks = { λ T J g. SearchQuestions g S.cost };
+
+    ghost fits = { λ T. IsGrouped };
+
+    ghost settled = { λ T J. IsSettledApart };
+
+    ghost due = { λ T xs. S.cost.walk (length xs) };
+
+    ghost exact = { false };
+
+    ghost settles = { λ T J g s p computes fits. record { computes = computes; grouped = fits } };
+
+    ghost piece = { λ T J g. laws.piece g S.cost };
+
+    ghost keeps = { λ T J g. laws.keeps g S.cost };
+
+    ghost asks_due = { λ T J g. laws.asks g S.cost };
+
+    #[inline]
+    fn group_len<T, J: Judge<T>>(end: &End, slice: &[T], judge: &mut J) -> usize {
+        match end {
+            End::Front => first_len::<T, J, S>(slice, judge),
+            End::Back => last_len::<T, J, S>(slice, judge),
+        }
+    }
+}
+
+/// How many elements the first group of the slice has.
+#[inline]
+fn first_len<T, J: Judge<T>, S: GroupSearch>(slice: &[T], judge: &mut J) -> usize
+    requires nonempty { 0 < length slice.now }
+    requires callable { MayAskApart J.Judge slice.now judge.old }
+    ensures nonempty { 0 < result }
+    ensures within { result ≤ length slice.now }
+    ensures asked { SearchRun slice.now J.Judge S.cost judge.old result judge.new }
+{
+    match S::search(judge, &FromFront { slice }, slice.len() - 1) {
+        Ok(place) | Err(place) => place + 1,
+    }
+}
+
+/// How many elements the last group of the slice has.
+#[inline]
+fn last_len<T, J: Judge<T>, S: GroupSearch>(slice: &[T], judge: &mut J) -> usize
+    requires nonempty { 0 < length slice.now }
+    requires callable { MayAskApart J.Judge slice.now judge.old }
+    ensures nonempty { 0 < result }
+    ensures within { result ≤ length slice.now }
+    ensures asked { SearchRun (reverse slice.now) J.Judge S.cost judge.old result judge.new }
+{
+    match S::search(judge, &FromBack { slice }, slice.len() - 1) {
+        Ok(place) | Err(place) => place + 1,
+    }
+}
+
+// The elements, read from the front: place i is that of the element i + 1 after the first.
+#[derive(Drop)]
+struct FromFront<'a, T> {
+    slice: &'a [T],
+}
+
+impl<'a, T> Model for FromFront<'a, T> {
+    ghost use Rattle.std.specs.Prelude.{List};
+
+    ghost Value = { List T };
+
+    ghost view = { λ c. c.slice.now };
+}
+
+impl<'a, T, J: Judge<T>> Places<J> for FromFront<'a, T> {
+    ghost may_compare = { λ j xs i. MayAskAt J.may_ask J.answers xs j i };
+
+    ghost compares = { λ j xs i o k. AnsweredAt J.may_ask J.answers xs j i o k };
+
+    #[inline]
+    fn compare(&self, judge: &mut J, place: usize) -> Ordering {
+        before_end(judge.ask(&self.slice[0], &self.slice[1 + place]))
+    }
+}
+
+// The elements, read from the back: place i is that of the element i + 1 before the last.
+#[derive(Drop)]
+struct FromBack<'a, T> {
+    slice: &'a [T],
+}
+
+impl<'a, T> Model for FromBack<'a, T> {
+    ghost use Rattle.std.specs.Prelude.{List, reverse};
+
+    ghost Value = { List T };
+
+    ghost view = { λ c. reverse c.slice.now };
+}
+
+impl<'a, T, J: Judge<T>> Places<J> for FromBack<'a, T> {
+    ghost may_compare = { λ j xs i. MayAskAt J.may_ask J.answers xs j i };
+
+    ghost compares = { λ j xs i o k. AnsweredAt J.may_ask J.answers xs j i o k };
+
+    #[inline]
+    fn compare(&self, judge: &mut J, place: usize) -> Ordering {
+        let last = self.slice.len() - 1;
+        before_end(judge.ask(&self.slice[last], &self.slice[last - 1 - place]))
+    }
+}
+
+// The elements that are accepted lie before the end of the group.
+#[inline]
+fn before_end(accepted: bool) -> Ordering
+    ensures { result ≡ side accepted }
+{
+    if accepted {
+        Ordering::Less
+    } else {
+        Ordering::Greater
+    }
+}

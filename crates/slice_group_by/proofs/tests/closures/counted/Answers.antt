@@ -1,7 +1,0 @@
-use Rattle.std.proofs.Common.{rules, nat_lt}
-use Rattle.std.specs.Prelude.{⊤}
-use Rattle.std.proofs.lemmas.Fn.{answers_by}
-use Rattle.slice_group_by.proofs.tests.closures.counted.Goals as goal
-
-pub returns : goal.returns
-returns c = rw c.linear_group_by-groups.ensures.is at (c.walk.ensures.pieces nat_lt (c.linear_group_by-groups.ensures.settled nat_lt (answers_by _ _ (λ _. ⊤) (λ f a r f' k i. (search rules, tt)) _ tt)))

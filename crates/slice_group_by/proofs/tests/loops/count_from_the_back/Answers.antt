@@ -1,7 +1,0 @@
-use Rattle.std.proofs.Common.{◌∙◌}
-use Rattle.std.proofs.lemmas.List.{length-reverse}
-use Rattle.std.proofs.lemmas.Iterator.Consumers.{count_from_yields_List}
-use Rattle.slice_group_by.proofs.tests.loops.count_from_the_back.Goals as goal
-
-pub returns : goal.returns
-returns g c = rw (c.rev.ensures.source, c.new-groups.ensures.remainder) at (count_from_yields_List _ _ c.count.ensures.ran (c.sees_pieces.ensures.rev g.T.PartialEq.eq _ (rw c.rev.ensures.source c.new-groups.ensures.settled))) ∙ length-reverse _

@@ -1,9 +1,0 @@
-use Rattle.std.proofs.Common.{refl, None, ◌∙◌, ap, length, map, max, fold}
-use Rattle.std.proofs.lemmas.Iterator.Consumers.{YieldsList-end}
-use Rattle.slice_group_by.proofs.tests.loops.longest.Goals as goal
-
-pub returns : goal.returns
-returns g c =
-    let seen = c.sees_pieces.ensures.front g.T.PartialEq.eq _ c.new-groups.ensures.settled in
-    let drained = YieldsList-end seen _ _ (rw c.into_iter-group-iterator.ensures.into_iter_gives at c.loop-group.yielded_by) None _ refl c.in-None.ensures.steps in
-    c.loop-group.invariant ∙ ap (λ gs. fold max 0 (map length gs)) (rw c.new-groups.ensures.remainder at drained.0)

@@ -1,9 +1,0 @@
-use Rattle.std.proofs.Common.{nat_eq, ◌∙◌}
-use Rattle.std.proofs.lemmas.List.{length-reverse}
-use Rattle.std.proofs.lemmas.Iterator.Consumers.{count_from_yields_List}
-use Rattle.slice_group_by.proofs.tests.str_users.count_runs.Goals as goal
-
-pub returns : goal.returns
-returns c =
-    rw (c.rev.ensures.source, c.new-groups.ensures.text) at (count_from_yields_List _ _ c.count.ensures.ran (c.sees_pieces.ensures.rev nat_eq _ (rw c.rev.ensures.source c.new-groups.ensures.settled)))
-    ∙ length-reverse _

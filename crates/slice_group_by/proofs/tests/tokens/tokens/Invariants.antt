@@ -1,8 +1,0 @@
-use Rattle.std.proofs.Common.{◌≡◌, ◌+◌, ◌≤◌, length, take}
-use Rattle.slice_group_by.proofs.tests.tokens.tokens.Given as goal
-
-abbrev pub invariant-loop-token : goal.invariant-loop-token
-invariant-loop-token l = record {
-  within : l.count + length l.token-iterator.text ≤ length l.out;
-  written : take l.count l.out ≡ l.yielded;
-}

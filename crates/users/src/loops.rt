@@ -1,0 +1,72 @@
+//! Groups in loops and through adapters of iterators: `count`, `rev`, `map`, `nth`, a `for`, and how many questions were asked.
+ghost use Rattle.std.specs.Prelude.{◌≡◌, ◌-◌, [], length, map, fold, max, slice_get, nat_eq, nat_lt};
+ghost use Rattle.slice_group_by.specs.Gives.{shown};
+ghost use Rattle.slice_group_by.specs.Split.{split};
+
+use slice_group_by::laws::{each_pair_asked_once, equality_judges, sees_pieces};
+use slice_group_by::{End, GroupBy, LinearGroup, walk};
+
+/// How many groups there are.
+pub fn count_groups<T: PartialEq>(xs: &[T]) -> usize
+    ensures { result ≡ length (split T.eq xs.now) }
+{
+    let groups = LinearGroup::new(xs);
+    sees_pieces(&groups);
+    groups.count()
+}
+
+/// How many groups there are, counted from the back.
+pub fn count_from_the_back<T: PartialEq>(xs: &[T]) -> usize
+    ensures { result ≡ length (split T.eq xs.now) }
+{
+    let groups = LinearGroup::new(xs);
+    sees_pieces(&groups);
+    groups.rev().count()
+}
+
+/// How many ascending runs there are.
+pub fn count_ascending(xs: &[u8]) -> usize
+    ensures { result ≡ length (split nat_lt xs.now) }
+{
+    let groups = xs.linear_group_by(|a, b| a < b);
+    sees_pieces(&groups);
+    groups.count()
+}
+
+/// The length of the longest group.
+pub fn longest<T: PartialEq>(xs: &[T]) -> usize
+    ensures { result ≡ fold max 0 (map length (split T.eq xs.now)) }
+{
+    let groups = LinearGroup::new(xs);
+    sees_pieces(&groups);
+    let mut best = 0usize;
+    for group in groups {
+        best = best.max(group.len());
+    }
+    best
+}
+
+/// The length of the k-th group, from 0 on.
+pub fn nth_length<T: PartialEq>(xs: &[T], k: usize) -> Option<usize>
+    ensures { result ≡ slice_get (map length (split T.eq xs.now)) k }
+{
+    let groups = LinearGroup::new(xs);
+    sees_pieces(&groups);
+    groups.map(|group| group.len()).nth(k)
+}
+
+/// Any list of calls until nothing remains asks once less than there are elements.
+pub fn walk_through<'a, T: PartialEq>(
+    xs: &'a [T],
+    ends: &[End],
+    out: &mut [Option<&'a [T]>],
+) -> LinearGroup<'a, T>
+    requires { length out.old ≡ length ends.now }
+    ensures { (shown result).remainder ≡ [] → result.judge.questions.asked ≡ length xs.now - 1 }
+{
+    let mut groups = LinearGroup::new(xs);
+    each_pair_asked_once(&groups);
+    equality_judges::<T>();
+    walk(&mut groups, ends, out);
+    groups
+}
