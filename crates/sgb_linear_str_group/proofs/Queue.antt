@@ -7,8 +7,7 @@ use Rattle.std.proofs.lemmas.Str.{chars-nil}
 use Rattle.sgb_search.specs.declared.end.End.{End}
 use Rattle.sgb_search.specs.declared.judge.Judge.{Ghosts}
 use Rattle.sgb_search.specs.Judges.{IsRunOf, AsksWithin}
-use Rattle.sgb_search.specs.Lists.{neighbours, TakesPart}
-use Rattle.sgb_search.specs.Split.{TakesPiece}
+use Rattle.sgb_search.specs.Split.{neighbours, TakesPart, TakesPiece}
 use Rattle.sgb_search.specs.Calls.{CallAt}
 use Rattle.sgb_search.specs.Linear.{LinearQuestions, AsksEachOnce}
 use Rattle.sgb_search.proofs.LinearPairs.{asks_once}

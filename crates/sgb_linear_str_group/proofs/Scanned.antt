@@ -7,7 +7,7 @@ use Rattle.std.proofs.lemmas.List.{length-reverse}
 use Rattle.std.proofs.Math.ListN.{drop_of_length-le}
 use Rattle.sgb_search.specs.declared.judge.Judge.{Ghosts}
 use Rattle.sgb_search.specs.Judges.{IsRun}
-use Rattle.sgb_search.specs.Lists.{neighbours, AreNeighbours}
+use Rattle.sgb_search.specs.Split.{neighbours, AreNeighbours}
 use Rattle.sgb_search.specs.Linear.{questions, MayAskAlong}
 use Rattle.sgb_search.specs.declared.end.End.TheVariants.{Front, Back}
 use Rattle.sgb_search.proofs.Runs.{may_now, may_next}

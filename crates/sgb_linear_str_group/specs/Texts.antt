@@ -5,7 +5,7 @@ use Rattle.std.specs.Iterator.{Count, at_most}
 use Rattle.std.specs.Str.{chars, IsUtf8}
 use Rattle.sgb_search.specs.declared.judge.Judge.{Ghosts}
 use Rattle.sgb_search.specs.declared.end.End.{End}
-use Rattle.sgb_search.specs.Lists.{put_at}
+use Rattle.sgb_search.specs.Split.{put_at}
 use Rattle.sgb_search.specs.Calls.{IsGroupAt, Groups}
 use Rattle.sgb_search.specs.Linear.{IsCallable, IsSettled, LinearQuestions}
 use Rattle.sgb_linear_str_group.specs.declared.groups.LinearStrGroups.{LinearStrGroups}

@@ -7,7 +7,7 @@ use Rattle.std.specs.Cmp.{IsTotalOrder, alike_right}
 use Rattle.std.specs.Ordering.{ordering_index}
 use Rattle.std.specs.declared.cmp.Ordering.{Ordering}
 use Rattle.std.specs.declared.cmp.Ordering.TheVariants.{Less, Equal, Greater}
-use Rattle.sgb_search.specs.Lists.{neighbours}
+use Rattle.sgb_search.specs.Split.{neighbours}
 use Rattle.sgb_search.specs.Search.{NeverDescends, IsLessEqualGreater}
 use Rattle.sgb_search.proofs.Each.{all_each}
 
@@ -42,7 +42,8 @@ module _ {K : Type 0} (cmp : K → K → Ordering) (o : IsTotalOrder cmp) (b : K
   pub ascends : {T : Type 0} (key : T → K) (xs : List T) → NeverDescends cmp (map key xs) → IsLessEqualGreater (λ x. cmp (key x) b) xs
   ascends key xs h = rises (λ x. ordering_index (cmp (key x) b)) xs (keys xs h)
     where
-      keys : (xs : _) → NeverDescends cmp (map key xs) → AllByRecursion (λ q. ordering_index (cmp (key q.0) b) ≤ ordering_index (cmp (key q.1) b)) (neighbours xs)
+      keys : (xs : _) → NeverDescends cmp (map key xs)
+          → AllByRecursion (λ q. ordering_index (cmp (key q.0) b) ≤ ordering_index (cmp (key q.1) b)) (neighbours xs)
       keys [] h = tt
       keys (x ∷ []) h = tt
       keys (x ∷ y ∷ ys) h = (step (key x) (key y) h.0, keys (y ∷ ys) h.1)

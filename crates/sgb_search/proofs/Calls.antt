@@ -4,7 +4,7 @@ use Rattle.std.specs.List.{AllByRecursion}
 use Rattle.sgb_search.specs.declared.end.End.{End}
 use Rattle.sgb_search.specs.declared.judge.Judge.{Ghosts}
 use Rattle.sgb_search.specs.Judges.{IsRun, IsRunOf, AsksWithin}
-use Rattle.sgb_search.specs.Lists.{put_at, TakesPart, on_pairs}
+use Rattle.sgb_search.specs.Split.{put_at, TakesPart, on_pairs}
 use Rattle.sgb_search.specs.Calls.{Groups, CallAt, IsCallableBy, ComputesBy}
 use Rattle.sgb_search.proofs.Runs.{may_after, answers_after}
 

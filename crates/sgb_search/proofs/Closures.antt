@@ -7,7 +7,7 @@ use denote.Param.Always.{always_mut, mut_next}
 use Rattle.sgb_search.specs.Judges.{MayAskAll, AnswersBy, by_predicate, predicate_judge, by_key, key_judge, MayCompareKeys, ComparesKeys, by_char_predicate, char_predicate_judge, by_char_key, char_key_judge, CalledAtChar, ComputesOnChars, ComputesCharKey}
 use Rattle.sgb_search.specs.Linear.{MayAskAlong, AnswersAlong}
 use Rattle.std.specs.List.{Contains}
-use Rattle.sgb_search.specs.Lists.{AreNeighbours, on_pairs}
+use Rattle.sgb_search.specs.Split.{AreNeighbours, on_pairs}
 use Rattle.sgb_search.specs.Search.{MayCall, Computes}
 use Rattle.sgb_search.proofs.Runs.{may_ask_by, answers_by}
 
@@ -30,7 +30,8 @@ module _ {F T K : Type 0} (takes : F → T → Type 0) (calls : F → T → K �
 
   -- of a function that computes key
   module _ (key : T → K) (I : F → Type 0) (computes : (f : F) (x : T) (k : K) (f' : F) → I f → calls f x k f' → (k ≡ key x) × I f') where
-    keys_next : (eq : K → K → Bool) (f : F) (x y : T) (b : Bool) (f' : F) → I f → ComparesKeys calls eq f x y b f' → (b ≡ eq (key x) (key y)) × I f'
+    keys_next : (eq : K → K → Bool) (f : F) (x y : T) (b : Bool) (f' : F) → I f → ComparesKeys calls eq f x y b f'
+        → (b ≡ eq (key x) (key y)) × I f'
     keys_next eq f x y b f' h c =
         let l = computes f x c.left_key c.between h c.first in
         let r = computes c.between y c.right_key f' l.1 c.second in
@@ -38,7 +39,8 @@ module _ {F T K : Type 0} (takes : F → T → Type 0) (calls : F → T → K �
 
 module _ {P T : Type 0} (g : Mut P (Bor T × (Bor T × Unit {0})) Bool) where
   -- a predicate that may always be called
-  pub predicate_callable : (allowed : T × T → Type 0) (f : P) → always_mut g f → MayAskAll (by_predicate g).may_ask (by_predicate g).answers allowed (predicate_judge f)
+  pub predicate_callable : (allowed : T × T → Type 0) (f : P) → always_mut g f
+      → MayAskAll (by_predicate g).may_ask (by_predicate g).answers allowed (predicate_judge f)
   predicate_callable allowed f h =
       may_ask_by _ _ allowed (λ j. always_mut g j.predicate)
       (λ j q i ok v w e d. taken g j.predicate (v, (w, tt)) i)
@@ -47,22 +49,26 @@ module _ {P T : Type 0} (g : Mut P (Bor T × (Bor T × Unit {0})) Bool) where
 
   -- a predicate that computes p
   module _ (p : T → T → Bool) where
-    computes_next : (f : P) (x y : T) (b : Bool) (f' : P) → ComputesOnPairs g p f → CalledAtTwo g f x y b f' → (b ≡ p x y) × ComputesOnPairs g p f'
+    computes_next : (f : P) (x y : T) (b : Bool) (f' : P) → ComputesOnPairs g p f → CalledAtTwo g f x y b f'
+        → (b ≡ p x y) × ComputesOnPairs g p f'
     computes_next f x y b f' h c = (
       (h.at ((c.first, (c.second, tt)) ∷ []) b f' c.called).0 ∙ rw (c.shows.0, c.shows.1) refl,
       record { at = λ xs. (h.at ((c.first, (c.second, tt)) ∷ xs) b f' c.called).1 },
     )
 
-    pub predicate_settled : (allowed : T × T → Type 0) (f : P) → ComputesOnPairs g p f → AnswersBy (by_predicate g).may_ask (by_predicate g).answers allowed (on_pairs p) (predicate_judge f)
+    pub predicate_settled : (allowed : T × T → Type 0) (f : P) → ComputesOnPairs g p f
+        → AnswersBy (by_predicate g).may_ask (by_predicate g).answers allowed (on_pairs p) (predicate_judge f)
     predicate_settled allowed f h =
-        answers_by _ _ allowed (on_pairs p) (λ j. ComputesOnPairs g p j.predicate) (λ j q b k i c. computes_next j.predicate q.0 q.1 b k.predicate i c) (predicate_judge f) h
+        answers_by _ _ allowed (on_pairs p) (λ j. ComputesOnPairs g p j.predicate)
+        (λ j q b k i c. computes_next j.predicate q.0 q.1 b k.predicate i c) (predicate_judge f) h
 
 module _ {F T K : Type 0} (g : Mut F (Bor T × Unit {0}) K) (eq : K → K → Bool) where
   key_called : (f : F) (x : T) (k : K) (f' : F) → CalledAt g f x k f' → always_mut g f → always_mut g f'
   key_called f x k f' c i = always_next g f (c.shown, tt) k f' c.called i
 
   -- a key function that may always be called
-  pub key_callable : (allowed : T × T → Type 0) (f : F) → always_mut g f → MayAskAll (by_key g eq).may_ask (by_key g eq).answers allowed (key_judge f)
+  pub key_callable : (allowed : T × T → Type 0) (f : F) → always_mut g f
+      → MayAskAll (by_key g eq).may_ask (by_key g eq).answers allowed (key_judge f)
   key_callable allowed f h =
       may_ask_by _ _ allowed (λ j. always_mut g j.func)
       (λ j q i ok. may_compare (TakesAt g) (CalledAt g) (always_mut g) key_called (λ f x i v e. taken g f (v, tt) i) j.func q i)
@@ -72,9 +78,11 @@ module _ {F T K : Type 0} (g : Mut F (Bor T × Unit {0}) K) (eq : K → K → Bo
   -- a key function that computes key
   module _ (key : T → K) where
     key_next : (f : F) (x : T) (k : K) (f' : F) → ComputesKey g key f → CalledAt g f x k f' → (k ≡ key x) × ComputesKey g key f'
-    key_next f x k f' h c = ((h.at ((c.shown, tt) ∷ []) k f' c.called).0 ∙ ap key c.shows, record { at = λ xs. (h.at ((c.shown, tt) ∷ xs) k f' c.called).1 })
+    key_next f x k f' h c =
+        ((h.at ((c.shown, tt) ∷ []) k f' c.called).0 ∙ ap key c.shows, record { at = λ xs. (h.at ((c.shown, tt) ∷ xs) k f' c.called).1 })
 
-    pub key_settled : (allowed : T × T → Type 0) (f : F) → ComputesKey g key f → AnswersBy (by_key g eq).may_ask (by_key g eq).answers allowed (on_pairs (λ x y. eq (key x) (key y))) (key_judge f)
+    pub key_settled : (allowed : T × T → Type 0) (f : F) → ComputesKey g key f
+        → AnswersBy (by_key g eq).may_ask (by_key g eq).answers allowed (on_pairs (λ x y. eq (key x) (key y))) (key_judge f)
     key_settled allowed f h =
         answers_by _ _ allowed (on_pairs (λ x y. eq (key x) (key y))) (λ j. ComputesKey g key j.func)
         (λ j q b k i c. keys_next (TakesAt g) (CalledAt g) key (ComputesKey g key) key_next eq j.func q.0 q.1 b k.func i c)
@@ -91,7 +99,8 @@ module _ {F T K : Type 0} (g : Mut F (Bor T × Unit {0}) K) where
   pub computes_on_elements : (xs : List T) (answer : T → K) (f : F) → ComputesKey g answer f → Computes g xs answer f
   computes_on_elements xs answer f h =
       answers_by _ _ (Contains xs) answer (ComputesKey g answer)
-      (λ f x k f' i c. ((i.at ((c.shown, tt) ∷ []) k f' c.called).0 ∙ ap answer c.shows, record { at = λ xs. (i.at ((c.shown, tt) ∷ xs) k f' c.called).1 }))
+      (λ f x k f' i c.
+      ((i.at ((c.shown, tt) ∷ []) k f' c.called).0 ∙ ap answer c.shows, record { at = λ xs. (i.at ((c.shown, tt) ∷ xs) k f' c.called).1 }))
       f h
 
 -- closures of characters, by value
@@ -103,10 +112,12 @@ module _ {P : Type 0} (g : Mut P (ℕ × (ℕ × Unit {0})) Bool) where
       (λ j q b k i ok c. always_next g j.predicate (q.0, (q.1, tt)) b k.predicate c i)
       (char_predicate_judge f) h
 
-  pub char_predicate_settled : (p : ℕ → ℕ → Bool) (cs : List ℕ) (f : P) → ComputesOnChars g p f → AnswersAlong (by_char_predicate g) cs p (char_predicate_judge f)
+  pub char_predicate_settled : (p : ℕ → ℕ → Bool) (cs : List ℕ) (f : P) → ComputesOnChars g p f
+      → AnswersAlong (by_char_predicate g) cs p (char_predicate_judge f)
   char_predicate_settled p cs f h =
       answers_by _ _ (AreNeighbours cs) (on_pairs p) (λ j. ComputesOnChars g p j.predicate)
-      (λ j q b k i c. ((i.at ((q.0, (q.1, tt)) ∷ []) b k.predicate c).0, record { at = λ xs. (i.at ((q.0, (q.1, tt)) ∷ xs) b k.predicate c).1 }))
+      (λ j q b k i c.
+      ((i.at ((q.0, (q.1, tt)) ∷ []) b k.predicate c).0, record { at = λ xs. (i.at ((q.0, (q.1, tt)) ∷ xs) b k.predicate c).1 }))
       (char_predicate_judge f) h
 
 module _ {F K : Type 0} (g : Mut F (ℕ × Unit {0}) K) (eq : K → K → Bool) where
@@ -124,10 +135,12 @@ module _ {F K : Type 0} (g : Mut F (ℕ × Unit {0}) K) (eq : K → K → Bool) 
       (char_key_judge f) h
 
   module _ (key : ℕ → K) where
-    char_key_next : (f : F) (c : ℕ) (k : K) (f' : F) → ComputesCharKey g key f → CalledAtChar g f c k f' → (k ≡ key c) × ComputesCharKey g key f'
+    char_key_next : (f : F) (c : ℕ) (k : K) (f' : F) → ComputesCharKey g key f → CalledAtChar g f c k f'
+        → (k ≡ key c) × ComputesCharKey g key f'
     char_key_next f c k f' h d = ((h.at ((c, tt) ∷ []) k f' d).0, record { at = λ xs. (h.at ((c, tt) ∷ xs) k f' d).1 })
 
-    pub char_key_settled : (cs : List ℕ) (f : F) → ComputesCharKey g key f → AnswersAlong (by_char_key g eq) cs (λ x y. eq (key x) (key y)) (char_key_judge f)
+    pub char_key_settled : (cs : List ℕ) (f : F) → ComputesCharKey g key f
+        → AnswersAlong (by_char_key g eq) cs (λ x y. eq (key x) (key y)) (char_key_judge f)
     char_key_settled cs f h =
         answers_by _ _ (AreNeighbours cs) (on_pairs (λ x y. eq (key x) (key y))) (λ j. ComputesCharKey g key j.func)
         (λ j q b k i c. keys_next takes_char (CalledAtChar g) key (ComputesCharKey g key) char_key_next eq j.func q.0 q.1 b k.func i c)

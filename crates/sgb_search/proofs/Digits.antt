@@ -3,7 +3,7 @@ use Rattle.std.specs.Prelude.{ℕ, ◌+◌, ◌-◌, ◌*◌, ◌/◌, ◌^◌, 
 use Rattle.std.proofs.Common.{zero, suc, arith, refl}
 use Rattle.std.proofs.Math.Nat.{pow-suc, pow-zero}
 use Rattle.std.proofs.lemmas.Nat.{pow_pos, mul-le, row_fits}
-use Rattle.sgb_search.specs.Searching.{digits, digits_within}
+use Rattle.sgb_search.specs.Searching.{digits, digits_within, binary, exponential, IsWithin}
 
 above_within : (most m : ℕ) → m ≤ most → m < 2 ^ digits_within most m
 above_within zero m h = rw (pow-zero 2) (omega arith)
@@ -80,3 +80,10 @@ due_halving n g h l =
 
 pub due_galloping : (n g : ℕ) → 0 < g → g ≤ n → 2 * digits g + 1 + 3 * (n - g) ≤ 3 * n
 due_galloping n g h l = omega (arith, digits_triple g h)
+
+-- so one call that asks no more than halving may, or galloping, is within the cost
+pub within_halving : (n g m : ℕ) → 0 < g → g ≤ n → m ≤ digits (n - 1) → IsWithin binary n g m
+within_halving n g m some le most = record { call = most; walk = omega (arith, most, due_halving n g some le) }
+
+pub within_galloping : (n g m : ℕ) → 0 < g → g ≤ n → m ≤ 2 * digits g + 1 → IsWithin exponential n g m
+within_galloping n g m some le most = record { call = most; walk = omega (arith, most, due_galloping n g some le) }

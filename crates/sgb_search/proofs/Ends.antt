@@ -1,12 +1,12 @@
 -- A list as it reads from an end, and a part at an end with the rest.
-use Rattle.std.proofs.Common.{◌≡◌, ◌+◌, List, ◌++◌, length, length-append, refl, arith}
+use Rattle.std.proofs.Common.{◌≡◌, ◌+◌, List, length, length-append, refl, arith}
 use Rattle.std.specs.Prelude.{reverse, IsPermutation}
 use Rattle.std.specs.List.{AllByRecursion}
 use Rattle.std.proofs.lemmas.List.{length-reverse, reverse-reverse}
 use Rattle.std.proofs.lemmas.List.Sorted.{IsPermutation-refl, IsPermutation-sym, IsPermutation-reverse}
 use Rattle.sgb_search.specs.declared.end.End.{End}
 use Rattle.sgb_search.specs.declared.end.End.TheVariants.{Front, Back}
-use Rattle.sgb_search.specs.Lists.{from, put_at}
+use Rattle.sgb_search.specs.Split.{from, put_at}
 use Rattle.sgb_search.proofs.Each.{all_reverse, all_of_reverse}
 
 module _ {X : Type 0} where

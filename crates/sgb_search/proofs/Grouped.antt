@@ -4,8 +4,7 @@ use Rattle.std.proofs.Common.{zero, suc, sym, ap, subst, arith, ◌∙◌, appen
 use Rattle.std.proofs.lemmas.List.{take-append-drop, length-take, get_or-take, get_or-drop}
 use Rattle.std.proofs.lemmas.Option.{slice_get_within, slice_get_read, get_or_from_slice_get}
 use Rattle.std.proofs.Math.Seq.{take-append_seam, drop-append_seam}
-use Rattle.sgb_search.specs.Lists.{last, without_last}
-use Rattle.sgb_search.specs.Split.{IsAccepted, IsGrouped}
+use Rattle.sgb_search.specs.Split.{last, without_last, IsAccepted, IsGrouped}
 use Rattle.sgb_search.proofs.Ranges.{length-range}
 
 module _ {A : Type 0} where
@@ -20,15 +19,18 @@ module _ {A : Type 0} where
   get_after (x ∷ xs) ys (suc i) k e = get_after xs ys i k (omega arith)
 
   -- the element at a place of a range
-  pub get_range : (xs : List A) (a b i k : ℕ) (x : A) → a + k ≡ i → i < b → slice_get xs i ≡ Some x → slice_get (slice_range xs a b) k ≡ Some x
+  pub get_range : (xs : List A) (a b i k : ℕ) (x : A) → a + k ≡ i → i < b → slice_get xs i ≡ Some x
+      → slice_get (slice_range xs a b) k ≡ Some x
   get_range xs a b i k x e l at =
       let n = slice_get_within xs i x at in
       slice_get_read (slice_range xs a b) (length (slice_range xs a b)) k x refl
       (omega (arith, length-take (b - a) (drop a xs), Rattle.std.proofs.Common.length-drop a xs))
-      (sym (get_or-take (b - a) (drop a xs) k x (omega arith) ∙ get_or-drop a xs k x ∙ ap (λ (m : ℕ). get_or xs m x) e ∙ get_or_from_slice_get xs i x x at))
+      (sym (get_or-take (b - a) (drop a xs) k x (omega arith) ∙ get_or-drop a xs k x ∙ ap (λ (m : ℕ). get_or xs m x) e
+      ∙ get_or_from_slice_get xs i x x at))
 
   -- a part between two others is the range of its places
-  pub range_between : (before mid after : List A) (b : ℕ) → b ≡ length before + length mid → slice_range (before ++ (mid ++ after)) (length before) b ≡ mid
+  pub range_between : (before mid after : List A) (b : ℕ) → b ≡ length before + length mid
+      → slice_range (before ++ (mid ++ after)) (length before) b ≡ mid
   range_between before mid after b e =
       ap (λ (l : List A). take (b - length before) l) (drop-append_seam before (mid ++ after))
       ∙ ap (λ (n : ℕ). take n (mid ++ after)) {x = b - length before} {y = length mid} (omega arith)
@@ -48,7 +50,8 @@ module _ {A : Type 0} where
         let i = length before in
         let j = length before + (length mid - 1) in
         let gx : slice_get xs i ≡ Some x = rw e (get_after before (mid ++ after) i 0 (omega arith) ∙ get_before mid after 0 x ex) in
-        let gy : slice_get xs j ≡ Some y = rw e (get_after before (mid ++ after) j (length mid - 1) refl ∙ get_before mid after (length mid - 1) y ey) in
+        let gy : slice_get xs j ≡ Some y = rw e
+        (get_after before (mid ++ after) j (length mid - 1) refl ∙ get_before mid after (length mid - 1) y ey) in
         let r : slice_range xs i (j + 1) ≡ mid = rw e (range_between before mid after (j + 1) (omega arith)) in
         subst (λ (m : List A). ((p x y ≡ true) ↔ IsAccepted p m) × ((p y x ≡ true) ↔ IsAccepted p m)) r (h.at i j x y (omega arith) gx gy)
 
@@ -66,13 +69,18 @@ module _ {A : Type 0} where
         cut : (xs : List A) (a b : ℕ) → a ≤ b → xs ≡ take a xs ++ (slice_range xs a b ++ drop b xs)
         cut xs a b l =
             sym (take-append-drop a xs)
-            ∙ ap (λ (l : List A). take a xs ++ l) (sym (take-append-drop (b - a) (drop a xs)) ∙ ap (λ (l : List A). take (b - a) (drop a xs) ++ l) (Rattle.std.proofs.lemmas.List.drop-drop (b - a) a xs ∙ ap (λ (n : ℕ). drop n xs) {x = a + (b - a)} {y = b} (omega arith)))
+            ∙ ap (λ (l : List A). take a xs ++ l)
+            (sym (take-append-drop (b - a) (drop a xs))
+            ∙ ap (λ (l : List A). take (b - a) (drop a xs) ++ l)
+            (Rattle.std.proofs.lemmas.List.drop-drop (b - a) a xs ∙ ap (λ (n : ℕ). drop n xs) {x = a + (b - a)} {y = b} (omega arith)))
 
     -- a part of a grouped list is grouped
     pub grouped_part : (before mid after : List A) → IsGrouped p (before ++ (mid ++ after)) → IsGrouped p mid
     grouped_part before mid after h =
         grouped_of_parts mid (λ b m a e. parts_of_grouped (before ++ (mid ++ after)) h (before ++ b) m (a ++ after)
-        (ap (λ (l : List A). before ++ (l ++ after)) e ∙ ap (λ (l : List A). before ++ l) (append_assoc b (m ++ a) after ∙ ap (λ (l : List A). b ++ l) (append_assoc m a after)) ∙ sym (append_assoc before b (m ++ (a ++ after)))))
+        (ap (λ (l : List A). before ++ (l ++ after)) e
+        ∙ ap (λ (l : List A). before ++ l) (append_assoc b (m ++ a) after ∙ ap (λ (l : List A). b ++ l) (append_assoc m a after))
+        ∙ sym (append_assoc before b (m ++ (a ++ after)))))
 
   -- the last element stands last
   pub last_is : (xs : List A) (x : A) → last xs ≡ Some x → xs ≡ without_last xs ++ x ∷ []

@@ -15,7 +15,6 @@ pub mod LinearQueue
 pub mod Digits
 pub mod Halving
 pub mod Galloping
-pub mod Seeking
 pub mod Apart
 pub mod GroupSearches
 pub mod Grouped
@@ -23,5 +22,6 @@ pub mod SearchPieces
 pub mod SearchQueue
 pub mod Counting
 pub mod Readings
+pub mod Order
 pub mod Ascending
 pub mod AscendingGroups

@@ -1,13 +1,13 @@
 -- The pairs of a call's questions, with the neighbouring pairs that are left, are those that there were.
-use Rattle.std.proofs.Common.{◌≡◌, ℕ, zero, suc, ◌+◌, ◌-◌, ◌<◌, Bool, true, false, List, [], ◌∷◌, ◌++◌, length, take, drop, map, reverse, Option, None, Some, refl, sym, ap, ◌∙◌, subst, arith, take_all, append_assoc}
+use Rattle.std.proofs.Common.{◌≡◌, ℕ, zero, suc, ◌+◌, ◌-◌, ◌<◌, Bool, true, false, List, [], ◌∷◌, ◌++◌, length, take, drop, map, Option, None, Some, refl, sym, ap, ◌∙◌, subst, arith, take_all, append_assoc}
 use Rattle.std.specs.Prelude.{IsPermutation}
-use Rattle.std.proofs.lemmas.List.{append-nil, reverse-append, length-append, length-reverse, length-map, map-append, take-append-drop}
-use Rattle.std.proofs.Math.Seq.{take-append_seam, drop-append_seam}
-use Rattle.std.proofs.lemmas.List.Sorted.{IsPermutation-refl, IsPermutation-trans, IsPermutation-sym, IsPermutation-reverse, IsPermutation-append_comm, IsPermutation-append_left, IsPermutation-append_right, length_permutation}
+use Rattle.std.proofs.lemmas.List.{append-nil, length-append, length-map, map-append}
+use Rattle.std.proofs.Math.Seq.{take-append_seam}
+use Rattle.std.proofs.lemmas.List.Sorted.{IsPermutation-refl, IsPermutation-trans, IsPermutation-sym, IsPermutation-append_right, length_permutation}
 use Rattle.sgb_search.specs.declared.judge.Judge.{Ghosts}
 use Rattle.sgb_search.specs.declared.end.End.{End}
 use Rattle.sgb_search.specs.declared.end.End.TheVariants.{Front, Back}
-use Rattle.sgb_search.specs.Lists.{from, put_at, neighbours}
+use Rattle.sgb_search.specs.Split.{from, put_at, neighbours}
 use Rattle.sgb_search.specs.Linear.{all_answered, questions_along, questions, LinearQuestions, AsksEachOnce}
 use Rattle.sgb_search.specs.Calls.{CallAt, Groups}
 use Rattle.sgb_search.proofs.Runs.{run_append}
@@ -64,13 +64,21 @@ module _ {A : Type 0} where
   length-between Back group x xs h = length-across xs x group h
 
   taken_pairs : (e : End) (group rest : List A) → 0 < length group
-      → take (length group) (from e (neighbours group) ++ (between e group rest ++ from e (neighbours rest))) ≡ from e (neighbours group) ++ between e group rest
+      → take (length group) (from e (neighbours group) ++ (between e group rest ++ from e (neighbours rest)))
+      ≡ from e (neighbours group) ++ between e group rest
   taken_pairs e group [] h =
       let qs = from e (neighbours group) in
       let all : qs ++ (between e group [] ++ from e (neighbours [])) ≡ qs ++ between e group [] = ap (λ l. qs ++ l)
       (ap (λ l. between e group [] ++ l) (from-nil e) ∙ append-nil (between e group [])) in
       ap (take (length group)) all
-      ∙ take_all (length group) (qs ++ between e group []) (omega (arith, length-append qs (between e group []), ap length (between-nil e group), length-from e (neighbours group), length-neighbours group))
+      ∙ take_all (length group) (qs ++ between e group [])
+      (omega (
+        arith,
+        length-append qs (between e group []),
+        ap length (between-nil e group),
+        length-from e (neighbours group),
+        length-neighbours group,
+      ))
     where
       from-nil : (e : End) → from {X = A × A} e [] ≡ []
       from-nil Front = refl
@@ -78,7 +86,13 @@ module _ {A : Type 0} where
   taken_pairs e group (x ∷ xs) h =
       let qs = from e (neighbours group) ++ between e group (x ∷ xs) in
       let rest = from e (neighbours (x ∷ xs)) in
-      let n : length group ≡ length qs = omega (arith, length-append (from e (neighbours group)) (between e group (x ∷ xs)), length-between e group x xs h, length-from e (neighbours group), length-neighbours group) in
+      let n : length group ≡ length qs = omega (
+        arith,
+        length-append (from e (neighbours group)) (between e group (x ∷ xs)),
+        length-between e group x xs h,
+        length-from e (neighbours group),
+        length-neighbours group,
+      ) in
       ap (take (length group)) (sym (append_assoc (from e (neighbours group)) (between e group (x ∷ xs)) rest))
       ∙ ap (λ (k : ℕ). take k (qs ++ rest)) n ∙ take-append_seam qs rest
 
@@ -91,16 +105,24 @@ module _ {A : Type 0} where
       let cut : from e whole ≡ qs ++ from e (neighbours rest) =
       neighbours-put_at e group rest ∙ sym (append_assoc (from e (neighbours group)) (between e group rest) (from e (neighbours rest))) in
       let asked : asked_pairs (questions e (put_at e group rest) (length group)) ≡ qs =
-      pairs-along (from e whole) (length group) h ∙ ap (take (length group)) (neighbours-put_at e group rest) ∙ taken_pairs e group rest h in
+      pairs-along (from e whole) (length group) h ∙ ap (take (length group)) (neighbours-put_at e group rest)
+      ∙ taken_pairs e group rest h in
       let rest_first = IsPermutation-sym _ _ (IsPermutation-append_right qs _ _ (from_permutes e (neighbours rest))) in
       let all : IsPermutation (qs ++ from e (neighbours rest)) whole = subst (λ l. IsPermutation l whole) cut (from_permutes e whole) in
       rw asked (IsPermutation-trans (qs ++ neighbours rest) (qs ++ from e (neighbours rest)) whole rest_first all)
 
 module _ {T J : Type 0} (g : Ghosts J T) where
   pub asks_none : (s t : Groups T J) → t ≡ s → AsksEachOnce g s t
-  asks_none s t e = record { questions = []; run = ap (λ u. u.judge) e; pairs = subst (λ (u : Groups T J). IsPermutation (neighbours u.remainder) (neighbours s.remainder)) (sym e) (IsPermutation-refl (neighbours s.remainder)) }
+  asks_none s t e =
+      record {
+        questions = [];
+        run = ap (λ u. u.judge) e;
+        pairs = subst (λ (u : Groups T J). IsPermutation (neighbours u.remainder) (neighbours s.remainder)) (sym e)
+            (IsPermutation-refl (neighbours s.remainder));
+      }
 
-  pub asks_once : (e : End) (s : Groups T J) (r : Option (List T)) (t : Groups T J) → CallAt (LinearQuestions g) e s r t → AsksEachOnce g s t
+  pub asks_once : (e : End) (s : Groups T J) (r : Option (List T)) (t : Groups T J) → CallAt (LinearQuestions g) e s r t
+      → AsksEachOnce g s t
   asks_once e s None t h = asks_none s t h.1
   asks_once e s (Some x) t h = record {
     questions = questions e s.remainder (length x);
@@ -114,13 +136,17 @@ module _ {T J : Type 0} (g : Ghosts J T) where
     questions = a.questions ++ b.questions;
     run = run_append _ _ s.judge a.questions t.judge b.questions u.judge a.run b.run;
     pairs =
-        let e : asked_pairs (a.questions ++ b.questions) ++ neighbours u.remainder ≡ asked_pairs a.questions ++ (asked_pairs b.questions ++ neighbours u.remainder) =
-        ap (λ l. l ++ neighbours u.remainder) (map-append {B = T × T} (λ r. r.0) a.questions b.questions) ∙ append_assoc (asked_pairs a.questions) (asked_pairs b.questions) (neighbours u.remainder) in
-        rw e (IsPermutation-trans _ (asked_pairs a.questions ++ neighbours t.remainder) _ (IsPermutation-append_right (asked_pairs a.questions) _ _ b.pairs) a.pairs);
+        let e : asked_pairs (a.questions ++ b.questions) ++ neighbours u.remainder ≡ asked_pairs a.questions ++
+        (asked_pairs b.questions ++ neighbours u.remainder) =
+        ap (λ l. l ++ neighbours u.remainder) (map-append {B = T × T} (λ r. r.0) a.questions b.questions)
+        ∙ append_assoc (asked_pairs a.questions) (asked_pairs b.questions) (neighbours u.remainder) in
+        rw e (IsPermutation-trans _ (asked_pairs a.questions ++ neighbours t.remainder) _
+        (IsPermutation-append_right (asked_pairs a.questions) _ _ b.pairs) a.pairs);
   }
 
   -- so as many questions were asked as there are pairs fewer
-  pub count_asked : (s t : Groups T J) (a : AsksEachOnce g s t) → length a.questions + length (neighbours t.remainder) ≡ length (neighbours s.remainder)
+  pub count_asked : (s t : Groups T J) (a : AsksEachOnce g s t)
+      → length a.questions + length (neighbours t.remainder) ≡ length (neighbours s.remainder)
   count_asked s t a =
       omega (
         arith,

@@ -1,5 +1,5 @@
 -- A call on a settled iterator gives the outermost piece, and leaves it settled.
-use Rattle.std.proofs.Common.{Bool, List, [], ◌∷◌, length, Option, None, Some, refl, arith}
+use Rattle.std.proofs.Common.{Bool, List, [], ◌∷◌, length, Option, None, Some, arith}
 use Rattle.sgb_search.specs.declared.end.End.{End}
 use Rattle.sgb_search.specs.declared.judge.Judge.{Ghosts}
 use Rattle.sgb_search.specs.Linear.{questions, IsSettled, LinearQuestions}

@@ -3,9 +3,8 @@ use Rattle.std.proofs.Common.{Bool, true, List, length, ℕ, Option, refl, arith
 use Rattle.sgb_search.specs.declared.end.End.{End}
 use Rattle.sgb_search.specs.declared.judge.Judge.{Ghosts}
 use Rattle.sgb_search.specs.Judges.{IsRunOf, AsksWithin}
-use Rattle.sgb_search.specs.Lists.{neighbours, AreNeighbours}
+use Rattle.sgb_search.specs.Split.{neighbours, AreNeighbours, TakesPiece}
 use Rattle.sgb_search.specs.Linear.{questions, IsCallable, IsSettled, LinearQuestions}
-use Rattle.sgb_search.specs.Split.{TakesPiece}
 use Rattle.sgb_search.specs.Calls.{Groups, CallAt}
 use Rattle.sgb_search.proofs.Calls as calls
 use Rattle.sgb_search.proofs.Calls.{AsksAllowed}

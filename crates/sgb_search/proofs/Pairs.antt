@@ -6,9 +6,8 @@ use Rattle.std.proofs.lemmas.List.{reverse-append, length-append, length-take, l
 use Rattle.std.proofs.Math.Seq.{take-append_seam, drop-append_seam, get_or-append_seam}
 use Rattle.sgb_search.specs.declared.end.End.{End}
 use Rattle.sgb_search.specs.declared.end.End.TheVariants.{Front, Back}
-use Rattle.sgb_search.specs.Lists.{from, put_at, neighbours, IsOneOf, AreNeighbours, on_pairs}
+use Rattle.sgb_search.specs.Split.{from, put_at, neighbours, IsOneOf, AreNeighbours, on_pairs, IsAccepted, IsRefusedAcross}
 use Rattle.sgb_search.specs.Linear.{all_answered, questions_along, questions}
-use Rattle.sgb_search.specs.Split.{IsAccepted, IsRefusedAcross}
 use Rattle.sgb_search.proofs.Each.{all_append, all_of_first, all_of_rest, all_each, all_take, all_drop, all_map, all_of_map}
 use Rattle.sgb_search.proofs.Ends.{length-from, all_from, all_of_from}
 
@@ -110,10 +109,12 @@ module _ {A : Type 0} where
     pub inside : k < length qs
     pub is : get_or qs k q ≡ q
 
-  pub neighbours_at : (xs : List A) (k : ℕ) (a b : A) → suc k < length xs → a ≡ get_or xs k a → b ≡ get_or xs (suc k) b → PairAt (neighbours xs) k (a, b)
+  pub neighbours_at : (xs : List A) (k : ℕ) (a b : A) → suc k < length xs → a ≡ get_or xs k a → b ≡ get_or xs (suc k) b
+      → PairAt (neighbours xs) k (a, b)
   neighbours_at xs k a b l e f = record { inside = omega (arith, length-neighbours xs); is = at xs k l e f }
     where
-      at : (xs : List A) (k : ℕ) → suc k < length xs → a ≡ get_or xs k a → b ≡ get_or xs (suc k) b → get_or (neighbours xs) k (a, b) ≡ (a, b)
+      at : (xs : List A) (k : ℕ) → suc k < length xs → a ≡ get_or xs k a → b ≡ get_or xs (suc k) b
+          → get_or (neighbours xs) k (a, b) ≡ (a, b)
       at [] k l e f = absurd (omega arith)
       at (x ∷ []) k l e f = absurd (omega arith)
       at (x ∷ y ∷ ys) zero l e f = rw (← e, ← f) refl
@@ -123,7 +124,9 @@ module _ {A : Type 0} where
   pair_between xs seen rest a b e =
       neighbours_at xs (length seen) a b (omega (arith, ap length e, length-append seen (a ∷ b ∷ rest)))
       (sym (ap (λ l. get_or l (length seen) a) e ∙ get_or-append_seam seen a (b ∷ rest) a))
-      (sym (ap (λ l. get_or l (suc (length seen)) b) e ∙ ap (λ (n : ℕ). get_or (seen ++ a ∷ b ∷ rest) n b) {x = suc (length seen)} {y = length seen + 1} (omega arith) ∙ get_or-append-add seen (a ∷ b ∷ rest) 1 b))
+      (sym (ap (λ l. get_or l (suc (length seen)) b) e
+      ∙ ap (λ (n : ℕ). get_or (seen ++ a ∷ b ∷ rest) n b) {x = suc (length seen)} {y = length seen + 1} (omega arith)
+      ∙ get_or-append-add seen (a ∷ b ∷ rest) 1 b))
 
   pub at_reverse : (qs : List (A × A)) (k j : ℕ) (q : A × A) → PairAt qs k q → k + j + 1 ≡ length qs → PairAt (reverse qs) j q
   at_reverse qs k j q h e = record {
@@ -144,14 +147,17 @@ module _ {A : Type 0} where
     abbrev Agrees : (A × A) × Bool → Type 0
     Agrees r = r.1 ≡ on_pairs p r.0
 
-    along_says : (qs rs : List (A × A)) (g : ℕ) → g - 1 ≡ length qs → AllByRecursion Agrees (questions_along (qs ++ rs) g) → AllByRecursion (λ q. on_pairs p q ≡ true) qs × AllByRecursion (λ q. on_pairs p q ≡ false) (take 1 rs)
+    along_says : (qs rs : List (A × A)) (g : ℕ) → g - 1 ≡ length qs → AllByRecursion Agrees (questions_along (qs ++ rs) g)
+        → AllByRecursion (λ q. on_pairs p q ≡ true) qs × AllByRecursion (λ q. on_pairs p q ≡ false) (take 1 rs)
     along_says qs rs g e h =
         let k = rw (e, take-append_seam qs rs, drop-append_seam qs rs) at h in (
           all_each _ _ (λ q a. sym a) qs (all_of_map (λ q. (q, true)) Agrees qs (all_of_first Agrees (all_answered true qs) _ k)),
-          all_each _ _ (λ q a. sym a) (take 1 rs) (all_of_map (λ q. (q, false)) Agrees (take 1 rs) (all_of_rest Agrees (all_answered true qs) _ k)),
+          all_each _ _ (λ q a. sym a) (take 1 rs)
+              (all_of_map (λ q. (q, false)) Agrees (take 1 rs) (all_of_rest Agrees (all_answered true qs) _ k)),
         )
 
-    refused_across : (xs ys : List A) (rs : List (A × A)) → AllByRecursion (λ q. on_pairs p q ≡ false) (take 1 (across xs ys ++ rs)) → IsRefusedAcross p (xs, ys)
+    refused_across : (xs ys : List A) (rs : List (A × A)) → AllByRecursion (λ q. on_pairs p q ≡ false) (take 1 (across xs ys ++ rs))
+        → IsRefusedAcross p (xs, ys)
     refused_across [] ys rs h = λ a b i j. cc i
     refused_across (x ∷ []) [] rs h = λ a b i j. cc j
     refused_across (x ∷ []) (y ∷ ys) rs h = λ a b i j. let e : p x y ≡ false = h.0 in cc (e, i, j)

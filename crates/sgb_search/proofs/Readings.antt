@@ -1,19 +1,21 @@
 -- From a run over places to a run over elements.
-use Rattle.std.specs.Prelude.{◌≡◌, ℕ, ◌-◌, ◌<◌, ◌≤◌, List, [], ◌∷◌, ◌++◌, length, ◌⊎◌, refl, Result, Ok, Err, Some}
+use Rattle.std.specs.Prelude.{◌≡◌, ℕ, ◌+◌, ◌-◌, ◌<◌, ◌≤◌, List, [], ◌∷◌, ◌++◌, length, ◌⊎◌, true, refl, Result, Ok, Err, Some}
 use Rattle.std.specs.List.Sorted.{IsBinarySearchResult, IsNonDecreasingBy, IsPartitionPoint}
 use Rattle.std.specs.Ordering.{ordering_index}
 use Rattle.std.proofs.Common.{get_or, suc, sym, ap, subst, arith, ◌∙◌, inl, inr}
 use Rattle.std.specs.List.{AllByRecursion, Contains, slice_get}
+use Rattle.std.proofs.lemmas.List.Elements.{Contains-push}
 use Rattle.std.proofs.lemmas.Option.{slice_get_within, get_or_from_slice_get}
 use Rattle.std.specs.Fn.{Mut, TakesAt, CalledAt}
 use Rattle.std.specs.Borrow.{Bor}
 use Rattle.std.specs.declared.cmp.Ordering.{Ordering}
 use Rattle.std.specs.declared.cmp.Ordering.TheVariants.{Less, Equal, Greater}
 use Rattle.sgb_search.specs.Judges.{IsRun, MayAskAll, AnswersBy}
-use Rattle.sgb_search.specs.Places.{MayProbe, IsGalloped, GallopedBy, TwoAnswers, place_of}
+use Rattle.sgb_search.specs.Searching.{exponential, Contradicts, Tells, place_of, MayCompareBetween, IsPlaceSearch, IsLowEnd, IsHighEnd}
 use Rattle.sgb_search.specs.Search.{AnswersAt, IsLocalAnswer, FindsIn, IsLessEqualGreater, MayCall, Computes, ComparesKey, EndsEqual, IsSearch}
 use Rattle.sgb_search.proofs.Each.{all_contains}
 use Rattle.sgb_search.proofs.Counting.{less_count}
+use Rattle.sgb_search.proofs.Digits.{digits_mono}
 
 module _ {T : Type 0} (xs : List T) where
   pub contains_at : (i : ℕ) (x : T) → slice_get xs i ≡ Some x → Contains xs x
@@ -39,7 +41,8 @@ module _ {T : Type 0} (xs : List T) where
   read_elements (r ∷ rs) (q ∷ qs) h = (contains_at r.0 q.0 h.0, read_elements rs qs h.2)
 
   -- an answer that was given at place i, of those that ord gives
-  pub read_answer : (ord : T → Ordering) (rs : List (ℕ × Ordering)) (qs : List (T × Ordering)) → IsRead rs qs → AllByRecursion (λ q. q.1 ≡ ord q.0) qs → AllByRecursion (λ r. AnswersAt ord xs r.0 r.1) rs
+  pub read_answer : (ord : T → Ordering) (rs : List (ℕ × Ordering)) (qs : List (T × Ordering)) → IsRead rs qs → AllByRecursion
+      (λ q. q.1 ≡ ord q.0) qs → AllByRecursion (λ r. AnswersAt ord xs r.0 r.1) rs
   read_answer ord [] [] h k = tt
   read_answer ord [] (q ∷ qs) h k = absurd h
   read_answer ord (r ∷ rs) [] h k = absurd h
@@ -51,9 +54,11 @@ module _ {T : Type 0} (xs : List T) where
   read_last [] i o (q ∷ []) h = ([], q.0, h.0, ap (λ (p : Ordering). (q.0, p) ∷ []) (sym h.1))
   read_last [] i o (q ∷ p ∷ qs) h = absurd h.2
   read_last (r ∷ front) i o [] h = absurd h
-  read_last (r ∷ front) i o (q ∷ qs) h = let k = read_last front i o qs h.2 in (q ∷ k.0, k.1, k.2, ap (λ (l : List (T × Ordering)). q ∷ l) k.3)
+  read_last (r ∷ front) i o (q ∷ qs) h =
+      let k = read_last front i o qs h.2 in (q ∷ k.0, k.1, k.2, ap (λ (l : List (T × Ordering)). q ∷ l) k.3)
 
-  pub one_answer : (ord : T → Ordering) (rs : List (ℕ × Ordering)) → AllByRecursion (λ r. AnswersAt ord xs r.0 r.1) rs → (i : ℕ) → TwoAnswers rs i → ⊥
+  pub one_answer : (ord : T → Ordering) (rs : List (ℕ × Ordering)) → AllByRecursion (λ r. AnswersAt ord xs r.0 r.1) rs → (i : ℕ)
+      → Contradicts rs i → ⊥
   one_answer ord rs h i t =
       let a = all_contains _ rs (i, t.0) h t.2 in
       let b = all_contains _ rs (i, t.1) h t.3 in
@@ -79,14 +84,16 @@ module _ {T : Type 0} (ord : T → Ordering) (xs : List T) where
   region (Ok i) a = answer_read i Equal a
   region (Err i) b = λ up. (λ k d l h. bottom _ (before up k d h b.0), λ k d l h. top _ (after up k d l h b.1))
     where
-      before : IsNonDecreasingBy (λ y. ordering_index (ord y)) xs → (k : ℕ) (d : T) → k < i → (i ≡ 0) ⊎ ((0 < i) × AnswersAt ord xs (i - 1) Less) → ordering_index (ord (get_or xs k d)) ≤ 0
+      before : IsNonDecreasingBy (λ y. ordering_index (ord y)) xs → (k : ℕ) (d : T) → k < i → (i ≡ 0) ⊎
+          ((0 < i) × AnswersAt ord xs (i - 1) Less) → ordering_index (ord (get_or xs k d)) ≤ 0
       before up k d h (inl e) = absurd (omega arith)
       before up k d h (inr a) =
           let at : i - 1 < length xs = slice_get_within xs (i - 1) a.1.0 a.1.1 in
           let e : ordering_index (ord (get_or xs (i - 1) d)) ≡ 0 = ap ordering_index (answer_read (i - 1) Less a.1 d) in
           omega (arith, e, up k (i - 1) d (omega arith) at)
 
-      after : IsNonDecreasingBy (λ y. ordering_index (ord y)) xs → (k : ℕ) (d : T) → i ≤ k → k < length xs → (i ≡ length xs) ⊎ AnswersAt ord xs i Greater → 2 ≤ ordering_index (ord (get_or xs k d))
+      after : IsNonDecreasingBy (λ y. ordering_index (ord y)) xs → (k : ℕ) (d : T) → i ≤ k → k < length xs → (i ≡ length xs)
+          ⊎ AnswersAt ord xs i Greater → 2 ≤ ordering_index (ord (get_or xs k d))
       after up k d l h (inl e) = absurd (omega arith)
       after up k d l h (inr a) =
           let e : ordering_index (ord (get_or xs i d)) ≡ 2 = ap ordering_index (answer_read i Greater a d) in
@@ -99,9 +106,13 @@ module _ {T : Type 0} (ord : T → Ordering) (xs : List T) where
       by (inl e) = omega arith
       by (inr a) = omega (arith, slice_get_within xs i a.0 a.1)
 
-  equal_nowhere : (i j : ℕ) → AnswersAt ord xs j Equal → IsPartitionPoint (λ x. ord x ≡ Less) (λ x. ord x ≡ Greater) xs i → (j < i) ⊎ (i ≤ j) → ⊥
-  equal_nowhere i j a p (inl h) = let less : ord (get_or xs j a.0) ≡ Less = p.0 j a.0 (omega arith) h in let equal = answer_read j Equal a a.0 in cc (less, equal)
-  equal_nowhere i j a p (inr h) = let greater : ord (get_or xs j a.0) ≡ Greater = p.1 j a.0 h (slice_get_within xs j a.0 a.1) in let equal = answer_read j Equal a a.0 in cc (greater, equal)
+  equal_nowhere : (i j : ℕ) → AnswersAt ord xs j Equal → IsPartitionPoint (λ x. ord x ≡ Less) (λ x. ord x ≡ Greater) xs i → (j < i) ⊎
+      (i ≤ j) → ⊥
+  equal_nowhere i j a p (inl h) =
+      let less : ord (get_or xs j a.0) ≡ Less = p.0 j a.0 (omega arith) h in let equal = answer_read j Equal a a.0 in cc (less, equal)
+  equal_nowhere i j a p (inr h) =
+      let greater : ord (get_or xs j a.0) ≡ Greater = p.1 j a.0 h (slice_get_within xs j a.0 a.1) in
+      let equal = answer_read j Equal a a.0 in cc (greater, equal)
 
   pub finds : (r : Result ℕ ℕ) → IsLocalAnswer ord xs r → IsLessEqualGreater ord xs → FindsIn ord xs r
   finds (Ok i) a up = a
@@ -120,60 +131,72 @@ module _ {F T : Type 0} (may : F → T → Type 0) (gives : F → T → Ordering
   abbrev pub called_at : F → ℕ → Ordering → F → Type 0
   called_at f i o h = (x : T) × (slice_get xs i ≡ Some x) × gives f x o h
 
-  pub read_run : (f : F) (rs : List (ℕ × Ordering)) (t : F) → IsRun may_at called_at f rs t → (qs : List (T × Ordering)) × IsRead xs rs qs × IsRun may gives f qs t
+  pub read_run : (f : F) (rs : List (ℕ × Ordering)) (t : F) → IsRun may_at called_at f rs t → (qs : List (T × Ordering)) × IsRead xs rs qs
+      × IsRun may gives f qs t
   read_run f [] t h = ([], tt, h)
   read_run f (r ∷ rs) t h =
       let rest = read_run h.1.0 rs t h.1.2 in
       let c = h.1.1 in
       ((c.0, r.1) ∷ rest.0, (c.1, refl, rest.1), (h.0.1 c.0 c.1, (h.1.0, c.2, rest.2)))
 
-  pub may_places : (f : F) → MayAskAll may gives (Contains xs) f → MayProbe may_at called_at 0 (length xs) f
-  may_places f h rs t run all i b = (b.1, λ x e. let q = read_run f rs t run in h q.0 t q.2 (read_elements xs rs q.0 q.1) x (contains_at xs i x e))
+  pub may_places : (f : F) → MayAskAll may gives (Contains xs) f → MayCompareBetween may_at called_at 0 (length xs) f
+  may_places f h rs t run all i b =
+      (b.1, λ x e. let q = read_run f rs t run in h q.0 t q.2 (read_elements xs rs q.0 q.1) x (contains_at xs i x e))
 
-  answers : (ord : T → Ordering) (f : F) → AnswersBy may gives (Contains xs) ord f → (rs : List (ℕ × Ordering)) (t : F) → IsRun may_at called_at f rs t → AllByRecursion (λ r. AnswersAt ord xs r.0 r.1) rs
+  answers : (ord : T → Ordering) (f : F) → AnswersBy may gives (Contains xs) ord f → (rs : List (ℕ × Ordering)) (t : F)
+      → IsRun may_at called_at f rs t → AllByRecursion (λ r. AnswersAt ord xs r.0 r.1) rs
   answers ord f h rs t run = let q = read_run f rs t run in read_answer xs ord rs q.0 q.1 (h.at q.0 t q.2 (read_elements xs rs q.0 q.1))
 
-  pub search_run : (f : F) (r : Result ℕ ℕ) (t : F) → IsGalloped may_at called_at (length xs) f r t → IsSearch may gives xs f r
-  search_run f r t (rs, h) = let q = read_run f rs t h.run in (
-    t,
-    q.0,
-    record {
-      run = q.2;
-      elements = read_elements xs rs q.0 q.1;
-      few = omega (arith, h.few, read_len xs rs q.0 q.1);
-      none = λ z. empty q.0 (omega (arith, h.none z, read_len xs rs q.0 q.1));
-      equal = last r q.0 h.place q.1;
-    },
-  )
+  pub search_run : (f : F) (r : Result ℕ ℕ) (t : F) → IsPlaceSearch may_at called_at exponential 0 (length xs) f r t
+      → IsSearch may gives xs f r
+  search_run f r t h =
+      let q = read_run f h.questions t h.run in
+      record {
+        questions = q.0;
+        after = t;
+        run = q.2;
+        elements = read_elements xs h.questions q.0 q.1;
+        most = omega (arith, h.most.call, read_len xs h.questions q.0 q.1, digits_mono (place_of r - 0 + 1) (place_of r + 1) (omega arith));
+        none = λ z. empty q.0 (read_elements xs h.questions q.0 q.1) z;
+        equal = last r q.0 h.tells q.1;
+      }
     where
-      empty : (qs : List (T × Ordering)) → length qs ≡ 0 → qs ≡ []
-      empty [] e = refl
-      empty (q ∷ qs) e = absurd (omega arith)
+      empty : (qs : List (T × Ordering)) → AllByRecursion (λ q. Contains xs q.0) qs → length xs ≡ 0 → qs ≡ []
+      empty [] all z = refl
+      empty (q ∷ qs) all z = absurd (omega (arith, all.0.1))
 
-      last : (r : Result ℕ ℕ) (qs : List (T × Ordering)) → Rattle.sgb_search.specs.Places.IsGallopPlace may_at called_at (length xs) rs r → IsRead xs rs qs → EndsEqual may gives xs qs r
+      last : (r : Result ℕ ℕ) (qs : List (T × Ordering)) → Tells h.questions true 0 (length xs) r → IsRead xs h.questions qs
+          → EndsEqual may gives xs qs r
       last (Ok i) qs p read = read_last xs p.1.0 i Equal qs (subst (λ (l : List (ℕ × Ordering)). IsRead xs l qs) p.1.1 read)
       last (Err i) qs p read = tt
 
-  pub search_boundary : (f : F) (r : Result ℕ ℕ) (t : F) → IsGalloped may_at called_at (length xs) f r t → (ord : T → Ordering) → AnswersBy may gives (Contains xs) ord f → IsLocalAnswer ord xs r
-  search_boundary f (Ok i) t (rs, h) ord by =
-      let all = answers ord f by rs t h.run in
-      let here = subst (λ (l : List (ℕ × Ordering)). Contains l (i, Equal)) (sym h.place.1.1) (Rattle.std.proofs.lemmas.List.Elements.Contains-push h.place.1.0 (i, Equal)) in
-      all_contains _ rs (i, Equal) all here
-  search_boundary f (Err i) t (rs, h) ord by =
-      let all = answers ord f by rs t h.run in (
-        elim h.place.1 as (λ _. (i ≡ 0) ⊎ ((0 < i) × AnswersAt ord xs (i - 1) Less)) [
-          | inl e ↦ inl e
-          | inr p ↦ elim p as (λ _. (i ≡ 0) ⊎ ((0 < i) × AnswersAt ord xs (i - 1) Less)) [ inl q ↦ inr (q.0, all_contains _ rs (i - 1, Less) all q.1) | inr q ↦ absurd (one_answer xs ord rs all i q) ]
-        ],
-        elim h.place.2 as (λ _. (i ≡ length xs) ⊎ AnswersAt ord xs i Greater) [
-          | inl e ↦ inl e
-          | inr p ↦ elim p as (λ _. (i ≡ length xs) ⊎ AnswersAt ord xs i Greater) [ inl q ↦ inr (all_contains _ rs (i, Greater) all q.1) | inr q ↦ absurd (one_answer xs ord rs all (i - 1) q.1) ]
-        ],
-      )
+  pub search_boundary : (f : F) (r : Result ℕ ℕ) (t : F) → IsPlaceSearch may_at called_at exponential 0 (length xs) f r t →
+      (ord : T → Ordering) → AnswersBy may gives (Contains xs) ord f → IsLocalAnswer ord xs r
+  search_boundary f r t h ord by = told r h.tells
+    where
+      all : AllByRecursion (λ r. AnswersAt ord xs r.0 r.1) h.questions
+      all = answers ord f by h.questions t h.run
+
+      low : (i : ℕ) → IsLowEnd h.questions 0 i → (i ≡ 0) ⊎ ((0 < i) × AnswersAt ord xs (i - 1) Less)
+      low i (inl e) = inl e
+      low i (inr p) = inr (p.0, all_contains _ h.questions (i - 1, Less) all p.1)
+
+      high : (i : ℕ) → IsHighEnd h.questions (length xs) i → (i ≡ length xs) ⊎ AnswersAt ord xs i Greater
+      high i (inl e) = inl e
+      high i (inr p) = inr (all_contains _ h.questions (i, Greater) all p.1)
+
+      told : (r : Result ℕ ℕ) → Tells h.questions true 0 (length xs) r → IsLocalAnswer ord xs r
+      told (Ok i) p =
+          let here = subst (λ (l : List (ℕ × Ordering)). Contains l (i, Equal)) (sym p.1.1) (Contains-push p.1.0 (i, Equal)) in
+          all_contains _ h.questions (i, Equal) all here
+      told (Err i) (a, b, inl ends) = (low i ends.0, high i ends.1)
+      told (Err i) (a, b, inr (c, inl two)) = absurd (one_answer xs ord h.questions all (i - 1) two.1)
+      told (Err i) (a, b, inr (c, inr two)) = absurd (one_answer xs ord h.questions all i two)
 
 -- a key function's run, seen as one of comparisons
 module _ {F T K : Type 0} (g : Mut F (Bor T × Unit {0}) K) (cmp : K → K → Ordering) (b : K) (xs : List T) where
-  key_run : (f : F) (qs : List (T × Ordering)) (t : F) → IsRun (TakesAt g) (ComparesKey g cmp b) f qs t → AllByRecursion (λ q. Contains xs q.0) qs
+  key_run : (f : F) (qs : List (T × Ordering)) (t : F) → IsRun (TakesAt g) (ComparesKey g cmp b) f qs t → AllByRecursion
+      (λ q. Contains xs q.0) qs
       → (ks : List (T × K)) × IsRun (TakesAt g) (CalledAt g) f ks t × AllByRecursion (λ k. Contains xs k.0) ks
       × ((key : T → K) → AllByRecursion (λ k. k.1 ≡ key k.0) ks → AllByRecursion (λ q. q.1 ≡ cmp (key q.0) b) qs)
   key_run f [] t h all = ([], h, tt, λ key a. tt)
@@ -185,5 +208,6 @@ module _ {F T K : Type 0} (g : Mut F (Bor T × Unit {0}) K) (cmp : K → K → O
   pub key_may : (f : F) → MayCall g xs f → MayAskAll (TakesAt g) (ComparesKey g cmp b) (Contains xs) f
   key_may f h qs t run all x at = let k = key_run f qs t run all in h k.0 t k.1 k.2 x at
 
-  pub key_answers : (f : F) (key : T → K) → Computes g xs key f → AnswersBy (TakesAt g) (ComparesKey g cmp b) (Contains xs) (λ x. cmp (key x) b) f
+  pub key_answers : (f : F) (key : T → K) → Computes g xs key f → AnswersBy (TakesAt g) (ComparesKey g cmp b) (Contains xs)
+      (λ x. cmp (key x) b) f
   key_answers f key h = record { at = λ qs t run all. let k = key_run f qs t run all in k.3 key (h.at k.0 t k.1 k.2) }

@@ -4,7 +4,7 @@ use Rattle.std.specs.Prelude.{reverse}
 use Rattle.std.proofs.lemmas.List.{take_more, map-append, append-nil, length-reverse}
 use Rattle.std.proofs.Math.ListN.{drop_of_length-le}
 use Rattle.sgb_search.specs.Judges.{IsRun}
-use Rattle.sgb_search.specs.Lists.{neighbours, AreNeighbours}
+use Rattle.sgb_search.specs.Split.{neighbours, AreNeighbours}
 use Rattle.sgb_search.specs.Linear.{all_answered, questions_along}
 use Rattle.sgb_search.proofs.Runs.{run_push}
 use Rattle.sgb_search.proofs.Pairs.{PairAt, at_reverse, one_of_at, length-neighbours, neighbours_at}

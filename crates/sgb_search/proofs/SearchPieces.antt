@@ -2,15 +2,14 @@
 use Rattle.std.specs.Prelude.{◌≡◌, ℕ, ◌+◌, ◌-◌, ◌<◌, ◌≤◌, Bool, true, false, List, [], ◌∷◌, ◌++◌, length, reverse, refl, Option, None, Some, slice_get}
 use Rattle.std.proofs.Common.{sym, ap, subst, arith, ◌∙◌, inl, inr, get_or, length-append, append_assoc}
 use Rattle.std.specs.List.{AllByRecursion}
-use Rattle.std.proofs.lemmas.List.{append-nil, length-reverse}
+use Rattle.std.proofs.lemmas.List.{append-nil}
 use Rattle.std.proofs.lemmas.Option.{slice_get-get_or, slice_get_within}
 use Rattle.sgb_search.specs.declared.judge.Judge.{Ghosts}
-use Rattle.sgb_search.specs.Lists.{on_pairs, from, put_at, last, without_last, AreApart}
+use Rattle.sgb_search.specs.Split.{on_pairs, from, put_at, last, without_last, IsAccepted, IsRefusedAcross, TakesPiece, IsGrouped}
 use Rattle.sgb_search.specs.declared.end.End.{End}
 use Rattle.sgb_search.specs.declared.end.End.TheVariants.{Front, Back}
-use Rattle.sgb_search.specs.Split.{IsAccepted, IsRefusedAcross, TakesPiece, IsGrouped}
 use Rattle.sgb_search.specs.Calls.{IsGroupAt, CallAt, Groups}
-use Rattle.sgb_search.specs.Searching.{SearchCost, IsOutward, Asked, BothWays, IsInner, IsBeyond, EndsBy, SearchRun, IsLocalEnd, ComputesApart, IsSettledApart, SearchQuestions}
+use Rattle.sgb_search.specs.Searching.{SearchCost, IsAskedAt, ContradictsAt, IsInner, IsBeyond, EndsBy, IsLocalEnd, ComputesApart, IsSettledApart, SearchQuestions}
 use Rattle.sgb_search.proofs.Each.{all_contains, all_each}
 use Rattle.sgb_search.proofs.Ends.{length-from, length-put_at}
 use Rattle.sgb_search.proofs.Apart.{outward_apart, get_reverse}
@@ -19,17 +18,19 @@ use Rattle.sgb_search.proofs.Grouped.{parts_of_grouped, grouped_part, get_after,
 use Rattle.sgb_search.proofs.Splits.{takes_piece, takes_nothing}
 
 -- of a judge that answers what p says
-module _ {J T : Type 0} (judge : Ghosts J T) (p : T → T → Bool) (xs : List T) (qs : List ((T × T) × Bool)) (says : AllByRecursion (λ r. r.1 ≡ on_pairs p r.0) qs) where
-  asked_says : (i : ℕ) (b : Bool) → Asked xs qs i b → (x y : T) → slice_get xs 0 ≡ Some x → slice_get xs i ≡ Some y → p x y ≡ b
+module _ {J T : Type 0} (judge : Ghosts J T) (p : T → T → Bool) (xs : List T) (qs : List ((T × T) × Bool))
+    (says : AllByRecursion (λ r. r.1 ≡ on_pairs p r.0) qs) where
+  asked_says : (i : ℕ) (b : Bool) → IsAskedAt xs qs i b → (x y : T) → slice_get xs 0 ≡ Some x → slice_get xs i ≡ Some y → p x y ≡ b
   asked_says i b a x y ex ey =
-      let answer : b ≡ p a.0 a.1 = all_contains _ qs ((a.0, a.1), b) says a.4 in
-      let sx : a.0 ≡ x = cc (a.2, ex) in
-      let sy : a.1 ≡ y = cc (a.3, ey) in
-      sym (answer ∙ ap (λ (z : T). p z a.1) sx ∙ ap (p x) sy)
+      let answer : b ≡ p a.outermost a.other = all_contains _ qs ((a.outermost, a.other), b) says a.asked in
+      let sx : a.outermost ≡ x = cc (a.outermost_at, ex) in
+      let sy : a.other ≡ y = cc (a.other_at, ey) in
+      sym (answer ∙ ap (λ (z : T). p z a.other) sx ∙ ap (p x) sy)
 
-  never_both : (i : ℕ) → BothWays xs qs i → ⊥
+  never_both : (i : ℕ) → ContradictsAt xs qs i → ⊥
   never_both i (a, b) =
-      let wrong : true ≡ false = sym (asked_says i true a b.0 b.1 b.2 b.3) ∙ asked_says i false b b.0 b.1 b.2 b.3 in
+      let yes = asked_says i true a b.outermost b.other b.outermost_at b.other_at in
+      let wrong : true ≡ false = sym yes ∙ asked_says i false b b.outermost b.other b.outermost_at b.other_at in
       cc wrong
 
   inner_says : (g : ℕ) → IsInner xs qs g → (x y : T) → 1 < g → slice_get xs 0 ≡ Some x → slice_get xs (g - 1) ≡ Some y → p x y ≡ true
@@ -57,7 +58,8 @@ module _ {T : Type 0} (p : T → T → Bool) where
   refused_else false h = refl
 
   -- at the front
-  module _ (x : T) (more rest : List T) (h : IsGrouped p ((x ∷ more) ++ rest)) (l : IsLocalEnd ((x ∷ more) ++ rest) p (length (x ∷ more))) where
+  module _ (x : T) (more rest : List T) (h : IsGrouped p ((x ∷ more) ++ rest))
+      (l : IsLocalEnd ((x ∷ more) ++ rest) p (length (x ∷ more))) where
     front_accepted : IsAccepted p (x ∷ more)
     front_accepted = by more refl
       where
@@ -66,7 +68,8 @@ module _ {T : Type 0} (p : T → T → Bool) where
         by (m ∷ ms) e =
             let n : length more ≡ length (m ∷ ms) = ap length e in
             let y = get_or (x ∷ more) (length (x ∷ more) - 1) x in
-            let ey : slice_get (x ∷ more) (length (x ∷ more) - 1) ≡ Some y = slice_get-get_or (x ∷ more) (length (x ∷ more) - 1) x (omega arith) in
+            let ey : slice_get (x ∷ more) (length (x ∷ more) - 1) ≡ Some y = slice_get-get_or (x ∷ more) (length (x ∷ more) - 1) x
+            (omega arith) in
             let yes = l.inner x y (omega arith) refl (get_before (x ∷ more) rest (length (x ∷ more) - 1) y ey) in
             (parts_of_grouped p ((x ∷ more) ++ rest) h [] (x ∷ more) rest refl x y (omega arith) refl ey).0.0 yes
 
@@ -77,18 +80,23 @@ module _ {T : Type 0} (p : T → T → Bool) where
         by [] e = cc (e, eb)
         by (r ∷ rs) e =
             let same : r ≡ b = cc (e, eb) in
-            let whole : (x ∷ more) ++ rest ≡ [] ++ (((x ∷ more) ++ b ∷ []) ++ rs) = ap (λ (z : List T). (x ∷ more) ++ z) (e ∙ ap (λ (z : T). z ∷ rs) same) ∙ sym (append_assoc (x ∷ more) (b ∷ []) rs) in
+            let whole : (x ∷ more) ++ rest ≡ [] ++ (((x ∷ more) ++ b ∷ []) ++ rs) = ap (λ (z : List T). (x ∷ more) ++ z)
+            (e ∙ ap (λ (z : T). z ∷ rs) same) ∙ sym (append_assoc (x ∷ more) (b ∷ []) rs) in
             let n = length-append (x ∷ more) (b ∷ []) in
-            let at_end : slice_get ((x ∷ more) ++ b ∷ []) (length ((x ∷ more) ++ b ∷ []) - 1) ≡ Some b = get_after (x ∷ more) (b ∷ []) (length ((x ∷ more) ++ b ∷ []) - 1) 0 (omega arith) in
-            let beyond : slice_get ((x ∷ more) ++ rest) (length (x ∷ more)) ≡ Some b = get_after (x ∷ more) rest (length (x ∷ more)) 0 (omega arith) ∙ rw (e, same) refl in
+            let at_end : slice_get ((x ∷ more) ++ b ∷ []) (length ((x ∷ more) ++ b ∷ []) - 1) ≡ Some b = get_after (x ∷ more) (b ∷ [])
+            (length ((x ∷ more) ++ b ∷ []) - 1) 0 (omega arith) in
+            let beyond : slice_get ((x ∷ more) ++ rest) (length (x ∷ more)) ≡ Some b = get_after (x ∷ more) rest (length (x ∷ more)) 0
+            (omega arith) ∙ rw (e, same) refl in
             let no = l.beyond x b refl beyond in
             refused_else (p a b) (λ yes.
             let all = accepted_push (x ∷ more) a b ea front_accepted yes in
-            let wrong : p x b ≡ true = (parts_of_grouped p ((x ∷ more) ++ rest) h [] ((x ∷ more) ++ b ∷ []) rs whole x b (omega arith) refl at_end).0.1 all in
+            let wrong : p x b ≡ true =
+            (parts_of_grouped p ((x ∷ more) ++ rest) h [] ((x ∷ more) ++ b ∷ []) rs whole x b (omega arith) refl at_end).0.1 all in
             cc (wrong, no))
 
   -- at the back
-  module _ (rest : List T) (y : T) (ys : List T) (h : IsGrouped p (rest ++ y ∷ ys)) (l : IsLocalEnd (reverse (rest ++ y ∷ ys)) p (length (y ∷ ys))) where
+  module _ (rest : List T) (y : T) (ys : List T) (h : IsGrouped p (rest ++ y ∷ ys))
+      (l : IsLocalEnd (reverse (rest ++ y ∷ ys)) p (length (y ∷ ys))) where
     abbrev outermost : T
     outermost = get_or (y ∷ ys) (length (y ∷ ys) - 1) y
 
@@ -99,7 +107,9 @@ module _ {T : Type 0} (p : T → T → Bool) where
     long = length-append rest (y ∷ ys)
 
     first_read : slice_get (reverse (rest ++ y ∷ ys)) 0 ≡ Some outermost
-    first_read = get_reverse (rest ++ y ∷ ys) 0 outermost (omega (arith, long)) (get_after rest (y ∷ ys) (length (rest ++ y ∷ ys) - 1 - 0) (length (y ∷ ys) - 1) (omega (arith, long)) ∙ at_end)
+    first_read =
+        get_reverse (rest ++ y ∷ ys) 0 outermost (omega (arith, long))
+        (get_after rest (y ∷ ys) (length (rest ++ y ∷ ys) - 1 - 0) (length (y ∷ ys) - 1) (omega (arith, long)) ∙ at_end)
 
     back_accepted : IsAccepted p (y ∷ ys)
     back_accepted = by ys refl
@@ -108,34 +118,46 @@ module _ {T : Type 0} (p : T → T → Bool) where
         by [] e = rw e tt
         by (m ∷ ms) e =
             let n : length ys ≡ length (m ∷ ms) = ap length e in
-            let inner_read = get_reverse (rest ++ y ∷ ys) (length (y ∷ ys) - 1) y (omega (arith, long)) (get_after rest (y ∷ ys) (length (rest ++ y ∷ ys) - 1 - (length (y ∷ ys) - 1)) 0 (omega (arith, long))) in
+            let inner_read = get_reverse (rest ++ y ∷ ys) (length (y ∷ ys) - 1) y (omega (arith, long))
+            (get_after rest (y ∷ ys) (length (rest ++ y ∷ ys) - 1 - (length (y ∷ ys) - 1)) 0 (omega (arith, long))) in
             let yes = l.inner outermost y (omega arith) first_read inner_read in
-            (parts_of_grouped p (rest ++ y ∷ ys) h rest (y ∷ ys) [] (ap (λ (z : List T). rest ++ z) (sym (append-nil (y ∷ ys)))) y outermost (omega arith) refl at_end).1.0 yes
+            (parts_of_grouped p (rest ++ y ∷ ys) h rest (y ∷ ys) [] (ap (λ (z : List T). rest ++ z) (sym (append-nil (y ∷ ys)))) y outermost
+            (omega arith) refl at_end).1.0 yes
 
     back_refused : IsRefusedAcross p (rest, y ∷ ys)
     back_refused a b ea eb =
         let same : y ≡ b = cc eb in
         let cut : rest ≡ without_last rest ++ a ∷ [] = last_is rest a ea in
-        let whole : rest ++ y ∷ ys ≡ without_last rest ++ ((a ∷ y ∷ ys) ++ []) = ap (λ (z : List T). z ++ y ∷ ys) cut ∙ append_assoc (without_last rest) (a ∷ []) (y ∷ ys) ∙ ap (λ (z : List T). without_last rest ++ z) (sym (append-nil (a ∷ y ∷ ys))) in
+        let whole : rest ++ y ∷ ys ≡ without_last rest ++ ((a ∷ y ∷ ys) ++ []) = ap (λ (z : List T). z ++ y ∷ ys) cut ∙ append_assoc
+        (without_last rest) (a ∷ []) (y ∷ ys) ∙ ap (λ (z : List T). without_last rest ++ z) (sym (append-nil (a ∷ y ∷ ys))) in
         let n : length rest ≡ length (without_last rest) + 1 = ap length cut ∙ length-append (without_last rest) (a ∷ []) in
-        let before : slice_get (rest ++ y ∷ ys) (length (without_last rest)) ≡ Some a = ap (λ (z : List T). slice_get z (length (without_last rest))) whole ∙ get_after (without_last rest) ((a ∷ y ∷ ys) ++ []) (length (without_last rest)) 0 (omega arith) in
-        let beyond_read = get_reverse (rest ++ y ∷ ys) (length (y ∷ ys)) a (omega (arith, long)) (ap (slice_get (rest ++ y ∷ ys)) {x = length (rest ++ y ∷ ys) - 1 - length (y ∷ ys)} {y = length (without_last rest)} (omega (arith, long, n)) ∙ before) in
+        let before : slice_get (rest ++ y ∷ ys) (length (without_last rest)) ≡ Some a = ap
+        (λ (z : List T). slice_get z (length (without_last rest))) whole ∙ get_after (without_last rest) ((a ∷ y ∷ ys) ++ [])
+        (length (without_last rest)) 0 (omega arith) in
+        let beyond_read = get_reverse (rest ++ y ∷ ys) (length (y ∷ ys)) a (omega (arith, long))
+        (ap (slice_get (rest ++ y ∷ ys)) {x = length (rest ++ y ∷ ys) - 1 - length (y ∷ ys)} {y = length (without_last rest)}
+        (omega (arith, long, n)) ∙ before) in
         let no = l.beyond outermost a first_read beyond_read in
-        let at_last : slice_get (a ∷ y ∷ ys) (length (a ∷ y ∷ ys) - 1) ≡ Some outermost = get_after (a ∷ []) (y ∷ ys) (length (a ∷ y ∷ ys) - 1) (length (y ∷ ys) - 1) (omega arith) ∙ at_end in
+        let at_last : slice_get (a ∷ y ∷ ys) (length (a ∷ y ∷ ys) - 1) ≡ Some outermost = get_after (a ∷ []) (y ∷ ys)
+        (length (a ∷ y ∷ ys) - 1) (length (y ∷ ys) - 1) (omega arith) ∙ at_end in
         refused_else (p a b) (λ yes.
         let all : IsAccepted p (a ∷ y ∷ ys) = (ap (p a) same ∙ yes, back_accepted) in
-        let wrong : p outermost a ≡ true = (parts_of_grouped p (rest ++ y ∷ ys) h (without_last rest) (a ∷ y ∷ ys) [] whole a outermost (omega arith) refl at_last).1.1 all in
+        let wrong : p outermost a ≡ true =
+        (parts_of_grouped p (rest ++ y ∷ ys) h (without_last rest) (a ∷ y ∷ ys) [] whole a outermost
+        (omega arith) refl at_last).1.1 all in
         cc (wrong, no))
 
 -- at either end
 module _ {T : Type 0} (p : T → T → Bool) where
   outermost_piece : (e : End) (x : T) (xs rest : List T) → IsGrouped p (put_at e (x ∷ xs) rest)
-      → IsLocalEnd (from e (put_at e (x ∷ xs) rest)) p (length (x ∷ xs)) → IsAccepted p (x ∷ xs) × IsRefusedAcross p (in_order e (x ∷ xs) rest)
+      → IsLocalEnd (from e (put_at e (x ∷ xs) rest)) p (length (x ∷ xs)) → IsAccepted p (x ∷ xs) × IsRefusedAcross p
+      (in_order e (x ∷ xs) rest)
   outermost_piece Front x xs rest h l = (front_accepted p x xs rest h l, front_refused p x xs rest h l)
   outermost_piece Back x xs rest h l = (back_accepted p rest x xs h l, back_refused p rest x xs h l)
 
   grouped_rest : (e : End) (part rest : List T) → IsGrouped p (put_at e part rest) → IsGrouped p rest
-  grouped_rest Front part rest h = grouped_part p part rest [] (subst (IsGrouped p) (ap (λ (l : List T). part ++ l) (sym (append-nil rest))) h)
+  grouped_rest Front part rest h =
+      grouped_part p part rest [] (subst (IsGrouped p) (ap (λ (l : List T). part ++ l) (sym (append-nil rest))) h)
   grouped_rest Back part rest h = grouped_part p [] rest part h
 
 module _ {T J : Type 0} (g : Ghosts J T) (cost : SearchCost) (p : T → T → Bool) where
@@ -149,7 +171,8 @@ module _ {T J : Type 0} (g : Ghosts J T) (cost : SearchCost) (p : T → T → Bo
       let says = m.at a.questions t.judge a.run (all_each _ _ (λ r. outward_apart e xs r.0) a.questions a.outward) in
       local_end g p (from e xs) a.questions says cost.may_contradict (length group) h.nonempty fits a.ends
 
-  taken : (e : End) (s : Groups T J) (group : List T) (t : Groups T J) → IsSettledApart g s p → IsGroupAt (SearchQuestions g cost) e s group t
+  taken : (e : End) (s : Groups T J) (group : List T) (t : Groups T J) → IsSettledApart g s p → IsGroupAt
+      (SearchQuestions g cost) e s group t
       → TakesPiece p e s.remainder (Some group) t.remainder
   taken e s [] t m h = absurd (omega (arith, h.nonempty))
   taken e s (x ∷ xs) t m h =

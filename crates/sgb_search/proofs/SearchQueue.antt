@@ -3,10 +3,9 @@ use Rattle.std.proofs.Common.{◌≡◌, ℕ, ◌-◌, Bool, false, List, length
 use Rattle.sgb_search.specs.declared.end.End.{End}
 use Rattle.sgb_search.specs.declared.judge.Judge.{Ghosts}
 use Rattle.sgb_search.specs.Judges.{IsRunOf, AsksWithin}
-use Rattle.sgb_search.specs.Split.{TakesPiece}
+use Rattle.sgb_search.specs.Split.{TakesPiece, AreApart}
 use Rattle.sgb_search.specs.Calls.{Groups, CallAt}
 use Rattle.sgb_search.specs.Searching.{SearchCost, IsCallableApart, ComputesApart, IsSettledApart, SearchQuestions}
-use Rattle.sgb_search.specs.Lists.{AreApart}
 use Rattle.sgb_search.proofs.Apart.{apart_of_rest, outward_apart}
 use Rattle.sgb_search.proofs.Calls as calls
 use Rattle.sgb_search.proofs.Calls.{AsksAllowed, nothing_asked}
@@ -23,7 +22,8 @@ module _ {T J : Type 0} (g : Ghosts J T) (cost : SearchCost) where
       → IsCallableApart g s → IsCallableApart g t
   keeps = calls.keeps g AreApart apart_of_rest (SearchQuestions g cost) asks_apart
 
-  pub computes_on : (p : T → T → Bool) (e : End) (s : Groups T J) (r : Option (List T)) (t : Groups T J) → CallAt (SearchQuestions g cost) e s r t
+  pub computes_on : (p : T → T → Bool) (e : End) (s : Groups T J) (r : Option (List T)) (t : Groups T J) → CallAt
+      (SearchQuestions g cost) e s r t
       → ComputesApart g s p → ComputesApart g t p
   computes_on = calls.computes_on g AreApart apart_of_rest (SearchQuestions g cost) asks_apart
 
@@ -43,6 +43,6 @@ module _ {T J : Type 0} (g : Ghosts J T) (cost : SearchCost) where
       record {
         number = length a.questions;
         asks = (a.questions, a.run, refl);
-        most = omega (arith, a.few.walk, ap cost.walk n, ap (λ (m : ℕ). cost.walk (m - length x)) n, ap cost.walk cut);
+        most = omega (arith, a.most.walk, ap cost.walk n, ap (λ (m : ℕ). cost.walk (m - length x)) n, ap cost.walk cut);
         all = λ never. cc never;
       }

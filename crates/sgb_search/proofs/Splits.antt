@@ -6,9 +6,8 @@ use Rattle.std.proofs.lemmas.List.{append-nil}
 use Rattle.std.proofs.lemmas.List.Sums.{sum_by-cons}
 use Rattle.sgb_search.specs.declared.end.End.{End}
 use Rattle.sgb_search.specs.declared.end.End.TheVariants.{Front, Back}
-use Rattle.sgb_search.specs.Lists.{put_at, first, last, without_first, without_last, neighbours, on_pairs}
+use Rattle.sgb_search.specs.Split.{put_at, first, last, without_first, without_last, neighbours, on_pairs, concat, IsAccepted, IsRefusedAcross, IsSplit, put_before, split, refused_pairs, TakesPiece}
 use Rattle.sgb_search.proofs.Pairs.{in_order}
-use Rattle.sgb_search.specs.Split.{joined, IsAccepted, IsRefusedAcross, IsSplit, put_before, split, refused_pairs, TakesPiece}
 
 pub last_push : {X : Type 0} (xs : List X) (y : X) → last (xs ++ y ∷ []) ≡ Some y
 last_push [] y = refl
@@ -22,7 +21,8 @@ without_last_push (x ∷ z ∷ zs) y = ap (λ l. x ∷ l) (without_last_push (z 
 
 module _ {A : Type 0} (p : A → A → Bool) where
   -- a longer first piece that ends in the same element
-  refused_longer : (x y : A) (ys : List A) (gs : List (List A)) → AllByRecursion (IsRefusedAcross p) (neighbours ((y ∷ ys) ∷ gs)) → AllByRecursion (IsRefusedAcross p) (neighbours ((x ∷ y ∷ ys) ∷ gs))
+  refused_longer : (x y : A) (ys : List A) (gs : List (List A)) → AllByRecursion (IsRefusedAcross p) (neighbours ((y ∷ ys) ∷ gs))
+      → AllByRecursion (IsRefusedAcross p) (neighbours ((x ∷ y ∷ ys) ∷ gs))
   refused_longer x y ys [] r = tt
   refused_longer x y ys (g ∷ gs) r = r
 
@@ -33,7 +33,8 @@ module _ {A : Type 0} (p : A → A → Bool) where
     pub is : ps ≡ (x ∷ more) ∷ others
     pub whole : IsSplit p (x ∷ xs) ((x ∷ more) ∷ others)
 
-  begins_at : (x y : A) (ys : List A) (b : Bool) → p x y ≡ b → (ps : List (List A)) → Begins y ys ps → Begins x (y ∷ ys) (put_before p b x ps)
+  begins_at : (x y : A) (ys : List A) (b : Bool) → p x y ≡ b → (ps : List (List A)) → Begins y ys ps
+      → Begins x (y ∷ ys) (put_before p b x ps)
   begins_at x y ys true e ps h = record {
     more = y ∷ h.more;
     others = h.others;
@@ -58,7 +59,13 @@ module _ {A : Type 0} (p : A → A → Bool) where
   }
 
   pub split_begins : (x : A) (xs : List A) → Begins x xs (split p (x ∷ xs))
-  split_begins x [] = record { more = []; others = []; is = refl; whole = record { joins = refl; nonempty = (λ n. cc n, tt); accepted = (tt, tt); refused = tt } }
+  split_begins x [] =
+      record {
+        more = [];
+        others = [];
+        is = refl;
+        whole = record { joins = refl; nonempty = (λ n. cc n, tt); accepted = (tt, tt); refused = tt };
+      }
   split_begins x (y ∷ ys) = begins_at x y ys (p x y) refl (split p (y ∷ ys)) (split_begins y ys)
 
   pub split_is : (xs : List A) → IsSplit p xs (split p xs)
@@ -66,39 +73,46 @@ module _ {A : Type 0} (p : A → A → Bool) where
   split_is (x ∷ xs) = let h = split_begins x xs in subst (IsSplit p (x ∷ xs)) (sym h.is) h.whole
 
   -- a list that begins with a piece
-  pub split_first : (x : A) (xs rest : List A) → IsAccepted p (x ∷ xs) → IsRefusedAcross p (x ∷ xs, rest) → split p ((x ∷ xs) ++ rest) ≡ (x ∷ xs) ∷ split p rest
+  pub split_first : (x : A) (xs rest : List A) → IsAccepted p (x ∷ xs) → IsRefusedAcross p (x ∷ xs, rest)
+      → split p ((x ∷ xs) ++ rest) ≡ (x ∷ xs) ∷ split p rest
   split_first x [] [] a r = refl
   split_first x [] (z ∷ zs) a r = let e : p x z ≡ false = r x z refl refl in rw e refl
   split_first x (y ∷ ys) rest a r = rw (a.0, split_first y ys rest a.1 r) refl
 
   -- uniqueness
-  refused_before : (g : List A) (gs : List (List A)) → AllByRecursion (λ h. h ≢ []) gs → AllByRecursion (IsRefusedAcross p) (neighbours (g ∷ gs)) → IsRefusedAcross p (g, joined gs)
+  refused_before : (g : List A) (gs : List (List A)) → AllByRecursion (λ h. h ≢ []) gs
+      → AllByRecursion (IsRefusedAcross p) (neighbours (g ∷ gs)) → IsRefusedAcross p (g, concat gs)
   refused_before g [] n r = λ a b i j. cc j
   refused_before g ([] ∷ gs) n r = absurd (n.0 refl)
   refused_before g ((y ∷ ys) ∷ gs) n r = r.0
 
-  refused_after : (g : List A) (gs : List (List A)) → AllByRecursion (IsRefusedAcross p) (neighbours (g ∷ gs)) → AllByRecursion (IsRefusedAcross p) (neighbours gs)
+  refused_after : (g : List A) (gs : List (List A)) → AllByRecursion (IsRefusedAcross p) (neighbours (g ∷ gs))
+      → AllByRecursion (IsRefusedAcross p) (neighbours gs)
   refused_after g [] r = tt
   refused_after g (h ∷ gs) r = r.1
 
-  split_joined : (ps : List (List A)) → AllByRecursion (λ h. h ≢ []) ps → AllByRecursion (IsAccepted p) ps → AllByRecursion (IsRefusedAcross p) (neighbours ps) → split p (joined ps) ≡ ps
+  split_joined : (ps : List (List A)) → AllByRecursion (λ h. h ≢ []) ps → AllByRecursion (IsAccepted p) ps
+      → AllByRecursion (IsRefusedAcross p) (neighbours ps) → split p (concat ps) ≡ ps
   split_joined [] n a r = refl
   split_joined ([] ∷ gs) n a r = absurd (n.0 refl)
   split_joined ((x ∷ xs) ∷ gs) n a r =
-      split_first x xs (joined gs) a.0 (refused_before (x ∷ xs) gs n.1 r) ∙ ap (λ l. (x ∷ xs) ∷ l) (split_joined gs n.1 a.1 (refused_after (x ∷ xs) gs r))
+      split_first x xs (concat gs) a.0 (refused_before (x ∷ xs) gs n.1 r)
+      ∙ ap (λ l. (x ∷ xs) ∷ l) (split_joined gs n.1 a.1 (refused_after (x ∷ xs) gs r))
 
   pub split_only : (xs : List A) (ps : List (List A)) → IsSplit p xs ps → ps ≡ split p xs
   split_only xs ps h = sym (split_joined ps h.nonempty h.accepted h.refused) ∙ ap (split p) h.joins
 
   -- a list that ends with a piece
-  put_before_push : (b : Bool) (x : A) (g : List A) (gs : List (List A)) (h : List A) → put_before p b x ((g ∷ gs) ++ h ∷ []) ≡ put_before p b x (g ∷ gs) ++ h ∷ []
+  put_before_push : (b : Bool) (x : A) (g : List A) (gs : List (List A)) (h : List A)
+      → put_before p b x ((g ∷ gs) ++ h ∷ []) ≡ put_before p b x (g ∷ gs) ++ h ∷ []
   put_before_push true x g gs h = refl
   put_before_push false x g gs h = refl
 
   split_alone : (y : A) (ys : List A) → IsAccepted p (y ∷ ys) → split p (y ∷ ys) ≡ (y ∷ ys) ∷ []
   split_alone y ys a = ap (split p) (sym (append-nil (y ∷ ys))) ∙ split_first y ys [] a (λ u v i j. cc j)
 
-  pub split_last : (rest : List A) (y : A) (ys : List A) → IsAccepted p (y ∷ ys) → IsRefusedAcross p (rest, y ∷ ys) → split p (rest ++ y ∷ ys) ≡ split p rest ++ (y ∷ ys) ∷ []
+  pub split_last : (rest : List A) (y : A) (ys : List A) → IsAccepted p (y ∷ ys) → IsRefusedAcross p (rest, y ∷ ys)
+      → split p (rest ++ y ∷ ys) ≡ split p rest ++ (y ∷ ys) ∷ []
   split_last [] y ys a r = split_alone y ys a
   split_last (x ∷ []) y ys a r = let e : p x y ≡ false = r x y refl refl in rw (e, split_alone y ys a) refl
   split_last (x ∷ z ∷ zs) y ys a r =
@@ -118,7 +132,8 @@ module _ {A : Type 0} (p : A → A → Bool) where
   takes_nothing Back = (refl, refl)
 
   -- how many pieces there are
-  length-put_before : (b : Bool) (x : A) (g : List A) (gs : List (List A)) → length (put_before p b x (g ∷ gs)) ≡ cond (not b) 1 0 + length (g ∷ gs)
+  length-put_before : (b : Bool) (x : A) (g : List A) (gs : List (List A))
+      → length (put_before p b x (g ∷ gs)) ≡ cond (not b) 1 0 + length (g ∷ gs)
   length-put_before true x g gs = omega arith
   length-put_before false x g gs = omega arith
 
@@ -127,6 +142,8 @@ module _ {A : Type 0} (p : A → A → Bool) where
   length-split (x ∷ []) l = refl
   length-split (x ∷ y ∷ ys) l =
       let h = split_begins y ys in
-      let n : length (put_before p (p x y) x (split p (y ∷ ys))) ≡ cond (not (p x y)) 1 0 + length (split p (y ∷ ys)) = rw h.is (length-put_before (p x y) x (y ∷ h.more) h.others) in
-      let m : refused_pairs p (x ∷ y ∷ ys) ≡ cond (not (p x y)) 1 0 + refused_pairs p (y ∷ ys) = sum_by-cons (λ q. cond (not (on_pairs p q)) 1 0) (x, y) (neighbours (y ∷ ys)) in
+      let n : length (put_before p (p x y) x (split p (y ∷ ys))) ≡ cond (not (p x y)) 1 0 + length (split p (y ∷ ys)) = rw h.is
+      (length-put_before (p x y) x (y ∷ h.more) h.others) in
+      let m : refused_pairs p (x ∷ y ∷ ys) ≡ cond (not (p x y)) 1 0 + refused_pairs p (y ∷ ys) = sum_by-cons
+      (λ q. cond (not (on_pairs p q)) 1 0) (x, y) (neighbours (y ∷ ys)) in
       omega (arith, n, m, length-split (y ∷ ys) (omega arith))

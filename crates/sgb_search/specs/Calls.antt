@@ -4,7 +4,7 @@ use Rattle.std.specs.Prelude.{List, length, ◌≡◌, ℕ, ◌<◌, Bool, [], O
 use Rattle.std.specs.Iterator.{Count, at_most}
 use Rattle.sgb_search.specs.declared.end.End.{End}
 use Rattle.sgb_search.specs.declared.judge.Judge.{Ghosts}
-use Rattle.sgb_search.specs.Lists.{put_at, on_pairs}
+use Rattle.sgb_search.specs.Split.{put_at, on_pairs}
 use Rattle.sgb_search.specs.Judges.{MayAskAll, AnswersBy}
 
 -- the elements that it has not handed out yet, and its judge

@@ -1,8 +1,6 @@
-pub mod Lists
 pub mod Split
 pub mod Judges
 pub mod Calls
 pub mod Linear
 pub mod Searching
-pub mod Places
 pub mod Search

@@ -2,7 +2,7 @@
 --     questions e xs g     what a linear call at the end e asks that takes g > 0 elements, with the answers
 use Rattle.std.specs.Prelude.{ℕ, ◌-◌, Bool, true, false, List, ◌++◌, map, take, drop, IsPermutation}
 use Rattle.sgb_search.specs.declared.end.End.{End}
-use Rattle.sgb_search.specs.Lists.{from, neighbours, AreNeighbours, on_pairs}
+use Rattle.sgb_search.specs.Split.{from, neighbours, AreNeighbours, on_pairs}
 use Rattle.sgb_search.specs.declared.judge.Judge.{Ghosts}
 use Rattle.sgb_search.specs.Judges.{IsRun, MayAskAll, AnswersBy}
 use Rattle.sgb_search.specs.Calls.{Groups}

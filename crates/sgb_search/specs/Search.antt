@@ -10,9 +10,8 @@ use Rattle.std.specs.Borrow.{Bor}
 use Rattle.std.specs.Ordering.{ordering_index, is_lt}
 use Rattle.std.specs.declared.cmp.Ordering.{Ordering}
 use Rattle.std.specs.declared.cmp.Ordering.TheVariants.{Less, Equal, Greater}
-use Rattle.sgb_search.specs.Searching.{digits}
-use Rattle.sgb_search.specs.Places.{place_of}
-use Rattle.sgb_search.specs.Lists.{neighbours}
+use Rattle.sgb_search.specs.Searching.{digits, place_of}
+use Rattle.sgb_search.specs.Split.{neighbours}
 use Rattle.sgb_search.specs.Judges.{IsRun, MayAskAll, AnswersBy}
 
 module _ {T : Type 0} (ord : T → Ordering) (xs : List T) where
@@ -55,16 +54,15 @@ module _ {F T : Type 0} (may : F → T → Type 0) (gives : F → T → Ordering
   EndsEqual qs (Ok i) = (front : List (T × Ordering)) × (x : T) × (slice_get xs i ≡ Some x) × (qs ≡ front ++ (x, Equal) ∷ [])
   EndsEqual qs (Err i) = Unit {0}
 
-  -- the questions of a search that begins with f, gives r and ends with h
-  pub record Searches (f : F) (r : Result ℕ ℕ) (h : F) (qs : List (T × Ordering)) : Type 0 where
-    pub run : IsRun may gives f qs h
-    pub elements : AllByRecursion (λ q. Contains xs q.0) qs
-    pub few : length qs ≤ 2 * digits (place_of r + 1) + 1
-    pub none : length xs ≡ 0 → qs ≡ []
-    pub equal : EndsEqual qs r
-
-  abbrev pub IsSearch : F → Result ℕ ℕ → Type 0
-  IsSearch f r = (h : F) × (qs : List (T × Ordering)) × Searches f r h qs
+  -- a search that begins with f and gives r: its questions, in order, each about an element, their number, and the state that they lead to
+  pub record IsSearch (f : F) (r : Result ℕ ℕ) : Type 0 where
+    pub questions : List (T × Ordering)
+    pub after : F
+    pub run : IsRun may gives f questions after
+    pub elements : AllByRecursion (λ q. Contains xs q.0) questions
+    pub most : length questions ≤ 2 * digits (place_of r + 1) + 1
+    pub none : length xs ≡ 0 → questions ≡ []
+    pub equal : EndsEqual questions r
 
 -- a function of elements: a comparator, or a key function
 module _ {F T K : Type 0} (g : Mut F (Bor T × Unit {0}) K) (xs : List T) where

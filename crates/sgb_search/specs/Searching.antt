@@ -1,12 +1,14 @@
--- What a binary or exponential call asks: about its outermost element and others, and not about each neighbouring pair.
-use Rattle.std.specs.Prelude.{ℕ, ◌/◌, ◌≡◌, ◌+◌, ◌-◌, ◌*◌, ◌<◌, ◌≤◌, Bool, true, false, List, length, ◌⊎◌, Some, slice_get}
+-- What a binary or exponential call asks: about its outermost element and others, and not about each neighbouring pair; and what
+-- halving and galloping over places say of their runs.
+use Rattle.std.specs.Prelude.{ℕ, ◌/◌, ◌≡◌, ◌≢◌, ◌+◌, ◌-◌, ◌*◌, ◌<◌, ◌≤◌, Bool, true, false, List, [], ◌∷◌, ◌++◌, length, ◌⊎◌, Result, Ok, Err, Some, slice_get}
 use Rattle.std.proofs.Common.{zero, suc}
 use Rattle.std.specs.List.{AllByRecursion, Contains}
+use Rattle.std.specs.declared.cmp.Ordering.{Ordering}
+use Rattle.std.specs.declared.cmp.Ordering.TheVariants.{Less, Equal, Greater}
+use Rattle.sgb_search.specs.declared.end.End.{End}
 use Rattle.sgb_search.specs.declared.judge.Judge.{Ghosts}
 use Rattle.sgb_search.specs.Judges.{IsRun, MayAskAll, AnswersBy}
-use Rattle.sgb_search.specs.declared.end.End.{End}
-use Rattle.sgb_search.specs.Lists.{from, on_pairs, AreApart}
-use Rattle.sgb_search.specs.Split.{IsGrouped}
+use Rattle.sgb_search.specs.Split.{from, on_pairs, AreApart, IsGrouped}
 use Rattle.sgb_search.specs.Calls.{Groups}
 
 -- the number of binary digits of an m that has at most `most` of them: none for 0, and else one more than those of m / 2
@@ -47,32 +49,36 @@ module _ {T : Type 0} (xs : List T) where
   abbrev pub IsOutward : T × T → Type 0
   IsOutward q = (slice_get xs 0 ≡ Some q.0) × ((i : ℕ) × (0 < i) × (slice_get xs i ≡ Some q.1))
 
-  -- the outermost element and the one at place i were asked about, and the answer was b
-  abbrev pub Asked : List ((T × T) × Bool) → ℕ → Bool → Type 0
-  Asked qs i b = (x : T) × (y : T) × (slice_get xs 0 ≡ Some x) × (slice_get xs i ≡ Some y) × Contains qs ((x, y), b)
+  -- one of the questions was about the outermost element and the one at place i, and its answer was b
+  pub record IsAskedAt (qs : List ((T × T) × Bool)) (i : ℕ) (b : Bool) : Type 0 where
+    pub outermost : T
+    pub other : T
+    pub outermost_at : slice_get xs 0 ≡ Some outermost
+    pub other_at : slice_get xs i ≡ Some other
+    pub asked : Contains qs ((outermost, other), b)
 
   -- both answers came about the one at place i
-  abbrev pub BothWays : List ((T × T) × Bool) → ℕ → Type 0
-  BothWays qs i = Asked qs i true × Asked qs i false
+  abbrev pub ContradictsAt : List ((T × T) × Bool) → ℕ → Type 0
+  ContradictsAt qs i = IsAskedAt qs i true × IsAskedAt qs i false
 
   -- the innermost of the first g elements was accepted, if there are more than one
   abbrev pub IsInner : List ((T × T) × Bool) → ℕ → Type 0
-  IsInner qs g = (g ≡ 1) ⊎ Asked qs (g - 1) true
+  IsInner qs g = (g ≡ 1) ⊎ IsAskedAt qs (g - 1) true
 
   -- the element beyond them was refused, if there is one
   abbrev pub IsBeyond : List ((T × T) × Bool) → ℕ → Type 0
-  IsBeyond qs g = (g ≡ length xs) ⊎ Asked qs g false
+  IsBeyond qs g = (g ≡ length xs) ⊎ IsAskedAt qs g false
 
   -- the first g end there by the answers: both of the above; or, where they may, both answers came about one of the two elements there
   abbrev pub EndsBy : Bool → List ((T × T) × Bool) → ℕ → Type 0
-  EndsBy both qs g = (IsInner qs g × IsBeyond qs g) ⊎ ((both ≡ true) × (((1 < g) × BothWays qs (g - 1)) ⊎ BothWays qs g))
+  EndsBy both qs g = (IsInner qs g × IsBeyond qs g) ⊎ ((both ≡ true) × (((1 < g) × ContradictsAt qs (g - 1)) ⊎ ContradictsAt qs g))
 
   -- the questions of a call that takes the first g elements, from the state j of the judge to the state k
   pub record SearchRun {J : Type 0} (judge : Ghosts J T) (cost : SearchCost) (j : J) (g : ℕ) (k : J) : Type 0 where
     pub questions : List ((T × T) × Bool)
     pub run : IsRun judge.may_ask judge.answers j questions k
     pub outward : AllByRecursion (λ r. IsOutward r.0) questions
-    pub few : IsWithin cost (length xs) g (length questions)
+    pub most : IsWithin cost (length xs) g (length questions)
     pub ends : EndsBy cost.may_contradict questions g
 
   -- by p the first g elements, one or more, end at a local boundary: the innermost agrees with the outermost, and the element beyond does not
@@ -107,3 +113,83 @@ module _ {T J : Type 0} (g : Ghosts J T) where
   -- the questions of a search for the end of the n elements that the call takes, which read from the call's end
   abbrev pub SearchQuestions : SearchCost → End → List T → ℕ → J → J → Type 0
   SearchQuestions cost e xs n j k = SearchRun (from e xs) g cost j n k
+
+-- A search over places: a question compares a place with what is sought. `Ok` gives a place that is Equal, `Err` one that Less comes before
+-- and Greater from there on.
+
+-- i is one of the places from low up to, not including, high
+abbrev pub IsBetween : ℕ → ℕ → ℕ → Type 0
+IsBetween low high i = (low ≤ i) × (i < high)
+
+-- the place of an answer
+abbrev pub place_of : Result ℕ ℕ → ℕ
+place_of (Ok i) = i
+place_of (Err i) = i
+
+-- qs: the places that were compared, each with its answer
+module _ (qs : List (ℕ × Ordering)) where
+  -- i is low, or the place before it was answered Less
+  abbrev pub IsLowEnd : ℕ → ℕ → Type 0
+  IsLowEnd low i = (i ≡ low) ⊎ ((low < i) × Contains qs (i - 1, Less))
+
+  -- i is high, or was itself answered Greater
+  abbrev pub IsHighEnd : ℕ → ℕ → Type 0
+  IsHighEnd high i = (i ≡ high) ⊎ ((i < high) × Contains qs (i, Greater))
+
+  -- place i was answered in two ways
+  abbrev pub Contradicts : ℕ → Type 0
+  Contradicts i = (a : Ordering) × (b : Ordering) × Contains qs (i, a) × Contains qs (i, b) × (a ≢ b)
+
+  -- both ends at i; or, where they may, two answers came about one of the two places there
+  abbrev pub TellsBoundary : Bool → ℕ → ℕ → ℕ → Type 0
+  TellsBoundary both low high i = (IsLowEnd low i × IsHighEnd high i) ⊎ ((both ≡ true) × (((low < i) × Contradicts (i - 1)) ⊎ Contradicts i))
+
+  -- what an answer tells: of `Ok`, that the last question was about that place and was answered Equal; of `Err`, the boundary
+  abbrev pub Tells : Bool → ℕ → ℕ → Result ℕ ℕ → Type 0
+  Tells both low high (Ok i) = IsBetween low high i × ((front : List (ℕ × Ordering)) × (qs ≡ front ++ (i, Equal) ∷ []))
+  Tells both low high (Err i) = (low ≤ i) × (i ≤ high) × TellsBoundary both low high i
+
+-- may s i: in the state s the place i may be compared; gives s i o t: the answer may be o, and then the state is t
+module _ {S : Type 0} (may : S → ℕ → Type 0) (gives : S → ℕ → Ordering → S → Type 0) where
+  -- each place between may be compared, now and after any such questions
+  abbrev pub MayCompareBetween : ℕ → ℕ → S → Type 0
+  MayCompareBetween low high s = MayAskAll may gives (IsBetween low high) s
+
+  -- a search of the places from low up to high that gives r: its questions, each about one of them, their number, and what r tells
+  pub record IsPlaceSearch (cost : SearchCost) (low high : ℕ) (s : S) (r : Result ℕ ℕ) (t : S) : Type 0 where
+    pub questions : List (ℕ × Ordering)
+    pub run : IsRun may gives s questions t
+    pub places : AllByRecursion (λ q. IsBetween low high q.0) questions
+    pub most : IsWithin cost (high - low + 1) (place_of r - low + 1) (length questions)
+    pub tells : Tells questions cost.may_contradict low high r
+
+  -- the ends between which galloping over len places halves: low was answered Less, and the place before high was not
+  pub record IsBracket (len : ℕ) (s : S) (low high : ℕ) (t : S) : Type 0 where
+    pub questions : List (ℕ × Ordering)
+    pub run : IsRun may gives s questions t
+    pub places : AllByRecursion (λ q. IsBetween 0 len q.0) questions
+    pub order : (low ≤ high) × (high ≤ len) × (high ≤ low → len ≡ 0)
+    pub most : length questions + digits (high - low) ≤ 2 * digits (low + 1) + 1
+    pub low_end : (low ≡ 0) ⊎ Contains questions (low, Less)
+    pub high_end : (high ≡ len) ⊎ ((o : Ordering) × Contains questions (high - 1, o) × (o ≢ Less))
+
+-- the answer of a judge, as that of a comparator: what is accepted lies before the end of the group
+abbrev pub as_ordering : Bool → Ordering
+as_ordering true = Less
+as_ordering false = Greater
+
+-- a judge that is asked about the first element of xs and another: place i is that of the element after the first i + 1
+module _ {J T : Type 0} (may : J → T × T → Type 0) (gives : J → T × T → Bool → J → Type 0) (xs : List T) where
+  -- the question about place i may be asked
+  abbrev pub MayAskAt : J → ℕ → Type 0
+  MayAskAt j i = (i + 1 < length xs) × ((x y : T) → slice_get xs 0 ≡ Some x → slice_get xs (i + 1) ≡ Some y → may j (x, y))
+
+  -- it was asked, and answered so
+  pub record AnsweredAt (j : J) (i : ℕ) (o : Ordering) (k : J) : Type 0 where
+    pub outermost : T
+    pub other : T
+    pub outermost_at : slice_get xs 0 ≡ Some outermost
+    pub other_at : slice_get xs (i + 1) ≡ Some other
+    pub accepted : Bool
+    pub answered : gives j (outermost, other) accepted k
+    pub ordering : o ≡ as_ordering accepted

@@ -1,8 +1,7 @@
 //! Halving and galloping over places, in either direction.
-ghost use Rattle.std.specs.Prelude.{◌≡◌, ℕ, ◌≤◌, ◌<◌, ◌+◌, ◌-◌, List, length, ◌⊎◌};
+ghost use Rattle.std.specs.Prelude.{ℕ, ◌≤◌};
 ghost use Rattle.std.specs.declared.cmp.Ordering.{Ordering};
-ghost use Rattle.sgb_search.specs.Searching.{digits};
-ghost use Rattle.sgb_search.specs.Places.{MayProbe, IsHalved, IsBracket, IsGalloped};
+ghost use Rattle.sgb_search.specs.Searching.{binary, exponential, MayCompareBetween, IsPlaceSearch, IsBracket};
 
 use std::cmp::Ordering;
 
@@ -32,8 +31,10 @@ pub fn halve<A, P: Places<A>>(
     high: usize,
 ) -> Result<usize, usize>
     requires order { low ≤ high }
-    requires callable { MayProbe (λ s i. P.may_compare s places.now i) (λ s i o t. P.compares s places.now i o t) low high asker.old }
-    ensures { IsHalved (λ s i. P.may_compare s places.now i) (λ s i o t. P.compares s places.now i o t) low high asker.old result asker.new }
+    requires callable { MayCompareBetween (λ s i. P.may_compare s places.now i)
+        (λ s i o t. P.compares s places.now i o t) low high asker.old }
+    ensures { IsPlaceSearch (λ s i. P.may_compare s places.now i) (λ s i o t. P.compares s places.now i o t)
+        binary low high asker.old result asker.new }
 {
     let mut from = low;
     let mut upto = high;
@@ -52,8 +53,10 @@ pub fn halve<A, P: Places<A>>(
 /// those of the halving are together at most `2 * digits(low + 1) + 1`.
 #[inline]
 fn bracket<A, P: Places<A>>(asker: &mut A, places: &P, len: usize) -> (usize, usize)
-    requires { MayProbe (λ s i. P.may_compare s places.now i) (λ s i o t. P.compares s places.now i o t) 0 len asker.old }
-    ensures { IsBracket (λ s i. P.may_compare s places.now i) (λ s i o t. P.compares s places.now i o t) len asker.old result.0 result.1 asker.new }
+    requires { MayCompareBetween (λ s i. P.may_compare s places.now i)
+        (λ s i o t. P.compares s places.now i o t) 0 len asker.old }
+    ensures { IsBracket (λ s i. P.may_compare s places.now i) (λ s i o t. P.compares s places.now i o t)
+        len asker.old result.0 result.1 asker.new }
 {
     let mut low = 0;
     let mut place = 1;
@@ -74,8 +77,10 @@ fn bracket<A, P: Places<A>>(asker: &mut A, places: &P, len: usize) -> (usize, us
 /// `2 * digits(i + 1) + 1` questions, each about one of these places, and none if `len` is 0.
 #[inline]
 pub fn gallop<A, P: Places<A>>(asker: &mut A, places: &P, len: usize) -> Result<usize, usize>
-    requires { MayProbe (λ s i. P.may_compare s places.now i) (λ s i o t. P.compares s places.now i o t) 0 len asker.old }
-    ensures { IsGalloped (λ s i. P.may_compare s places.now i) (λ s i o t. P.compares s places.now i o t) len asker.old result asker.new }
+    requires { MayCompareBetween (λ s i. P.may_compare s places.now i)
+        (λ s i o t. P.compares s places.now i o t) 0 len asker.old }
+    ensures { IsPlaceSearch (λ s i. P.may_compare s places.now i) (λ s i o t. P.compares s places.now i o t)
+        exponential 0 len asker.old result asker.new }
 {
     let (low, high) = bracket(asker, places, len);
     halve(asker, places, low, high)

@@ -1,8 +1,7 @@
 //! What decides whether two elements belong together.
-ghost use Rattle.std.specs.Prelude.{◌≡◌, Bool};
+ghost use Rattle.std.specs.Prelude.{◌≡◌, ℕ, ◌+◌, Bool};
 
-use crate::questions::Questions;
-use std::marker::PhantomData;
+use std::marker::{Model, PhantomData};
 
 /// Decides whether two elements belong together.
 ///
@@ -129,8 +128,6 @@ pub struct EqualityJudge {
     pub questions: Questions,
 }
 
-const _: () = prove!(size_of::<EqualityJudge>() == 0);
-
 impl<T: PartialEq> Judge<T> for EqualityJudge {
     ghost use Rattle.sgb_search.specs.Judges.{by_equality};
 
@@ -154,5 +151,35 @@ impl EqualityJudge {
         EqualityJudge {
             questions: Questions::none(),
         }
+    }
+}
+
+/// How many questions were asked, for contracts alone. It takes no bytes, and no code can read it.
+#[derive(Drop)]
+pub struct Questions {
+    pub ghost asked: { ℕ },
+}
+
+impl Model for Questions {
+    ghost use Rattle.std.specs.Borrow.{ftrue};
+
+    ghost also_owns = { λ _. ftrue };
+}
+
+impl Questions {
+    /// No question yet.
+    #[inline]
+    pub fn none() -> Questions
+        ensures { result.asked ≡ 0 }
+    {
+        Questions {}
+    }
+
+    /// One question more than before.
+    #[inline]
+    pub fn one_more(_before: &Questions) -> Questions
+        ensures { result.asked ≡ _before.now.asked + 1 }
+    {
+        Questions {}
     }
 }

@@ -4,8 +4,7 @@ ghost use Rattle.std.specs.Fn.{ComputesKey, TakesAt, TakesAtTwo};
 ghost use Rattle.std.specs.List.{Contains};
 ghost use Rattle.sgb_search.specs.declared.end.End.{End};
 ghost use Rattle.sgb_search.specs.Searching.{digits, MayAskApart, AnswersApart};
-ghost use Rattle.sgb_search.specs.Lists.{AreApart, neighbours, AreNeighbours};
-ghost use Rattle.sgb_search.specs.Split.{IsGrouped, IsSplit, split, refused_pairs};
+ghost use Rattle.sgb_search.specs.Split.{AreApart, neighbours, AreNeighbours, IsGrouped, IsSplit, split, refused_pairs};
 ghost use Rattle.sgb_search.specs.Search.{MayCall, Computes, NeverDescends};
 ghost use Rattle.sgb_search.specs.Linear.{questions, MayAskAlong, AnswersAlong};
 ghost use Rattle.sgb_search.specs.Judges.{IsRunOf, by_predicate, predicate_judge, MayCallOnPairs, by_key, key_judge, by_char_predicate, char_predicate_judge, by_char_key, char_key_judge, by_equality};
@@ -32,43 +31,53 @@ pub fn question_count<T>()
 /// A predicate that may always be called may be asked about the neighbouring pairs of every slice.
 #[inline]
 pub fn always_callable<T, P: FnMut(&T, &T) -> bool>()
-    ensures { (xs : List T) (predicate : P) → P.IsAlwaysCallable predicate → MayAskAlong (by_predicate P.FnMut) xs (predicate_judge predicate) }
+    ensures { (xs : List T) (predicate : P) → P.IsAlwaysCallable predicate
+        → MayAskAlong (by_predicate P.FnMut) xs (predicate_judge predicate) }
 {}
 
 /// A key function that may always be called may be asked about the neighbouring pairs of every slice.
 #[inline]
 pub fn always_callable_key<T, F: FnMut(&T) -> K, K: PartialEq + Drop>()
-    ensures { (xs : List T) (func : F) → F.IsAlwaysCallable func → MayAskAlong (by_key F.FnMut K.eq) xs (key_judge func) }
+    ensures { (xs : List T) (func : F) → F.IsAlwaysCallable func
+        → MayAskAlong (by_key F.FnMut K.eq) xs (key_judge func) }
 {}
 
 /// A predicate that may always be called may be asked about every two different places of every slice, in both orders.
 #[inline]
 pub fn always_callable_apart<T, P: FnMut(&T, &T) -> bool>()
-    ensures { (xs : List T) (predicate : P) → P.IsAlwaysCallable predicate → MayAskApart (by_predicate P.FnMut) xs (predicate_judge predicate) }
+    ensures { (xs : List T) (predicate : P) → P.IsAlwaysCallable predicate
+        → MayAskApart (by_predicate P.FnMut) xs (predicate_judge predicate) }
 {}
 
 /// A key function that may always be called may be asked about every two different places of every slice, in both orders.
 #[inline]
 pub fn always_callable_key_apart<T, F: FnMut(&T) -> K, K: PartialEq + Drop>()
-    ensures { (xs : List T) (func : F) → F.IsAlwaysCallable func → MayAskApart (by_key F.FnMut K.eq) xs (key_judge func) }
+    ensures { (xs : List T) (func : F) → F.IsAlwaysCallable func
+        → MayAskApart (by_key F.FnMut K.eq) xs (key_judge func) }
 {}
 
 /// A key function that may be called on each element of a slice, which is what the searches ask of theirs, may be asked about
 /// its neighbouring pairs, and about every two different places, in both orders; and it may be called on each element of a part.
 #[inline]
 pub fn callable_on_elements<T, F: FnMut(&T) -> K, K: PartialEq + Drop>()
-    ensures along { (xs : List T) (func : F) → MayCall F.FnMut xs func → MayAskAlong (by_key F.FnMut K.eq) xs (key_judge func) }
-    ensures apart { (xs : List T) (func : F) → MayCall F.FnMut xs func → MayAskApart (by_key F.FnMut K.eq) xs (key_judge func) }
-    ensures part { (before part after : List T) (func : F) → MayCall F.FnMut (before ++ (part ++ after)) func → MayCall F.FnMut part func }
+    ensures along { (xs : List T) (func : F) → MayCall F.FnMut xs func
+        → MayAskAlong (by_key F.FnMut K.eq) xs (key_judge func) }
+    ensures apart { (xs : List T) (func : F) → MayCall F.FnMut xs func
+        → MayAskApart (by_key F.FnMut K.eq) xs (key_judge func) }
+    ensures part { (before part after : List T) (func : F) → MayCall F.FnMut (before ++ (part ++ after)) func
+        → MayCall F.FnMut part func }
 {}
 
 /// A key function that computes a key of each element of a slice: the judge by key answers whether those keys are equal, of
 /// neighbouring pairs and of every two different places; and it computes the key of each element of a part.
 #[inline]
 pub fn computes_on_elements<T, F: FnMut(&T) -> K, K: PartialEq + Drop>()
-    ensures along { (xs : List T) (key : T → K) (func : F) → Computes F.FnMut xs key func → AnswersAlong (by_key F.FnMut K.eq) xs (λ x y. K.eq (key x) (key y)) (key_judge func) }
-    ensures apart { (xs : List T) (key : T → K) (func : F) → Computes F.FnMut xs key func → AnswersApart (by_key F.FnMut K.eq) xs (λ x y. K.eq (key x) (key y)) (key_judge func) }
-    ensures part { (before part after : List T) (key : T → K) (func : F) → Computes F.FnMut (before ++ (part ++ after)) key func → Computes F.FnMut part key func }
+    ensures along { (xs : List T) (key : T → K) (func : F) → Computes F.FnMut xs key func
+        → AnswersAlong (by_key F.FnMut K.eq) xs (λ x y. K.eq (key x) (key y)) (key_judge func) }
+    ensures apart { (xs : List T) (key : T → K) (func : F) → Computes F.FnMut xs key func
+        → AnswersApart (by_key F.FnMut K.eq) xs (λ x y. K.eq (key x) (key y)) (key_judge func) }
+    ensures part { (before part after : List T) (key : T → K) (func : F)
+        → Computes F.FnMut (before ++ (part ++ after)) key func → Computes F.FnMut part key func }
 {}
 
 /// An `Fn` stays as it is when it is called: where it may be called on each element now, it may be called so in every state
@@ -81,30 +90,38 @@ pub fn callable_now<T, F: Fn(&T) -> K, K>(_f: &F)
 /// The same of a predicate, on each neighbouring pair, and on every two different places in both orders.
 #[inline]
 pub fn callable_now_on_pairs<T, P: Fn(&T, &T) -> bool>(_p: &P)
-    ensures along { (xs : List T) (p : P) → ((q : T × T) → AreNeighbours xs q → TakesAtTwo P.FnMut p q.0 q.1) → MayCallOnPairs P.FnMut (AreNeighbours xs) p }
-    ensures apart { (xs : List T) (p : P) → ((q : T × T) → AreApart xs q → TakesAtTwo P.FnMut p q.0 q.1) → MayCallOnPairs P.FnMut (AreApart xs) p }
+    ensures along { (xs : List T) (p : P) → ((q : T × T) → AreNeighbours xs q → TakesAtTwo P.FnMut p q.0 q.1)
+        → MayCallOnPairs P.FnMut (AreNeighbours xs) p }
+    ensures apart { (xs : List T) (p : P) → ((q : T × T) → AreApart xs q → TakesAtTwo P.FnMut p q.0 q.1)
+        → MayCallOnPairs P.FnMut (AreApart xs) p }
 {}
 
 /// A predicate that may be called on each neighbouring pair of a slice, the left element first, or on every two different places,
 /// in both orders, may be asked about them. So may one that may be called on them in each of its states.
 #[inline]
 pub fn callable_on_pairs<T, P: FnMut(&T, &T) -> bool>()
-    ensures along { (xs : List T) (predicate : P) → MayCallOnPairs P.FnMut (AreNeighbours xs) predicate → MayAskAlong (by_predicate P.FnMut) xs (predicate_judge predicate) }
-    ensures apart { (xs : List T) (predicate : P) → MayCallOnPairs P.FnMut (AreApart xs) predicate → MayAskApart (by_predicate P.FnMut) xs (predicate_judge predicate) }
-    ensures always_along { (xs : List T) → ((p : P) (q : T × T) → AreNeighbours xs q → TakesAtTwo P.FnMut p q.0 q.1) → (predicate : P) → MayCallOnPairs P.FnMut (AreNeighbours xs) predicate }
-    ensures always_apart { (xs : List T) → ((p : P) (q : T × T) → AreApart xs q → TakesAtTwo P.FnMut p q.0 q.1) → (predicate : P) → MayCallOnPairs P.FnMut (AreApart xs) predicate }
+    ensures along { (xs : List T) (predicate : P) → MayCallOnPairs P.FnMut (AreNeighbours xs) predicate
+        → MayAskAlong (by_predicate P.FnMut) xs (predicate_judge predicate) }
+    ensures apart { (xs : List T) (predicate : P) → MayCallOnPairs P.FnMut (AreApart xs) predicate
+        → MayAskApart (by_predicate P.FnMut) xs (predicate_judge predicate) }
+    ensures always_along { (xs : List T) → ((p : P) (q : T × T) → AreNeighbours xs q → TakesAtTwo P.FnMut p q.0 q.1)
+        → (predicate : P) → MayCallOnPairs P.FnMut (AreNeighbours xs) predicate }
+    ensures always_apart { (xs : List T) → ((p : P) (q : T × T) → AreApart xs q → TakesAtTwo P.FnMut p q.0 q.1)
+        → (predicate : P) → MayCallOnPairs P.FnMut (AreApart xs) predicate }
 {}
 
 /// A predicate of characters that may always be called may be asked about the neighbouring characters of every text.
 #[inline]
 pub fn always_callable_chars<P: FnMut(char, char) -> bool>()
-    ensures { (cs : List ℕ) (predicate : P) → P.IsAlwaysCallable predicate → MayAskAlong (by_char_predicate P.FnMut) cs (char_predicate_judge predicate) }
+    ensures { (cs : List ℕ) (predicate : P) → P.IsAlwaysCallable predicate
+        → MayAskAlong (by_char_predicate P.FnMut) cs (char_predicate_judge predicate) }
 {}
 
 /// A key function of characters that may always be called may be asked about the neighbouring characters of every text.
 #[inline]
 pub fn always_callable_char_key<F: FnMut(char) -> K, K: PartialEq + Drop>()
-    ensures { (cs : List ℕ) (func : F) → F.IsAlwaysCallable func → MayAskAlong (by_char_key F.FnMut K.eq) cs (char_key_judge func) }
+    ensures { (cs : List ℕ) (func : F) → F.IsAlwaysCallable func
+        → MayAskAlong (by_char_key F.FnMut K.eq) cs (char_key_judge func) }
 {}
 
 /// Equality may be asked about every slice, answers what `==` says, and counts: in every state of its judge.
@@ -114,7 +131,8 @@ pub fn equality_judges<T: PartialEq>()
     ensures settled { (xs : List T) (j : EqualityJudge) → AnswersAlong (by_equality T.eq) xs T.eq j }
     ensures callable_apart { (xs : List T) (j : EqualityJudge) → MayAskApart (by_equality T.eq) xs j }
     ensures computes_apart { (xs : List T) (j : EqualityJudge) → AnswersApart (by_equality T.eq) xs T.eq j }
-    ensures counts { (j k : EqualityJudge) (n : ℕ) → IsRunOf (by_equality T.eq).may_ask (by_equality T.eq).answers n j k → k.questions.asked ≡ j.questions.asked + n }
+    ensures counts { (j k : EqualityJudge) (n : ℕ) → IsRunOf (by_equality T.eq).may_ask (by_equality T.eq).answers n j k
+        → k.questions.asked ≡ j.questions.asked + n }
 {}
 
 /// A comparator or a key function that may always be called may be called on the elements of every slice.
@@ -133,14 +151,16 @@ pub fn always_computes<T, F: FnMut(&T) -> K, K>(_f: &F)
 /// A list that ascends by a key is grouped for equality of that key, and one that ascends for equality of its elements.
 #[inline]
 pub fn ascending_is_grouped<T, K: Ord>()
-    ensures by_key { (key : T → K) (xs : List T) → NeverDescends K.cmp (map key xs) → IsGrouped (λ x y. K.eq (key x) (key y)) xs }
+    ensures by_key { (key : T → K) (xs : List T) → NeverDescends K.cmp (map key xs)
+        → IsGrouped (λ x y. K.eq (key x) (key y)) xs }
     ensures by_itself { (xs : List K) → NeverDescends K.cmp xs → IsGrouped K.eq xs }
 {}
 
 /// A part of a grouped list is grouped.
 #[inline]
 pub fn parts_are_grouped<T>()
-    ensures { (p : T → T → Bool) (before part after : List T) → IsGrouped p (before ++ (part ++ after)) → IsGrouped p part }
+    ensures { (p : T → T → Bool) (before part after : List T) → IsGrouped p (before ++ (part ++ after))
+        → IsGrouped p part }
 {}
 
 /// The number of binary digits of m is the least d with m below the d-th power of two.

@@ -1,8 +1,8 @@
 //! The base of the library: what decides whether two elements belong together, the definitions that every group stands on, and
 //! the searches of a slice.
 //!
-//! The definitions are in `specs/`, and are meant to be read first: `Split` (what the groups are), `Lists` (a list from an
-//! end, and its pairs), `Judges` (what a list of questions does to the state of a judge, and what judges answer), `Calls`
+//! The definitions are in `specs/`, and are meant to be read first: `Split` (what the groups are, and a list from
+//! an end), `Judges` (what a list of questions does to the state of a judge, and what judges answer), `Calls`
 //! (what a call gives of a list), `Linear` (what a linear call asks), `Searching` (what a binary or exponential call asks),
 //! `Search` (what the searches of a slice find).
 #![tactic(auto)]
@@ -11,7 +11,6 @@ pub mod end;
 pub mod gallop;
 pub mod judge;
 pub mod laws;
-pub mod questions;
 pub mod search;
 #[cfg(test)]
 mod tests;

@@ -16,7 +16,8 @@ pub(crate) struct Elements<'a, T> {
 }
 
 impl<'a, T, F: FnMut(&T) -> Ordering> Places<F> for Elements<'a, T> {
-    ghost may_compare = { λ f c i. (i < length c.slice.now) × ((x : T) → slice_get c.slice.now i ≡ Some x → TakesAt F.FnMut f x) };
+    ghost may_compare = { λ f c i. (i < length c.slice.now)
+        × ((x : T) → slice_get c.slice.now i ≡ Some x → TakesAt F.FnMut f x) };
 
     ghost compares = { λ f c i o h. (x : T) × (slice_get c.slice.now i ≡ Some x) × CalledAt F.FnMut f x o h };
 
@@ -34,9 +35,11 @@ pub(crate) struct Keyed<'a, T, B> {
 }
 
 impl<'a, T, B: Ord + Drop, F: FnMut(&T) -> B> Places<F> for Keyed<'a, T, B> {
-    ghost may_compare = { λ f c i. (i < length c.slice.now) × ((x : T) → slice_get c.slice.now i ≡ Some x → TakesAt F.FnMut f x) };
+    ghost may_compare = { λ f c i. (i < length c.slice.now)
+        × ((x : T) → slice_get c.slice.now i ≡ Some x → TakesAt F.FnMut f x) };
 
-    ghost compares = { λ f c i o h. (x : T) × (slice_get c.slice.now i ≡ Some x) × ComparesKey F.FnMut B.cmp c.key.now f x o h };
+    ghost compares = { λ f c i o h. (x : T) × (slice_get c.slice.now i ≡ Some x)
+        × ComparesKey F.FnMut B.cmp c.key.now f x o h };
 
     #[inline]
     fn compare(&self, asker: &mut F, place: usize) -> Ordering {
@@ -72,7 +75,8 @@ where
     ensures bound { IsSearchInRange result (length slice.now) }
     ensures questions { IsSearch (TakesAt F.FnMut) (CalledAt F.FnMut) slice.now f result }
     ensures boundary { (ord : T → Ordering) → Computes F.FnMut slice.now ord f → IsLocalAnswer ord slice.now result }
-    ensures found { (ord : T → Ordering) → Computes F.FnMut slice.now ord f → IsLessEqualGreater ord slice.now → FindsIn ord slice.now result }
+    ensures found { (ord : T → Ordering) → Computes F.FnMut slice.now ord f → IsLessEqualGreater ord slice.now
+        → FindsIn ord slice.now result }
 {
     gallop(&mut f, &Elements { slice }, slice.len())
 }
@@ -94,7 +98,8 @@ where
 pub fn exponential_search<T: Ord>(slice: &[T], elem: &T) -> Result<usize, usize>
     ensures bound { IsSearchInRange result (length slice.now) }
     ensures boundary { IsLocalAnswer (λ x. T.cmp x elem.now) slice.now result }
-    ensures found { IsLessEqualGreater (λ x. T.cmp x elem.now) slice.now → FindsIn (λ x. T.cmp x elem.now) slice.now result }
+    ensures found { IsLessEqualGreater (λ x. T.cmp x elem.now) slice.now
+        → FindsIn (λ x. T.cmp x elem.now) slice.now result }
     ensures sorted { NeverDescends T.cmp slice.now → FindsIn (λ x. T.cmp x elem.now) slice.now result }
 {
     exponential_search_by(slice, |x| x.cmp(elem))
@@ -118,9 +123,13 @@ where
     requires { MayCall F.FnMut slice.now f }
     ensures bound { IsSearchInRange result (length slice.now) }
     ensures questions { IsSearch (TakesAt F.FnMut) (ComparesKey F.FnMut B.cmp b.now) slice.now f result }
-    ensures boundary { (key : T → B) → Computes F.FnMut slice.now key f → IsLocalAnswer (λ x. B.cmp (key x) b.now) slice.now result }
-    ensures found { (key : T → B) → Computes F.FnMut slice.now key f → IsLessEqualGreater (λ x. B.cmp (key x) b.now) slice.now → FindsIn (λ x. B.cmp (key x) b.now) slice.now result }
-    ensures sorted { (key : T → B) → Computes F.FnMut slice.now key f → NeverDescends B.cmp (map key slice.now) → FindsIn (λ x. B.cmp (key x) b.now) slice.now result }
+    ensures boundary { (key : T → B) → Computes F.FnMut slice.now key f
+        → IsLocalAnswer (λ x. B.cmp (key x) b.now) slice.now result }
+    ensures found { (key : T → B) → Computes F.FnMut slice.now key f
+        → IsLessEqualGreater (λ x. B.cmp (key x) b.now) slice.now
+        → FindsIn (λ x. B.cmp (key x) b.now) slice.now result }
+    ensures sorted { (key : T → B) → Computes F.FnMut slice.now key f → NeverDescends B.cmp (map key slice.now)
+        → FindsIn (λ x. B.cmp (key x) b.now) slice.now result }
 {
     gallop(&mut f, &Keyed { slice, key: b }, slice.len())
 }

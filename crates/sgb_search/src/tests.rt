@@ -2,14 +2,14 @@
 ghost use Rattle.std.specs.Prelude.{◌≡◌, ◌+◌, ◌-◌, ◌*◌, ℕ, true, false, [], ◌∷◌, nat_eq, nat_lt};
 ghost use Rattle.sgb_search.specs.Searching.{digits};
 ghost use Rattle.sgb_search.specs.declared.end.End.TheVariants.{Front, Back};
-ghost use Rattle.sgb_search.specs.Lists.{neighbours};
+ghost use Rattle.sgb_search.specs.Split.{neighbours, split, refused_pairs};
 ghost use Rattle.sgb_search.specs.Linear.{questions};
-ghost use Rattle.sgb_search.specs.Split.{split, refused_pairs};
 
 fn splits()
     ensures nothing { split nat_eq [] ≡ [] }
     ensures one { split nat_eq (7 ∷ []) ≡ (7 ∷ []) ∷ [] }
-    ensures equal { split nat_eq (1 ∷ 1 ∷ 1 ∷ 3 ∷ 3 ∷ 2 ∷ 2 ∷ 2 ∷ []) ≡ (1 ∷ 1 ∷ 1 ∷ []) ∷ (3 ∷ 3 ∷ []) ∷ (2 ∷ 2 ∷ 2 ∷ []) ∷ [] }
+    ensures equal { split nat_eq (1 ∷ 1 ∷ 1 ∷ 3 ∷ 3 ∷ 2 ∷ 2 ∷ 2 ∷ [])
+        ≡ (1 ∷ 1 ∷ 1 ∷ []) ∷ (3 ∷ 3 ∷ []) ∷ (2 ∷ 2 ∷ 2 ∷ []) ∷ [] }
     ensures ascending { split nat_lt (1 ∷ 2 ∷ 3 ∷ 2 ∷ 3 ∷ []) ≡ (1 ∷ 2 ∷ 3 ∷ []) ∷ (2 ∷ 3 ∷ []) ∷ [] }
     ensures refused { refused_pairs nat_eq (1 ∷ 1 ∷ 1 ∷ 3 ∷ 3 ∷ 2 ∷ 2 ∷ 2 ∷ []) ≡ 2 }
 {}
@@ -17,7 +17,8 @@ fn splits()
 // Of 1, 2, 3, 2, 3 under `<` the first group has three elements and the last has two.
 fn questions()
     ensures pairs { neighbours {A = ℕ} (1 ∷ 2 ∷ 3 ∷ []) ≡ (1, 2) ∷ (2, 3) ∷ [] }
-    ensures front { questions {A = ℕ} Front (1 ∷ 2 ∷ 3 ∷ 2 ∷ 3 ∷ []) 3 ≡ ((1, 2), true) ∷ ((2, 3), true) ∷ ((3, 2), false) ∷ [] }
+    ensures front { questions {A = ℕ} Front (1 ∷ 2 ∷ 3 ∷ 2 ∷ 3 ∷ []) 3
+        ≡ ((1, 2), true) ∷ ((2, 3), true) ∷ ((3, 2), false) ∷ [] }
     ensures front_end { questions {A = ℕ} Front (2 ∷ 3 ∷ []) 2 ≡ ((2, 3), true) ∷ [] }
     ensures back { questions {A = ℕ} Back (1 ∷ 2 ∷ 3 ∷ 2 ∷ 3 ∷ []) 2 ≡ ((2, 3), true) ∷ ((3, 2), false) ∷ [] }
     ensures back_end { questions {A = ℕ} Back (1 ∷ 2 ∷ 3 ∷ []) 3 ≡ ((2, 3), true) ∷ ((1, 2), true) ∷ [] }

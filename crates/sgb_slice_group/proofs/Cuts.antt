@@ -16,10 +16,6 @@ module _ {T J C : Type 0} (asks : End → List T → ℕ → J → J → Type 0)
   call e s (Some x) t h = h
 
 module _ {T : Type 0} (xs : List T) (low high n : ℕ) where
-  -- a part that is not empty ends within the list
-  pub part_inside : 0 < length (slice_range xs low high) → low + length (slice_range xs low high) ≤ length xs
-  part_inside h = omega (arith, h, length-take (high - low) (drop low xs), length-drop low xs)
-
   -- cut after n of its elements
   module _ (inside : n ≤ length (slice_range xs low high)) where
     part_after : slice_range xs (low + n) high ≡ drop n (slice_range xs low high)

@@ -7,8 +7,7 @@ ghost use Rattle.sgb_search.specs.Judges.{by_predicate, predicate_judge};
 ghost use Rattle.sgb_slice_group.specs.Gives.{shown, seen};
 ghost use Rattle.sgb_loans.specs.GroupsMut.{NothingOut};
 
-use crate::group_end::GroupEnd;
-use crate::groups::SliceGroups;
+use crate::groups::{GroupEnd, SliceGroups};
 use crate::groups_mut::SliceGroupsMut;
 use sgb_search::judge::PredicateJudge;
 

@@ -136,16 +136,3 @@ impl<'a, T: fmt::Debug, F, K> fmt::Debug for SearchGroupsMut<'a, T, KeyJudge<F, 
         )
     }
 }
-
-// The loans, the key's type and the way to find a group take no bytes, and neither does the judge of equality.
-const _: () = prove!(size_of::<ExponentialGroupMut<'static, u32>>() == size_of::<&mut [u32]>());
-
-const _: () = prove!(
-    size_of::<ExponentialGroupByMut<'static, u32, (u64, u8)>>()
-        == size_of::<(&mut [u32], (u64, u8))>()
-);
-
-const _: () = prove!(
-    size_of::<ExponentialGroupByKeyMut<'static, u32, (u64, u8), [u8; 9]>>()
-        == size_of::<(&mut [u32], (u64, u8))>()
-);

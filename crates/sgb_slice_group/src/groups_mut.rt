@@ -5,7 +5,7 @@ ghost use Rattle.std.specs.Iterator.SizeHint.{IsWithinCount};
 ghost use Rattle.sgb_search.specs.declared.end.End.TheVariants.{Front, Back};
 ghost use Rattle.sgb_loans.specs.GroupsMut.{GroupsMut, NothingOut, groups_mut_left};
 
-use crate::group_end::GroupEnd;
+use crate::groups::GroupEnd;
 use crate::linear_group::Linear;
 use crate::searching::Search;
 use sgb_loans::loans::{Ended, Loans};

@@ -7,7 +7,6 @@ mod by_equality;
 mod by_key;
 mod by_predicate;
 pub mod exponential_group;
-pub mod group_end;
 pub mod groups;
 pub mod groups_mut;
 pub mod linear_group;

@@ -4,8 +4,7 @@ ghost use Rattle.sgb_search.specs.declared.end.End.TheVariants.{Front, Back};
 ghost use Rattle.sgb_search.specs.Judges.{IsRun};
 ghost use Rattle.sgb_search.specs.Linear.{questions, MayAskAlong};
 
-use crate::group_end::GroupEnd;
-use crate::groups::LinearGroups;
+use crate::groups::{GroupEnd, LinearGroups};
 use crate::groups_mut::LinearGroupsMut;
 use sgb_search::end::End;
 use sgb_search::judge::{EqualityJudge, Judge, KeyJudge, PredicateJudge};
@@ -84,7 +83,7 @@ pub struct Linear {}
 
 impl GroupEnd for Linear {
     ghost use Rattle.std.specs.Prelude.{true, ⊤};
-    ghost use Rattle.sgb_search.specs.Lists.{AreNeighbours, neighbours};
+    ghost use Rattle.sgb_search.specs.Split.{AreNeighbours, neighbours};
     ghost use Rattle.sgb_search.specs.Linear.{LinearQuestions, IsSettled};
     ghost use Rattle.sgb_search.proofs.LinearQueue as laws;
 
@@ -188,15 +187,3 @@ impl<'a, T: fmt::Debug, F, K> fmt::Debug for LinearGroupsMut<'a, T, KeyJudge<F, 
         )
     }
 }
-
-// The loans, the key's type and the way to find a group take no bytes, and neither does the judge of equality.
-const _: () = prove!(size_of::<LinearGroupMut<'static, u32>>() == size_of::<&mut [u32]>());
-
-const _: () = prove!(
-    size_of::<LinearGroupByMut<'static, u32, (u64, u8)>>() == size_of::<(&mut [u32], (u64, u8))>()
-);
-
-const _: () = prove!(
-    size_of::<LinearGroupByKeyMut<'static, u32, (u64, u8), [u8; 9]>>()
-        == size_of::<(&mut [u32], (u64, u8))>()
-);

@@ -1,10 +1,9 @@
 //! The binary and the exponential way to find a group: a search among the places beside the outermost element, at either end of a
 //! slice.
 ghost use Rattle.std.specs.Prelude.{◌≡◌, ◌<◌, ◌≤◌, Bool, length, reverse};
-ghost use Rattle.sgb_search.specs.Searching.{MayAskApart, SearchCost, SearchRun};
-ghost use Rattle.sgb_search.specs.Places.{MayProbe, IsSought, MayAskAt, AnsweredAt, side};
+ghost use Rattle.sgb_search.specs.Searching.{MayAskApart, SearchCost, SearchRun, MayCompareBetween, IsPlaceSearch, MayAskAt, AnsweredAt, as_ordering};
 
-use crate::group_end::GroupEnd;
+use crate::groups::GroupEnd;
 use sgb_search::end::End;
 use sgb_search::gallop::Places;
 use sgb_search::judge::Judge;
@@ -18,8 +17,10 @@ pub trait GroupSearch {
 
     /// Searches the places below `len`: those that answer `Less` should come before those that answer `Greater`.
     fn search<A, P: Places<A>>(asker: &mut A, places: &P, len: usize) -> Result<usize, usize>
-        requires { MayProbe (λ s i. P.may_compare s places.now i) (λ s i o t. P.compares s places.now i o t) 0 len asker.old }
-        ensures { IsSought (λ s i. P.may_compare s places.now i) (λ s i o t. P.compares s places.now i o t) cost len asker.old result asker.new };
+        requires { MayCompareBetween (λ s i. P.may_compare s places.now i)
+            (λ s i o t. P.compares s places.now i o t) 0 len asker.old }
+        ensures { IsPlaceSearch (λ s i. P.may_compare s places.now i) (λ s i o t. P.compares s places.now i o t)
+            cost 0 len asker.old result asker.new };
 }
 
 /// Asks about the outermost element and others, by the search `S`.
@@ -30,8 +31,7 @@ pub struct Search<S> {
 
 impl<S: GroupSearch> GroupEnd for Search<S> {
     ghost use Rattle.std.specs.Prelude.{false};
-    ghost use Rattle.sgb_search.specs.Lists.{AreApart};
-    ghost use Rattle.sgb_search.specs.Split.{IsGrouped};
+    ghost use Rattle.sgb_search.specs.Split.{AreApart, IsGrouped};
     ghost use Rattle.sgb_search.specs.Searching.{SearchQuestions, IsSettledApart};
     ghost use Rattle.sgb_search.proofs.SearchQueue as laws;
 
@@ -146,7 +146,7 @@ impl<'a, T, J: Judge<T>> Places<J> for FromBack<'a, T> {
 // The elements that are accepted lie before the end of the group.
 #[inline]
 fn before_end(accepted: bool) -> Ordering
-    ensures { result ≡ side accepted }
+    ensures { result ≡ as_ordering accepted }
 {
     if accepted {
         Ordering::Less

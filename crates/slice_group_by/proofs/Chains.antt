@@ -4,17 +4,16 @@ use Rattle.std.specs.Prelude.{option_map}
 use Rattle.std.specs.List.{AllByRecursion}
 use Rattle.std.proofs.lemmas.List.{append-nil, reverse-append}
 use Rattle.std.proofs.lemmas.Grind.{flat_map-append}
-use Rattle.sgb_search.specs.Lists.{put_at, TakesPart, first, last, without_first, without_last}
-use Rattle.sgb_search.specs.Split.{IsSplit, IsAccepted, TakesPiece, split, joined}
+use Rattle.sgb_search.specs.Split.{put_at, TakesPart, first, last, without_first, without_last, IsSplit, IsAccepted, TakesPiece, split, concat}
 use Rattle.sgb_search.proofs.Splits.{split_is, split_only}
 use Rattle.sgb_search.specs.declared.end.End.{End}
 use Rattle.sgb_search.specs.declared.end.End.TheVariants.{Front, Back}
 use Rattle.sgb_search.specs.Judges.{AsksWithin}
-use Rattle.slice_group_by.specs.Queue.{answers, left}
-use Rattle.slice_group_by.specs.Walk.{Partition, kept, IsChain, AnswersAsQueue}
+use Rattle.slice_group_by.specs.Queue.{pops, after_pops}
+use Rattle.slice_group_by.specs.Walk.{Partition, put_given, IsChain, AnswersAsQueue}
 
-pub joined_push : {A : Type 0} (gs : List (List A)) (g : List A) → joined (gs ++ g ∷ []) ≡ joined gs ++ g
-joined_push gs g = flat_map-append (λ x. x) gs (g ∷ []) ∙ ap (λ l. joined gs ++ l) (append-nil g)
+pub joined_push : {A : Type 0} (gs : List (List A)) (g : List A) → concat (gs ++ g ∷ []) ≡ concat gs ++ g
+joined_push gs g = flat_map-append (λ x. x) gs (g ∷ []) ∙ ap (λ l. concat gs ++ l) (append-nil g)
 
 first_accepted : {A : Type 0} (p : A → A → Bool) (x : List A) (ps : List (List A)) → AllByRecursion (IsAccepted p) ps → Some x ≡ first ps → IsAccepted p x
 first_accepted p x [] a e = cc e
@@ -50,13 +49,13 @@ piece_accepted Front p xs group ys h = first_accepted p group (split p xs) (spli
 piece_accepted Back p xs group ys h = last_accepted p group (split p xs) (split_is p xs).accepted h.0
 
 -- one call more, in front of the others: the front groups fs, what remains z, and the back groups bs join to ys
-part_at : {A : Type 0} (e : End) (o : Option (List A)) (xs ys : List A) (fs bs : List (List A)) (z : List A) → TakesPart e xs o ys → (joined fs ++ z) ++ joined (reverse bs) ≡ ys → (joined (kept Front e o fs) ++ z) ++ joined (reverse (kept Back e o bs)) ≡ xs
+part_at : {A : Type 0} (e : End) (o : Option (List A)) (xs ys : List A) (fs bs : List (List A)) (z : List A) → TakesPart e xs o ys → (concat fs ++ z) ++ concat (reverse bs) ≡ ys → (concat (put_given Front e o fs) ++ z) ++ concat (reverse (put_given Back e o bs)) ≡ xs
 part_at Front None xs ys fs bs z t h = h ∙ t.1 ∙ sym t.0
 part_at Back None xs ys fs bs z t h = h ∙ t.1 ∙ sym t.0
 part_at Front (Some g) xs ys fs bs z t h = simp append_assoc (ap (λ l. g ++ l) (simp append_assoc at h) ∙ sym t.1)
 part_at Back (Some g) xs ys fs bs z t h =
-    ap (λ l. (joined fs ++ z) ++ l) (ap joined (reverse-append (g ∷ []) bs) ∙ joined_push (reverse bs) g)
-    ∙ sym (append_assoc (joined fs ++ z) (joined (reverse bs)) g) ∙ ap (λ l. l ++ g) h ∙ sym t.1
+    ap (λ l. (concat fs ++ z) ++ l) (ap concat (reverse-append (g ∷ []) bs) ∙ joined_push (reverse bs) g)
+    ∙ sym (append_assoc (concat fs ++ z) (concat (reverse bs)) g) ∙ ap (λ l. l ++ g) h ∙ sym t.1
 
 module _ {Q I : Type 0} (gives : End → Q → Option I → Q → Type 0) where
   -- what each call keeps, the calls keep
@@ -83,8 +82,8 @@ module _ {Q I : Type 0} (gives : End → Q → Option I → Q → Type 0) where
     -- of a settled queue
     pub record Answered (settled : Q → (A → A → Bool) → Type 0) (p : A → A → Bool) (q : Q) (es : List End) (os : List (Option I)) (r : Q) : Type 0 where
       pub stays : settled r p
-      pub answers : map (option_map shows) os ≡ answers (split p (remainder q)) es
-      pub rest : split p (remainder r) ≡ left (split p (remainder q)) es
+      pub answers : map (option_map shows) os ≡ pops (split p (remainder q)) es
+      pub rest : split p (remainder r) ≡ after_pops (split p (remainder q)) es
 
     module _ (settled : Q → (A → A → Bool) → Type 0) (p : A → A → Bool) (piece : (e : End) (q : Q) (o : Option I) (t : Q) (p : A → A → Bool) → gives e q o t → settled q p → TakesPiece p e (remainder q) (option_map shows o) (remainder t) × settled t p) where
       pub chain_answers : (q : Q) (es : List End) (os : List (Option I)) (r : Q) → IsChain gives q es os r → settled q p → Answered settled p q es os r
@@ -98,7 +97,7 @@ module _ {Q I : Type 0} (gives : End → Q → Option I → Q → Type 0) where
           record {
             stays = later.stays;
             answers = rw (now.0, later.answers, now.1) refl;
-            rest = later.rest ∙ ap (λ ps. left ps es) now.1;
+            rest = later.rest ∙ ap (λ ps. after_pops ps es) now.1;
           }
 
       pub chain_settled : (q : Q) (es : List End) (os : List (Option I)) (r : Q) → IsChain gives q es os r → settled q p → settled r p × ((ps : List (List A)) × AnswersAsQueue p (remainder q) es (map (option_map shows) os) (remainder r) ps)

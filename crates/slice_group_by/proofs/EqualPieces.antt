@@ -3,11 +3,10 @@
 use Rattle.std.proofs.Common.{◌≡◌, Bool, List, ◌∷◌, ◌++◌, [], Some}
 use Rattle.sgb_search.specs.declared.end.End.{End}
 use Rattle.sgb_search.specs.declared.end.End.TheVariants.{Front, Back}
-use Rattle.sgb_search.specs.Lists.{AreNeighbours, put_at}
+use Rattle.sgb_search.specs.Split.{AreNeighbours, put_at, split}
 use Rattle.sgb_search.specs.declared.judge.EqualityJudge.{EqualityJudge}
 use Rattle.sgb_search.specs.Calls.{IsGroupAt}
 use Rattle.sgb_search.specs.Judges.{by_equality}
-use Rattle.sgb_search.specs.Split.{split}
 use Rattle.sgb_search.proofs.Equality.{equality_settled}
 use Rattle.sgb_search.specs.Linear.{LinearQuestions}
 use Rattle.sgb_search.proofs.LinearQueue.{piece}

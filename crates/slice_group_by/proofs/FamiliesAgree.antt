@@ -6,11 +6,11 @@ use Rattle.std.specs.Option.{option_copied_mut}
 use Rattle.sgb_search.specs.declared.judge.Judge.{Ghosts}
 use Rattle.sgb_slice_group.specs.declared.groups.SliceGroups.{SliceGroups}
 use Rattle.sgb_search.specs.Split.{split, TakesPiece}
-use Rattle.sgb_slice_group.specs.declared.group_end.GroupEnd.{Ghosts as WayGhosts}
+use Rattle.sgb_slice_group.specs.declared.groups.GroupEnd.{Ghosts as WayGhosts}
 use Rattle.sgb_slice_group.proofs.Cuts.{call}
 use Rattle.sgb_slice_group.specs.Gives.{shown, seen, Gives, GivesMut}
 use Rattle.sgb_search.specs.declared.end.End.{End}
-use Rattle.slice_group_by.specs.Queue.{answers}
+use Rattle.slice_group_by.specs.Queue.{pops}
 use Rattle.slice_group_by.specs.Walk.{IsChain}
 use Rattle.slice_group_by.proofs.Chains.{chain_answers}
 
@@ -26,7 +26,7 @@ module _ {T : Type 0} where
       → IsChain gives q ends out q' → IsChain gives' r ends other r' → map (option_map shows) out ≡ map (option_map shows') other
   queues_agree p gives remainder shows settled takes gives' remainder' shows' settled' takes' q q' r r' ends out other h h' same a b =
       (chain_answers gives remainder shows settled p takes q ends out q' a h).answers
-      ∙ ap (λ l. answers (split p l) ends) same
+      ∙ ap (λ l. pops (split p l) ends) same
       ∙ sym (chain_answers gives' remainder' shows' settled' p takes' r ends other r' b h').answers
 
 -- the calls of the groups of a slice do, for reading and for writing

@@ -3,7 +3,7 @@ use Rattle.std.proofs.Common.{◌≡◌, ℕ, ◌+◌, ◌-◌, ◌<◌, ◌≤�
 use Rattle.std.specs.Prelude.{◌≢◌, option_map, count_by, is_some}
 use Rattle.std.proofs.lemmas.List.Sums.{sum_by-cons}
 use Rattle.sgb_search.specs.declared.end.End.{End}
-use Rattle.sgb_search.specs.Lists.{TakesPart}
+use Rattle.sgb_search.specs.Split.{TakesPart}
 use Rattle.sgb_search.proofs.Ends.{length-put_at}
 use Rattle.slice_group_by.specs.Walk.{IsChain}
 

@@ -5,7 +5,7 @@ use Rattle.std.specs.Option.{option_copied_mut}
 use Rattle.std.specs.Borrow.{Bor, MutBor}
 use Rattle.sgb_search.specs.declared.judge.Judge.{Ghosts}
 use Rattle.sgb_search.specs.Judges.{IsRunOf}
-use Rattle.sgb_search.specs.Lists.{neighbours}
+use Rattle.sgb_search.specs.Split.{neighbours}
 use Rattle.sgb_search.specs.Calls.{Groups}
 use Rattle.sgb_search.proofs.Pairs.{length-neighbours}
 use Rattle.sgb_search.specs.Linear.{AsksEachOnce, LinearQuestions}

@@ -5,8 +5,7 @@ use Rattle.std.specs.Iterator.{Yields, Drains, AlwaysYields}
 use Rattle.std.specs.Iterator.Adapters.{rev_source, rev_steps}
 use Rattle.std.specs.declared.iter.Rev.{Rev}
 use Rattle.std.proofs.lemmas.List.{append-nil, reverse-append}
-use Rattle.sgb_search.specs.Lists.{from, put_at, TakesPart, item_at, without, last, without_last}
-use Rattle.sgb_search.specs.Split.{joined, split, TakesPiece}
+use Rattle.sgb_search.specs.Split.{from, put_at, TakesPart, item_at, without, last, without_last, concat, split, TakesPiece}
 use Rattle.sgb_search.proofs.Splits.{last_push, without_last_push}
 use Rattle.sgb_search.specs.declared.end.End.{End}
 use Rattle.sgb_search.specs.declared.end.End.TheVariants.{Front, Back}
@@ -62,20 +61,20 @@ module _ {Q I A : Type 0} (gives : End → Q → Option I → Q → Type 0) (rem
 
 module _ {Q I A : Type 0} (gives : End → Q → Option I → Q → Type 0) (remainder : Q → List A) (shows : I → List A) (part : (e : End) (q : Q) (o : Option I) (t : Q) → gives e q o t → TakesPart e (remainder q) (option_map shows o) (remainder t)) where
   pub yields_parts : (e : End) (q t : Q) (xs : List I) → Yields (gives e) q xs t
-      → put_at e (joined (from e (map shows xs))) (remainder t) ≡ remainder q
+      → put_at e (concat (from e (map shows xs))) (remainder t) ≡ remainder q
   yields_parts Front q t [] y = ap remainder (sym y)
   yields_parts Front q t (x ∷ xs) y =
-      append_assoc (shows x) (joined (map shows xs)) (remainder t)
+      append_assoc (shows x) (concat (map shows xs)) (remainder t)
       ∙ ap (λ l. shows x ++ l) (yields_parts Front y.0 t xs y.2) ∙ sym (part Front q (Some x) y.0 y.1).1
   yields_parts Back q t [] y = append-nil (remainder t) ∙ ap remainder (sym y)
   yields_parts Back q t (x ∷ xs) y =
-      ap (λ l. remainder t ++ l) (ap joined (reverse-append (shows x ∷ []) (map shows xs)) ∙ joined_push (reverse (map shows xs)) (shows x))
-      ∙ sym (append_assoc (remainder t) (joined (reverse (map shows xs))) (shows x))
+      ap (λ l. remainder t ++ l) (ap concat (reverse-append (shows x ∷ []) (map shows xs)) ∙ joined_push (reverse (map shows xs)) (shows x))
+      ∙ sym (append_assoc (remainder t) (concat (reverse (map shows xs))) (shows x))
       ∙ ap (λ l. l ++ shows x) (yields_parts Back y.0 t xs y.2) ∙ sym (part Back q (Some x) y.0 y.1).1
 
-  pub drains_parts : (e : End) (q : Q) (xs : List I) → Drains (gives e) q xs → joined (from e (map shows xs)) ≡ remainder q
+  pub drains_parts : (e : End) (q : Q) (xs : List I) → Drains (gives e) q xs → concat (from e (map shows xs)) ≡ remainder q
   drains_parts e q xs (u, (t, y, n)) =
-      sym (put_nothing e (joined (from e (map shows xs)))) ∙ ap (put_at e (joined (from e (map shows xs)))) (sym (part e t None u n).0)
+      sym (put_nothing e (concat (from e (map shows xs)))) ∙ ap (put_at e (concat (from e (map shows xs)))) (sym (part e t None u n).0)
       ∙ yields_parts e q t xs y
     where
       put_nothing : (e : End) (ys : List A) → put_at e ys [] ≡ ys

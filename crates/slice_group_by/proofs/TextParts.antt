@@ -5,7 +5,7 @@ use Rattle.std.specs.Str.{IsUtf8}
 use Rattle.std.specs.List.{AllByRecursion}
 use Rattle.std.specs.Borrow.{Bor, MutBor}
 use Rattle.sgb_search.specs.declared.judge.Judge.{Ghosts}
-use Rattle.sgb_search.specs.Lists.{TakesPart}
+use Rattle.sgb_search.specs.Split.{TakesPart}
 use Rattle.sgb_search.specs.Linear.{AsksEachOnce}
 use Rattle.sgb_linear_str_group.specs.declared.groups.LinearStrGroups.{LinearStrGroups}
 use Rattle.sgb_linear_str_group.specs.Texts.{shown_text, in_characters, GivesText}

@@ -5,8 +5,7 @@ use Rattle.std.proofs.Common.{◌≡◌, Bool, List, [], ◌∷◌, Some, sym, a
 use Rattle.std.specs.Borrow.{MutBor}
 use Rattle.sgb_search.specs.declared.end.End.{End}
 use Rattle.sgb_search.specs.declared.judge.Judge.{Ghosts}
-use Rattle.sgb_search.specs.Lists.{put_at}
-use Rattle.sgb_search.specs.Split.{split}
+use Rattle.sgb_search.specs.Split.{put_at, split}
 use Rattle.sgb_search.specs.Calls.{Groups}
 use Rattle.sgb_search.specs.Searching.{SearchCost, IsSettledApart, SearchQuestions}
 use Rattle.sgb_search.specs.Linear.{IsSettled, LinearQuestions}

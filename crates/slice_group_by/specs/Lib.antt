@@ -3,13 +3,11 @@ pub mod Walk
 pub mod Ranks
 pub mod Plans
 pub mod Join
-pub use Rattle.sgb_search.specs.Lists
 pub use Rattle.sgb_search.specs.Split
 pub use Rattle.sgb_search.specs.Judges
 pub use Rattle.sgb_search.specs.Calls
 pub use Rattle.sgb_search.specs.Linear
 pub use Rattle.sgb_search.specs.Searching
-pub use Rattle.sgb_search.specs.Places
 pub use Rattle.sgb_search.specs.Search
 pub use Rattle.sgb_slice_group.specs.Gives
 pub use Rattle.sgb_linear_str_group.specs.Texts

@@ -1,7 +1,7 @@
 -- What one call of a queue of groups does, and what a list of calls does.
 use Rattle.std.specs.Prelude.{◌≡◌, Bool, List, [], ◌∷◌, ◌++◌, Option, Some, reverse}
-use Rattle.sgb_search.specs.Split.{joined, IsSplit}
-use Rattle.slice_group_by.specs.Queue.{answers, left}
+use Rattle.sgb_search.specs.Split.{concat, IsSplit}
+use Rattle.slice_group_by.specs.Queue.{pops, after_pops}
 use Rattle.sgb_search.specs.declared.end.End.{End}
 use Rattle.sgb_search.specs.declared.end.End.TheVariants.{Front, Back}
 
@@ -13,24 +13,24 @@ IsChain gives q [] (o ∷ os) r = ⊥
 IsChain gives q (e ∷ es) [] r = ⊥
 
 -- x in front, if the call was at the end e and gave x
-abbrev pub kept : {X : Type 0} → End → End → Option X → List X → List X
-kept Front Front (Some x) xs = x ∷ xs
-kept Back Back (Some x) xs = x ∷ xs
-kept e d o xs = xs
+abbrev pub put_given : {X : Type 0} → End → End → Option X → List X → List X
+put_given Front Front (Some x) xs = x ∷ xs
+put_given Back Back (Some x) xs = x ∷ xs
+put_given e d o xs = xs
 
 -- what the calls at the end e gave, in the order of the calls
-abbrev pub handed : {X : Type 0} → End → List End → List (Option X) → List X
-handed e (d ∷ ds) (o ∷ os) = kept e d o (handed e ds os)
-handed e [] os = []
-handed e ds [] = []
+abbrev pub given_at : {X : Type 0} → End → List End → List (Option X) → List X
+given_at e (d ∷ ds) (o ∷ os) = put_given e d o (given_at e ds os)
+given_at e [] os = []
+given_at e ds [] = []
 
--- the front groups in order, what remains, and the back groups in reverse, joined, are the whole
+-- the front groups in order, what remains, and the back groups in reverse, one after another, are the whole
 abbrev pub Partition : {A : Type 0} → List End → List (Option (List A)) → List A → List A → Type 0
-Partition ends groups rest whole = joined (handed Front ends groups) ++ rest ++ joined (reverse (handed Back ends groups)) ≡ whole
+Partition ends groups rest whole = concat (given_at Front ends groups) ++ rest ++ concat (reverse (given_at Back ends groups)) ≡ whole
 
 -- exactly one list of pieces ps is the split of xs, the groups are the answers of a two-ended queue of ps, and ys is split into what is left of ps
 pub record AnswersAsQueue {A : Type 0} (p : A → A → Bool) (xs : List A) (ends : List End) (groups : List (Option (List A))) (ys : List A) (ps : List (List A)) : Type 0 where
   pub is_split : IsSplit p xs ps
   pub only : (qs : List (List A)) → IsSplit p xs qs → qs ≡ ps
-  pub gave : groups ≡ answers ps ends
-  pub rest : IsSplit p ys (left ps ends)
+  pub gave : groups ≡ pops ps ends
+  pub rest : IsSplit p ys (after_pops ps ends)

@@ -1,7 +1,7 @@
 //! Laws of the families of groups beside each other.
 ghost use Rattle.std.specs.Prelude.{◌≡◌, ℕ, Bool, List, length, Option, Some, map, option_map};
 ghost use Rattle.std.specs.Borrow.{Bor, MutBor};
-ghost use Rattle.sgb_search.specs.Lists.{from};
+ghost use Rattle.sgb_search.specs.Split.{from};
 ghost use Rattle.sgb_search.specs.Searching.{IsLocalEnd, ComputesApart, SearchQuestions};
 ghost use Rattle.sgb_slice_group.specs.declared.searching.Search.{Search};
 ghost use Rattle.sgb_slice_group.specs.declared.groups.SliceGroups.{SliceGroups};
@@ -11,8 +11,7 @@ ghost use Rattle.sgb_search.specs.declared.end.End.{End};
 ghost use Rattle.slice_group_by.specs.Walk.{IsChain};
 
 use sgb_search::judge::Judge;
-use sgb_slice_group::group_end::GroupEnd;
-use sgb_slice_group::groups::{SearchGroups, SliceGroups};
+use sgb_slice_group::groups::{GroupEnd, SearchGroups, SliceGroups};
 use sgb_slice_group::groups_mut::{SearchGroupsMut, SliceGroupsMut};
 use sgb_slice_group::searching::GroupSearch;
 

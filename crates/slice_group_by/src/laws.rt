@@ -11,8 +11,7 @@ ghost use Rattle.std.specs.declared.iter.Rev.{Rev};
 ghost use Rattle.std.proofs.lemmas.Iterator.{YieldsList};
 ghost use Rattle.std.specs.Str.{chars, IsUtf8};
 ghost use Rattle.std.specs.List.{AllByRecursion};
-ghost use Rattle.sgb_search.specs.Lists.{from, put_at, first, last, without};
-ghost use Rattle.sgb_search.specs.Split.{joined, IsAccepted, split};
+ghost use Rattle.sgb_search.specs.Split.{from, put_at, first, last, without, concat, IsAccepted, split};
 ghost use Rattle.sgb_search.specs.Judges.{IsRunOf, AsksWithin};
 ghost use Rattle.sgb_search.specs.declared.end.End.{End};
 ghost use Rattle.sgb_search.specs.declared.end.End.TheVariants.{Front, Back};
@@ -27,7 +26,7 @@ ghost use Rattle.sgb_search.specs.Searching.{digits};
 ghost use Rattle.slice_group_by.specs.declared.plans.Plan.{Plan};
 ghost use Rattle.slice_group_by.specs.Plans.{run, IsRight, IsHalvingPlan};
 ghost use Rattle.slice_group_by.specs.Walk.{Partition, IsChain};
-ghost use Rattle.slice_group_by.specs.Queue.{answers, left};
+ghost use Rattle.slice_group_by.specs.Queue.{pops, after_pops};
 
 pub use crate::counts::{
     calls_ask, linear_counts, mapped_calls_ask, questions_count, search_asks, text_questions_count,
@@ -92,9 +91,9 @@ pub fn chains_answer<Q: GroupQueue>(_queue: &Q)
     ensures partition { (q t : Q) (ends : List End) (out : List (Option Q.Item))
         → IsChain Q.gives q ends out t → Partition ends (map (option_map Q.shows) out) (Q.remainder t) (Q.remainder q) }
     ensures pieces { (p : Q.Element → Q.Element → Bool) (q t : Q) (ends : List End) (out : List (Option Q.Item))
-        → IsChain Q.gives q ends out t → Q.is_settled q p → map (option_map Q.shows) out ≡ answers (split p (Q.remainder q)) ends }
+        → IsChain Q.gives q ends out t → Q.is_settled q p → map (option_map Q.shows) out ≡ pops (split p (Q.remainder q)) ends }
     ensures left { (p : Q.Element → Q.Element → Bool) (q t : Q) (ends : List End) (out : List (Option Q.Item))
-        → IsChain Q.gives q ends out t → Q.is_settled q p → split p (Q.remainder t) ≡ left (split p (Q.remainder q)) ends }
+        → IsChain Q.gives q ends out t → Q.is_settled q p → split p (Q.remainder t) ≡ after_pops (split p (Q.remainder q)) ends }
     ensures settled { (p : Q.Element → Q.Element → Bool) (q t : Q) (ends : List End) (out : List (Option Q.Item))
         → IsChain Q.gives q ends out t → Q.is_settled q p → Q.is_settled t p }
     ensures questions { (q t : Q) (ends : List End) (out : List (Option Q.Item))
@@ -117,9 +116,9 @@ pub fn sees_pieces<Q: GroupQueue>(_queue: &Q)
 #[inline]
 pub fn groups_join<Q: GroupQueue>(_queue: &Q)
     ensures part { (e : End) (q t : Q) (groups : List Q.Item) → Yields (Q.gives e) q groups t
-        → put_at e (joined (from e (map Q.shows groups))) (Q.remainder t) ≡ Q.remainder q }
+        → put_at e (concat (from e (map Q.shows groups))) (Q.remainder t) ≡ Q.remainder q }
     ensures whole { (e : End) (q : Q) (groups : List Q.Item) → Drains (Q.gives e) q groups
-        → joined (from e (map Q.shows groups)) ≡ Q.remainder q }
+        → concat (from e (map Q.shows groups)) ≡ Q.remainder q }
 {}
 
 /// Front and back agree: the groups from the back until nothing remains are, in reverse, those from the front, for every
@@ -171,9 +170,9 @@ pub fn texts_join<J: Judge<char>>(_groups: &LinearStrGroups<'_, J>)
     ensures calls { (s t : LinearStrGroups J) (ends : List End) (out : List (Option (Bor (List ℕ))))
         → IsChain (GivesText J.Judge) s ends out t → Partition ends (map (option_map (λ group. group.now)) out) (shown_text t).text (shown_text s).text }
     ensures part { (e : End) (s t : LinearStrGroups J) (groups : List (Bor (List ℕ))) → Yields (GivesText J.Judge e) s groups t
-        → put_at e (joined (from e (map (λ group. group.now) groups))) (shown_text t).text ≡ (shown_text s).text }
+        → put_at e (concat (from e (map (λ group. group.now) groups))) (shown_text t).text ≡ (shown_text s).text }
     ensures whole { (e : End) (s : LinearStrGroups J) (groups : List (Bor (List ℕ))) → Drains (GivesText J.Judge e) s groups
-        → joined (from e (map (λ group. group.now) groups)) ≡ (shown_text s).text }
+        → concat (from e (map (λ group. group.now) groups)) ≡ (shown_text s).text }
 {}
 
 /// The same of the bytes of a text for writing. Each group of a list of calls is UTF-8, as it was when it was handed out.
@@ -185,9 +184,9 @@ pub fn texts_join_mut<J: Judge<char>>(_groups: &LinearStrGroupsMut<'_, J>)
     ensures calls { (s t : TextGroupsMut J) (ends : List End) (out : List (Option (MutBor (List ℕ))))
         → IsChain (GivesTextMut J.Judge) s ends out t → Partition ends (map (option_map (λ group. group.now)) out) t.text s.text }
     ensures part { (e : End) (s t : TextGroupsMut J) (groups : List (MutBor (List ℕ))) → Yields (GivesTextMut J.Judge e) s groups t
-        → put_at e (joined (from e (map (λ group. group.now) groups))) t.text ≡ s.text }
+        → put_at e (concat (from e (map (λ group. group.now) groups))) t.text ≡ s.text }
     ensures whole { (e : End) (s : TextGroupsMut J) (groups : List (MutBor (List ℕ))) → Drains (GivesTextMut J.Judge e) s groups
-        → joined (from e (map (λ group. group.now) groups)) ≡ s.text }
+        → concat (from e (map (λ group. group.now) groups)) ≡ s.text }
 {}
 
 /// A list of calls on a text asks about each pair of neighbouring characters that goes once, however the ends are mixed, and

@@ -8,7 +8,7 @@ impl<'a, J: Judge<char> + Drop> GroupQueue for LinearStrGroups<'a, J> {
 
     ghost use Rattle.std.specs.Prelude.{ℕ, length, true};
     ghost use Rattle.std.specs.Str.{chars};
-    ghost use Rattle.sgb_search.specs.Lists.{neighbours};
+    ghost use Rattle.sgb_search.specs.Split.{neighbours};
     ghost use Rattle.sgb_search.specs.Judges.{IsRunOf};
     ghost use Rattle.sgb_search.proofs.Runs.{run_of_none, run_of_more};
     ghost use Rattle.sgb_linear_str_group.specs.Texts.{shown_text, IsCallableText, IsSettledText, GivesText};

@@ -1,11 +1,10 @@
 //! Groups as a two-ended queue, and a walk over it.
 ghost use Rattle.std.specs.Prelude.{◌≡◌, ℕ, ◌+◌, Bool, List, ◌++◌, length, Option, None, map, option_map, reverse, ⊤};
-ghost use Rattle.sgb_search.specs.Lists.{TakesPart};
-ghost use Rattle.sgb_search.specs.Split.{split, TakesPiece};
+ghost use Rattle.sgb_search.specs.Split.{TakesPart, split, TakesPiece};
 ghost use Rattle.sgb_search.specs.Judges.{AsksWithin};
 ghost use Rattle.sgb_search.specs.declared.end.End.{End};
 ghost use Rattle.sgb_search.specs.declared.end.End.TheVariants.{Front, Back};
-ghost use Rattle.slice_group_by.specs.Queue.{answers, left};
+ghost use Rattle.slice_group_by.specs.Queue.{pops, after_pops};
 ghost use Rattle.slice_group_by.specs.Walk.{Partition, IsChain, AnswersAsQueue};
 
 pub use sgb_search::end::End;
@@ -122,9 +121,9 @@ pub fn walk<Q: GroupQueue>(queue: &mut Q, ends: &[End], out: &mut [Option<Q::Ite
         → Q.is_settled queue.new p
         × ((ps : List (List Q.Element)) × AnswersAsQueue p (Q.remainder queue.old) ends.now groups (Q.remainder queue.new) ps) }
     ensures pieces { (p : Q.Element → Q.Element → Bool) → Q.is_settled queue.old p
-        → map (option_map Q.shows) out.new ≡ answers (split p (Q.remainder queue.old)) ends.now }
+        → map (option_map Q.shows) out.new ≡ pops (split p (Q.remainder queue.old)) ends.now }
     ensures left { (p : Q.Element → Q.Element → Bool) → Q.is_settled queue.old p
-        → split p (Q.remainder queue.new) ≡ left (split p (Q.remainder queue.old)) ends.now }
+        → split p (Q.remainder queue.new) ≡ after_pops (split p (Q.remainder queue.old)) ends.now }
 
     // Whatever the judge answers, no more questions are asked than were due before and are not due after.
     ensures questions { AsksWithin Q.asked Q.due Q.exact queue.old queue.new }

@@ -1,8 +1,7 @@
 //! The groups of a slice for reading as queues.
 use crate::queue::GroupQueue;
 use sgb_search::judge::Judge;
-use sgb_slice_group::group_end::GroupEnd;
-use sgb_slice_group::groups::SliceGroups;
+use sgb_slice_group::groups::{GroupEnd, SliceGroups};
 
 impl<'a, T, J: Judge<T> + Drop, C: GroupEnd> GroupQueue for SliceGroups<'a, T, J, C> {
     type Item = &'a [T];

@@ -1,7 +1,7 @@
 //! The groups of a slice for writing as queues: what holds of the groups for reading holds of what these show.
 use crate::queue::GroupQueue;
 use sgb_search::judge::Judge;
-use sgb_slice_group::group_end::GroupEnd;
+use sgb_slice_group::groups::GroupEnd;
 use sgb_slice_group::groups_mut::SliceGroupsMut;
 
 impl<'a, T, J: Judge<T> + Drop, C: GroupEnd> GroupQueue for SliceGroupsMut<'a, T, J, C> {

@@ -3,7 +3,7 @@
 ghost use Rattle.std.specs.Prelude.{◌≡◌, ◌/◌, Bool, length, map, option_map, nat_eq, nat_lt};
 ghost use Rattle.std.specs.Fn.{ComputesOnPairs, ComputesKey};
 ghost use Rattle.slice_group_by.specs.Split.{split};
-ghost use Rattle.slice_group_by.specs.Queue.{answers};
+ghost use Rattle.slice_group_by.specs.Queue.{pops};
 
 use slice_group_by::laws::{always_callable, always_callable_key};
 use slice_group_by::{End, GroupBy, LinearGroupBy, LinearGroupByKey, walk};
@@ -11,7 +11,7 @@ use slice_group_by::{End, GroupBy, LinearGroupBy, LinearGroupByKey, walk};
 /// A walk by a closure that computes nothing beside its answer.
 pub fn equal_bytes<'a>(slice: &'a &[u8], ends: &[End], out: &mut [Option<&'a [u8]>])
     requires { length out.old ≡ length ends.now }
-    ensures { map (option_map (λ group. group.now)) out.new ≡ answers (split nat_eq slice.now.now) ends.now }
+    ensures { map (option_map (λ group. group.now)) out.new ≡ pops (split nat_eq slice.now.now) ends.now }
 {
     let mut groups = slice.linear_group_by(|a, b| a == b);
     walk(&mut groups, ends, out);
@@ -20,7 +20,7 @@ pub fn equal_bytes<'a>(slice: &'a &[u8], ends: &[End], out: &mut [Option<&'a [u8
 /// A walk by a test that is not symmetric.
 pub fn ascending<'a>(slice: &'a &[u32], ends: &[End], out: &mut [Option<&'a [u32]>])
     requires { length out.old ≡ length ends.now }
-    ensures { map (option_map (λ group. group.now)) out.new ≡ answers (split nat_lt slice.now.now) ends.now }
+    ensures { map (option_map (λ group. group.now)) out.new ≡ pops (split nat_lt slice.now.now) ends.now }
 {
     let mut groups = slice.linear_group_by(|a, b| a < b);
     walk(&mut groups, ends, out);
@@ -30,7 +30,7 @@ pub fn ascending<'a>(slice: &'a &[u32], ends: &[End], out: &mut [Option<&'a [u32
 pub fn below<'a>(slice: &'a &[u32], k: u32, ends: &[End], out: &mut [Option<&'a [u32]>])
     requires { length out.old ≡ length ends.now }
     ensures { map (option_map (λ group. group.now)) out.new
-        ≡ answers (split (λ _ b. nat_lt b k) slice.now.now) ends.now }
+        ≡ pops (split (λ _ b. nat_lt b k) slice.now.now) ends.now }
 {
     let mut groups = slice.linear_group_by(|_a, b| *b < k);
     walk(&mut groups, ends, out);
@@ -39,7 +39,7 @@ pub fn below<'a>(slice: &'a &[u32], k: u32, ends: &[End], out: &mut [Option<&'a 
 /// A walk by a closure that counts its calls.
 pub fn counted<'a>(slice: &'a &[u32], ends: &[End], out: &mut [Option<&'a [u32]>]) -> u32
     requires { length out.old ≡ length ends.now }
-    ensures { map (option_map (λ group. group.now)) out.new ≡ answers (split nat_lt slice.now.now) ends.now }
+    ensures { map (option_map (λ group. group.now)) out.new ≡ pops (split nat_lt slice.now.now) ends.now }
 {
     let mut count = 0u32;
     let mut groups = slice.linear_group_by(|a: &u32, b: &u32| {
@@ -54,7 +54,7 @@ pub fn counted<'a>(slice: &'a &[u32], ends: &[End], out: &mut [Option<&'a [u32]>
 pub fn by_tens<'a>(slice: &'a &[u8], ends: &[End], out: &mut [Option<&'a [u8]>])
     requires { length out.old ≡ length ends.now }
     ensures { map (option_map (λ group. group.now)) out.new
-        ≡ answers (split (λ a b. nat_eq (a / 10) (b / 10)) slice.now.now) ends.now }
+        ≡ pops (split (λ a b. nat_eq (a / 10) (b / 10)) slice.now.now) ends.now }
 {
     let mut groups = slice.linear_group_by_key(|a| *a / 10);
     walk(&mut groups, ends, out);
@@ -70,7 +70,7 @@ pub fn groups_by<'a, T, P: FnMut(&T, &T) -> bool>(
     requires len { length out.old ≡ length ends.now }
     requires callable { P.IsAlwaysCallable predicate }
     ensures { (p : T → T → Bool) → ComputesOnPairs P.FnMut p predicate
-        → map (option_map (λ group. group.now)) out.new ≡ answers (split p xs.now) ends.now }
+        → map (option_map (λ group. group.now)) out.new ≡ pops (split p xs.now) ends.now }
 {
     always_callable::<T, P>();
     let mut groups = LinearGroupBy::new(xs, predicate);
@@ -88,7 +88,7 @@ pub fn groups_by_key<'a, T, F: FnMut(&T) -> K, K: PartialEq + Drop>(
     requires callable { F.IsAlwaysCallable func }
     ensures { (key : T → K) → ComputesKey F.FnMut key func
         → map (option_map (λ group. group.now)) out.new
-        ≡ answers (split (λ a b. K.eq (key a) (key b)) xs.now) ends.now }
+        ≡ pops (split (λ a b. K.eq (key a) (key b)) xs.now) ends.now }
 {
     always_callable_key::<T, F, K>();
     let mut groups = LinearGroupByKey::new(xs, func);

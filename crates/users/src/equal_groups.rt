@@ -1,8 +1,7 @@
 //! Groups of equal elements: calls as of a queue, the outer groups, their number, and their lengths.
 ghost use Rattle.std.specs.Prelude.{◌≡◌, ◌+◌, ◌<◌, ◌≤◌, length, map, option_map, take, drop};
-ghost use Rattle.slice_group_by.specs.Lists.{first, last, without_first};
-ghost use Rattle.slice_group_by.specs.Split.{split, refused_pairs};
-ghost use Rattle.slice_group_by.specs.Queue.{answers};
+ghost use Rattle.slice_group_by.specs.Split.{first, last, without_first, split, refused_pairs};
+ghost use Rattle.slice_group_by.specs.Queue.{pops};
 
 use slice_group_by::laws::{calls_take_pieces, one_split, sees_pieces};
 use slice_group_by::{End, LinearGroup, walk};
@@ -10,7 +9,7 @@ use slice_group_by::{End, LinearGroup, walk};
 /// Calls at these ends answer as the two-ended queue of the pieces of the split.
 pub fn equal_groups<'a, T: PartialEq>(xs: &'a [T], ends: &[End], out: &mut [Option<&'a [T]>])
     requires { length out.old ≡ length ends.now }
-    ensures { map (option_map (λ group. group.now)) out.new ≡ answers (split T.eq xs.now) ends.now }
+    ensures { map (option_map (λ group. group.now)) out.new ≡ pops (split T.eq xs.now) ends.now }
 {
     let mut groups = LinearGroup::new(xs);
     walk(&mut groups, ends, out);

@@ -3,7 +3,7 @@ ghost use Rattle.std.specs.Prelude.{◌≡◌, ℕ, Bool, List, [], ◌∷◌, �
 ghost use Rattle.std.specs.Str.{chars};
 ghost use Rattle.slice_group_by.specs.Judges.{ComputesOnChars, ComputesCharKey};
 ghost use Rattle.slice_group_by.specs.Split.{split};
-ghost use Rattle.slice_group_by.specs.Queue.{answers};
+ghost use Rattle.slice_group_by.specs.Queue.{pops};
 
 use slice_group_by::laws::{always_callable_char_key, always_callable_chars, sees_pieces};
 use slice_group_by::{
@@ -13,7 +13,7 @@ use slice_group_by::{
 /// Calls at these ends answer as the two-ended queue of the pieces of the split of the characters.
 pub fn equal_runs<'a>(text: &'a str, ends: &[End], out: &mut [Option<&'a str>])
     requires { length out.old ≡ length ends.now }
-    ensures { map (option_map (λ group. chars group.now)) out.new ≡ answers (split nat_eq (chars text.now)) ends.now }
+    ensures { map (option_map (λ group. chars group.now)) out.new ≡ pops (split nat_eq (chars text.now)) ends.now }
 {
     let mut groups = LinearStrGroup::new(text);
     walk(&mut groups, ends, out);
@@ -23,7 +23,7 @@ pub fn equal_runs<'a>(text: &'a str, ends: &[End], out: &mut [Option<&'a str>])
 pub fn ascending<'a>(text: &'a &str, ends: &[End], out: &mut [Option<&'a str>])
     requires { length out.old ≡ length ends.now }
     ensures { map (option_map (λ group. chars group.now)) out.new
-        ≡ answers (split nat_lt (chars text.now.now)) ends.now }
+        ≡ pops (split nat_lt (chars text.now.now)) ends.now }
 {
     let mut groups = text.linear_group_by(|a, b| a < b);
     walk(&mut groups, ends, out);
@@ -39,7 +39,7 @@ pub fn groups_by<'a, P: FnMut(char, char) -> bool>(
     requires len { length out.old ≡ length ends.now }
     requires callable { P.IsAlwaysCallable predicate }
     ensures { (p : ℕ → ℕ → Bool) → ComputesOnChars P.FnMut p predicate
-        → map (option_map (λ group. chars group.now)) out.new ≡ answers (split p (chars text.now)) ends.now }
+        → map (option_map (λ group. chars group.now)) out.new ≡ pops (split p (chars text.now)) ends.now }
 {
     always_callable_chars::<P>();
     let mut groups = LinearStrGroupBy::new(text, predicate);
@@ -57,7 +57,7 @@ pub fn groups_by_key<'a, F: FnMut(char) -> K, K: PartialEq + Drop>(
     requires callable { F.IsAlwaysCallable func }
     ensures { (key : ℕ → K) → ComputesCharKey F.FnMut key func
         → map (option_map (λ group. chars group.now)) out.new
-        ≡ answers (split (λ a b. K.eq (key a) (key b)) (chars text.now)) ends.now }
+        ≡ pops (split (λ a b. K.eq (key a) (key b)) (chars text.now)) ends.now }
 {
     always_callable_char_key::<F, K>();
     let mut groups = LinearStrGroupByKey::new(text, func);

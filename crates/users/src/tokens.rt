@@ -3,8 +3,7 @@ ghost use Rattle.std.specs.Prelude.{◌≡◌, ◌≢◌, ◌≤◌, ℕ, [], So
 ghost use Rattle.std.specs.List.{AllByRecursion};
 ghost use Rattle.std.specs.Str.{chars};
 ghost use Rattle.std.specs.Char.{is_ascii_alphabetic, is_ascii_digit};
-ghost use Rattle.slice_group_by.specs.Lists.{first, last, neighbours};
-ghost use Rattle.slice_group_by.specs.Split.{joined};
+ghost use Rattle.slice_group_by.specs.Split.{first, last, neighbours, concat};
 
 use slice_group_by::StrGroupBy;
 use slice_group_by::laws::{one_split, sees_pieces, texts_join};
@@ -26,7 +25,7 @@ pub fn class(c: char) -> u8
 pub fn tokens<'a>(text: &'a &str, out: &mut [&'a str]) -> usize
     requires { length text.now.now ≤ length out.old }
     ensures count { result ≤ length out.new }
-    ensures joined { joined (map (λ t. t.now) (take result out.new)) ≡ text.now.now }
+    ensures joined { concat (map (λ t. t.now) (take result out.new)) ≡ text.now.now }
     ensures nonempty { AllByRecursion (λ t. t.now ≢ []) (take result out.new) }
     ensures of_one_class { let class : ℕ → ℕ = λ c. cond (is_ascii_alphabetic c) 0 (cond (is_ascii_digit c) 1 2) in
         AllByRecursion (λ t. (k : ℕ) × AllByRecursion (λ c. class c ≡ k) (chars t.now)) (take result out.new) }

@@ -5,7 +5,7 @@ ghost use Rattle.slice_group_by.specs.Judges.{by_key};
 ghost use Rattle.slice_group_by.specs.Searching.{IsCallableApart, IsSettledApart};
 ghost use Rattle.slice_group_by.specs.Gives.{seen};
 ghost use Rattle.slice_group_by.specs.Search.{NeverDescends};
-ghost use Rattle.slice_group_by.specs.Split.{split, joined};
+ghost use Rattle.slice_group_by.specs.Split.{split, concat};
 ghost use Rattle.users.specs.Keys.{same_key};
 ghost use Rattle.users.specs.Totals.{total, kept};
 
@@ -32,7 +32,7 @@ fn totals_kept<'a, F: FnMut(&Entry) -> u32>(
     requires after { groups.loans.after ≡ [] }
     requires cuts { groups.loans.cuts ≡ [] }
     ensures name { result.name ≡ groups.entry.loans.root }
-    ensures value { result.value ≡ joined (map kept (split same_key groups.entry.remainder)) }
+    ensures value { result.value ≡ concat (map kept (split same_key groups.entry.remainder)) }
 {
     calls_take_pieces(&groups);
     while let Some(group) = groups.next() {
@@ -46,7 +46,7 @@ fn totalled(slice: &mut [Entry]) -> Ended<'_, Entry>
     requires sorted { NeverDescends nat_cmp (map (λ e. e.0) slice.old) }
     requires fits { total slice.old ≤ 4294967295 }
     ensures name { result.name ≡ slice.entry.ghost_name }
-    ensures value { result.value ≡ joined (map kept (split same_key slice.old)) }
+    ensures value { result.value ≡ concat (map kept (split same_key slice.old)) }
 {
     ascending_is_grouped::<Entry, u32>();
     totals_kept(ExponentialGroupByKeyMut::new(slice, |e| e.0))
@@ -58,7 +58,7 @@ fn totalled(slice: &mut [Entry]) -> Ended<'_, Entry>
 pub fn keep_totals(slice: &mut [Entry])
     requires sorted { NeverDescends nat_cmp (map (λ e. e.0) slice.old) }
     requires fits { total slice.old ≤ 4294967295 }
-    ensures { slice.new ≡ joined (map kept (split same_key slice.old)) }
+    ensures { slice.new ≡ concat (map kept (split same_key slice.old)) }
 {
     settle(slice, |part| totalled(part));
 }

@@ -1,6 +1,6 @@
 //! Slices written through their groups: each filled, cleared or reversed, and the first and last held at once.
 ghost use Rattle.std.specs.Prelude.{◌≡◌, ℕ, [], List, ◌++◌, replicate, length, map, reverse, nat_eq};
-ghost use Rattle.slice_group_by.specs.Split.{joined, split};
+ghost use Rattle.slice_group_by.specs.Split.{concat, split};
 
 use slice_group_by::LinearGroupMut;
 use slice_group_by::loans::{Ended, settle};
@@ -82,7 +82,7 @@ pub fn clear_all(slice: &mut [u8])
 #[tactic(auto, using(std::proofs::lemmas::Grind::common_steps, slice_group_by::proofs::EqualPieces::equal_piece))]
 fn reversed(slice: &mut [u8]) -> Ended<'_, u8>
     ensures name { result.name ≡ slice.entry.ghost_name }
-    ensures value { result.value ≡ joined (map reverse (split nat_eq slice.old)) }
+    ensures value { result.value ≡ concat (map reverse (split nat_eq slice.old)) }
 {
     let mut groups = LinearGroupMut::new(slice);
     while let Some(group) = groups.next() {
@@ -94,7 +94,7 @@ fn reversed(slice: &mut [u8]) -> Ended<'_, u8>
 
 /// Reverses each group in place.
 pub fn reverse_groups(slice: &mut [u8])
-    ensures { slice.new ≡ joined (map reverse (split nat_eq slice.old)) }
+    ensures { slice.new ≡ concat (map reverse (split nat_eq slice.old)) }
 {
     settle(slice, |part| reversed(part));
 }

@@ -6,5 +6,6 @@ mod counted;
 mod counts;
 mod debug;
 mod questions;
+mod sizes;
 mod units;
 mod writing;

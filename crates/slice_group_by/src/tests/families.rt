@@ -5,7 +5,7 @@ ghost use Rattle.std.specs.Ordering.{nat_cmp};
 ghost use Rattle.slice_group_by.specs.Split.{IsGrouped, split};
 ghost use Rattle.slice_group_by.specs.Searching.{digits, IsLocalEnd};
 ghost use Rattle.slice_group_by.specs.Search.{NeverDescends};
-ghost use Rattle.slice_group_by.specs.Queue.{answers};
+ghost use Rattle.slice_group_by.specs.Queue.{pops};
 
 use crate::laws::{
     ascending_is_grouped, equality_judges, groups_end_locally, sees_pieces, sorts_ascend,
@@ -73,7 +73,7 @@ fn walk_families_mut<'a, T: Ord>(
 fn walk_by_tens<'a>(slice: &'a &[u8], ends: &[End], out: &mut [Option<&'a [u8]>])
     requires grouped { IsGrouped (λ a b. nat_eq (a / 10) (b / 10)) slice.now.now }
     requires len { length out.old ≡ length ends.now }
-    ensures { map (option_map (λ group. group.now)) out.new ≡ answers (split (λ a b. nat_eq (a / 10) (b / 10)) slice.now.now) ends.now }
+    ensures { map (option_map (λ group. group.now)) out.new ≡ pops (split (λ a b. nat_eq (a / 10) (b / 10)) slice.now.now) ends.now }
 {
     let mut groups = slice.binary_group_by(|a, b| *a / 10 == *b / 10);
     walk(&mut groups, ends, out);
@@ -83,7 +83,7 @@ fn walk_by_tens<'a>(slice: &'a &[u8], ends: &[End], out: &mut [Option<&'a [u8]>]
 fn walk_by_first<'a>(slice: &'a [(u32, u32)], ends: &[End], out: &mut [Option<&'a [(u32, u32)]>])
     requires sorted { NeverDescends nat_cmp (map (λ e. e.0) slice.now) }
     requires len { length out.old ≡ length ends.now }
-    ensures { map (option_map (λ group. group.now)) out.new ≡ answers (split (λ a b. nat_eq a.0 b.0) slice.now) ends.now }
+    ensures { map (option_map (λ group. group.now)) out.new ≡ pops (split (λ a b. nat_eq a.0 b.0) slice.now) ends.now }
 {
     ascending_is_grouped::<(u32, u32), u32>();
     let mut groups = ExponentialGroupByKey::new(slice, |e| e.0);

@@ -1,8 +1,8 @@
 //! Walks at concrete types, and the definitions of a queue computed at small cases.
 ghost use Rattle.std.specs.Prelude.{◌≡◌, ℕ, [], ◌∷◌, Some, None};
 ghost use Rattle.sgb_search.specs.declared.end.End.TheVariants.{Front, Back};
-ghost use Rattle.slice_group_by.specs.Queue.{answers, left};
-ghost use Rattle.slice_group_by.specs.Walk.{handed};
+ghost use Rattle.slice_group_by.specs.Queue.{pops, after_pops};
+ghost use Rattle.slice_group_by.specs.Walk.{given_at};
 
 use crate::{End, LinearGroup, walk};
 
@@ -43,10 +43,10 @@ fn over_nothing(rt: HostRuntime) {
 }
 
 fn queue_of_three()
-    ensures answers { answers {X = ℕ} (1 ∷ 2 ∷ 3 ∷ []) (Front ∷ Back ∷ Front ∷ Back ∷ Front ∷ []) ≡ Some 1 ∷ Some 3 ∷ Some 2 ∷ None ∷ None ∷ [] }
-    ensures left { left {X = ℕ} (1 ∷ 2 ∷ 3 ∷ []) (Front ∷ Back ∷ []) ≡ 2 ∷ [] }
-    ensures front { handed {X = ℕ} Front (Front ∷ Back ∷ Front ∷ Back ∷ Front ∷ []) (Some 1 ∷ Some 3 ∷ Some 2 ∷ None ∷ None ∷ []) ≡ 1 ∷ 2 ∷ [] }
-    ensures back { handed {X = ℕ} Back (Front ∷ Back ∷ Front ∷ Back ∷ Front ∷ []) (Some 1 ∷ Some 3 ∷ Some 2 ∷ None ∷ None ∷ []) ≡ 3 ∷ [] }
+    ensures answers { pops {X = ℕ} (1 ∷ 2 ∷ 3 ∷ []) (Front ∷ Back ∷ Front ∷ Back ∷ Front ∷ []) ≡ Some 1 ∷ Some 3 ∷ Some 2 ∷ None ∷ None ∷ [] }
+    ensures left { after_pops {X = ℕ} (1 ∷ 2 ∷ 3 ∷ []) (Front ∷ Back ∷ []) ≡ 2 ∷ [] }
+    ensures front { given_at {X = ℕ} Front (Front ∷ Back ∷ Front ∷ Back ∷ Front ∷ []) (Some 1 ∷ Some 3 ∷ Some 2 ∷ None ∷ None ∷ []) ≡ 1 ∷ 2 ∷ [] }
+    ensures back { given_at {X = ℕ} Back (Front ∷ Back ∷ Front ∷ Back ∷ Front ∷ []) (Some 1 ∷ Some 3 ∷ Some 2 ∷ None ∷ None ∷ []) ≡ 3 ∷ [] }
 {}
 
 #[test]

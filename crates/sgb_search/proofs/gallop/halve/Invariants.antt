@@ -1,11 +1,11 @@
-use Rattle.std.proofs.Common.{◌-◌, ℕ, List}
-use Rattle.std.specs.declared.cmp.Ordering.{Ordering}
+use Rattle.std.proofs.Common.{◌-◌}
 use Rattle.sgb_search.proofs.Halving.{Narrows}
 use Rattle.sgb_search.proofs.gallop.halve.Given as goal
 
 abbrev pub invariant-loop-from : goal.invariant-loop-from
 invariant-loop-from g l =
-    (rs : List (ℕ × Ordering)) × Narrows (λ s i. g.P.Places.may_compare s l.places i) (λ s i o t. g.P.Places.compares s l.places i o t) l.low l.high l.fn.asker rs l.from l.upto l.asker
+    Narrows (λ s i. g.P.Places.may_compare s l.places i) (λ s i o t. g.P.Places.compares s l.places i o t)
+    l.low l.high l.fn.asker l.from l.upto l.asker
 
 abbrev pub decreases-loop-from : goal.decreases-loop-from
 decreases-loop-from g l = l.upto - l.from

@@ -1,4 +1,4 @@
-use Rattle.sgb_search.specs.Lists.{AreNeighbours}
+use Rattle.sgb_search.specs.Split.{AreNeighbours}
 use Rattle.sgb_search.proofs.Closures.{predicate_callable}
 use Rattle.sgb_search.proofs.laws.always_callable.Goals as goal
 

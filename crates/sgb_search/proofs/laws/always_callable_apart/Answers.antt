@@ -1,4 +1,4 @@
-use Rattle.sgb_search.specs.Lists.{AreApart}
+use Rattle.sgb_search.specs.Split.{AreApart}
 use Rattle.sgb_search.proofs.Closures.{predicate_callable}
 use Rattle.sgb_search.proofs.laws.always_callable_apart.Goals as goal
 

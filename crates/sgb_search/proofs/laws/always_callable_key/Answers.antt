@@ -1,4 +1,4 @@
-use Rattle.sgb_search.specs.Lists.{AreNeighbours}
+use Rattle.sgb_search.specs.Split.{AreNeighbours}
 use Rattle.sgb_search.proofs.Closures.{key_callable}
 use Rattle.sgb_search.proofs.laws.always_callable_key.Goals as goal
 

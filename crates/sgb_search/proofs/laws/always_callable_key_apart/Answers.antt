@@ -1,4 +1,4 @@
-use Rattle.sgb_search.specs.Lists.{AreApart}
+use Rattle.sgb_search.specs.Split.{AreApart}
 use Rattle.sgb_search.proofs.Closures.{key_callable}
 use Rattle.sgb_search.proofs.laws.always_callable_key_apart.Goals as goal
 

@@ -1,4 +1,4 @@
-use Rattle.sgb_search.specs.Lists.{AreNeighbours, AreApart}
+use Rattle.sgb_search.specs.Split.{AreNeighbours, AreApart}
 use Rattle.sgb_search.proofs.OnElements.{pairs_callable_always}
 use Rattle.sgb_search.proofs.laws.callable_now_on_pairs.Goals as goal
 

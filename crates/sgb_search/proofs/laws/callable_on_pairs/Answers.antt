@@ -1,4 +1,4 @@
-use Rattle.sgb_search.specs.Lists.{AreNeighbours, AreApart}
+use Rattle.sgb_search.specs.Split.{AreNeighbours, AreApart}
 use Rattle.sgb_search.proofs.OnElements.{predicate_callable_on, callable_on_pairs}
 use Rattle.sgb_search.proofs.laws.callable_on_pairs.Goals as goal
 

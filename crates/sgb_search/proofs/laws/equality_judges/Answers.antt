@@ -1,4 +1,4 @@
-use Rattle.sgb_search.specs.Lists.{AreApart, AreNeighbours}
+use Rattle.sgb_search.specs.Split.{AreApart, AreNeighbours}
 use Rattle.std.proofs.Common.{◌+◌, ap, ◌∙◌}
 use Rattle.sgb_search.proofs.Equality.{equality_callable, equality_settled, equality_counts}
 use Rattle.sgb_search.proofs.laws.equality_judges.Goals as goal

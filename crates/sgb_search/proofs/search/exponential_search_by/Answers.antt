@@ -12,4 +12,6 @@ pub returns-clause-boundary : goal.returns-clause-boundary
 returns-clause-boundary g c = search_boundary (TakesAt g.F.FnMut) (CalledAt g.F.FnMut) c.args.slice.now c.args.f _ _ c.gallop.ensures
 
 pub returns-clause-found : goal.returns-clause-found
-returns-clause-found g c ord by = finds ord c.args.slice.now c.gallop.result (search_boundary (TakesAt g.F.FnMut) (CalledAt g.F.FnMut) c.args.slice.now c.args.f _ _ c.gallop.ensures ord by)
+returns-clause-found g c ord by =
+    finds ord c.args.slice.now c.gallop.result
+    (search_boundary (TakesAt g.F.FnMut) (CalledAt g.F.FnMut) c.args.slice.now c.args.f _ _ c.gallop.ensures ord by)

@@ -1,5 +1,5 @@
 use Rattle.std.proofs.Common.{arith}
-use Rattle.sgb_search.specs.Lists.{neighbours}
+use Rattle.sgb_search.specs.Split.{neighbours}
 use Rattle.sgb_search.proofs.Runs.{may_now, may_next}
 use Rattle.sgb_search.proofs.Pairs.{length-neighbours}
 use Rattle.sgb_search.proofs.Scanning.{accepted_more, refused_next, accepted_all, front_pair, are_neighbours}

@@ -1,5 +1,5 @@
 use Rattle.std.proofs.Common.{◌-◌, ◌<◌, ◌≤◌, length}
-use Rattle.sgb_search.specs.Lists.{neighbours}
+use Rattle.sgb_search.specs.Split.{neighbours}
 use Rattle.sgb_search.specs.Linear.{MayAskAlong}
 use Rattle.sgb_search.proofs.Scanning.{Accepted}
 use Rattle.sgb_slice_group.proofs.linear_group.first_len.Given as goal

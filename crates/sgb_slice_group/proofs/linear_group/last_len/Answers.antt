@@ -1,5 +1,5 @@
 use Rattle.std.proofs.Common.{◌-◌, arith, length, reverse}
-use Rattle.sgb_search.specs.Lists.{neighbours}
+use Rattle.sgb_search.specs.Split.{neighbours}
 use Rattle.sgb_search.proofs.Runs.{may_now, may_next}
 use Rattle.sgb_search.proofs.Scanning.{accepted_more, refused_next, accepted_all, back_pair, are_neighbours, back_pairs}
 use Rattle.sgb_slice_group.proofs.linear_group.last_len.Goals as goal

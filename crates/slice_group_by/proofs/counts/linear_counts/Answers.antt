@@ -1,5 +1,5 @@
 use Rattle.std.proofs.Common.{◌≡◌, ◌-◌, ◌*◌, length, true, refl, ap, arith}
-use Rattle.sgb_search.specs.Lists.{neighbours}
+use Rattle.sgb_search.specs.Split.{neighbours}
 use Rattle.sgb_search.proofs.Pairs.{length-neighbours}
 use Rattle.sgb_slice_group.specs.Gives.{shown}
 use Rattle.slice_group_by.proofs.Counting.{counts_just_due}

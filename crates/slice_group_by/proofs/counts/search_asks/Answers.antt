@@ -10,7 +10,7 @@ returns-clause-asks g c e s t group h = (
   length h.asked.questions,
   (h.asked.questions, h.asked.run, refl),
   subst (λ n. length h.asked.questions ≤ g.S.GroupSearch.cost.call n (length group.now)) (length-from e (shown s).remainder)
-      h.asked.few.call,
+      h.asked.most.call,
 )
 
 pub returns-clause-counts : goal.returns-clause-counts

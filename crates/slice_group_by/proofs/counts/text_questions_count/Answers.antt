@@ -1,6 +1,6 @@
 use Rattle.std.proofs.Common.{length, true, refl}
 use Rattle.std.specs.Str.{chars}
-use Rattle.sgb_search.specs.Lists.{neighbours}
+use Rattle.sgb_search.specs.Split.{neighbours}
 use Rattle.sgb_linear_str_group.specs.Texts.{shown_text}
 use Rattle.slice_group_by.proofs.Counting.{counts_most, counts_just, counts_most_due, counts_just_due}
 use Rattle.slice_group_by.proofs.counts.text_questions_count.Goals as goal

@@ -1,6 +1,5 @@
 use Rattle.std.proofs.Common.{ap, ◌∙◌}
-use Rattle.slice_group_by.specs.Lists.{last, without_first}
-use Rattle.slice_group_by.specs.Split.{split}
+use Rattle.slice_group_by.specs.Split.{last, without_first, split}
 use Rattle.slice_group_by.specs.End.TheVariants.{Front}
 use Rattle.users.proofs.equal_groups.outer_groups.Goals as goal
 

@@ -7,8 +7,7 @@ use Rattle.std.proofs.lemmas.List.{append-nil}
 use Rattle.std.proofs.lemmas.Bool.{eqb-true, eqb-false}
 use Rattle.std.proofs.lemmas.Fn.{always_returns_same}
 use Rattle.std.proofs.lemmas.Iterator.Consumers.{YieldsList-end}
-use Rattle.slice_group_by.specs.Lists.{neighbours}
-use Rattle.slice_group_by.specs.Split.{joined, IsSplit, IsAccepted}
+use Rattle.slice_group_by.specs.Split.{neighbours, concat, IsSplit, IsAccepted}
 use Rattle.slice_group_by.specs.End.TheVariants.{Front}
 use Rattle.users.proofs.tokens.tokens.Goals as goal
 
@@ -52,8 +51,8 @@ module _ (c : goal.In-None) where
 pub returns-clause-joined : goal.returns-clause-joined
 returns-clause-joined c =
     let join = c.texts_join.ensures.part Front _ _ _ (rw c.into_iter-token-iterator.ensures.into_iter_gives at c.loop-token.yielded_by) in
-    ap (λ ts. joined (map (λ t. t.now) ts)) c.loop-token.invariant.written
-    ∙ sym (append-nil _) ∙ ap (λ rest. joined (map (λ t. t.now) c.loop-token.yielded) ++ rest) (sym c.in-None.ensures.steps.0)
+    ap (λ ts. concat (map (λ t. t.now) ts)) c.loop-token.invariant.written
+    ∙ sym (append-nil _) ∙ ap (λ rest. concat (map (λ t. t.now) c.loop-token.yielded) ++ rest) (sym c.in-None.ensures.steps.0)
     ∙ rw c.linear_group_by_key-groups.ensures.text at join
 
 pub returns-clause-nonempty : goal.returns-clause-nonempty

@@ -2,7 +2,7 @@ use Rattle.std.proofs.Common.{◌≡◌, ◌≤◌, ◌++◌, [], map, nat_eq, l
 use Rattle.slice_group_by.specs.Judges.{by_key}
 use Rattle.slice_group_by.specs.Searching.{IsSettledApart}
 use Rattle.slice_group_by.specs.Gives.{seen}
-use Rattle.slice_group_by.specs.Split.{split, joined}
+use Rattle.slice_group_by.specs.Split.{split, concat}
 use Rattle.users.specs.Keys.{same_key}
 use Rattle.users.specs.Totals.{total, kept}
 use Rattle.users.proofs.totals.totals_kept.Given as goal
@@ -14,7 +14,7 @@ invariant-loop-group g l = record {
   root : l.groups.loans.root ≡ l.initial.groups.loans.root;
   cuts : l.groups.loans.cuts ≡ [];
   after : l.groups.loans.after ≡ [];
-  done : l.groups.loans.before ++ joined (map kept (split same_key l.groups.remainder)) ≡ joined (map kept (split same_key l.initial.groups.remainder));
+  done : l.groups.loans.before ++ concat (map kept (split same_key l.groups.remainder)) ≡ concat (map kept (split same_key l.initial.groups.remainder));
 }
 
 abbrev pub decreases-loop-group : goal.decreases-loop-group

@@ -3,5 +3,8 @@ use Rattle.std.proofs.lemmas.Option.{slice_get_read}
 use Rattle.sgb_search.proofs.search.ElementsPlaces.compare.Goals as goal
 
 pub returns : goal.returns
-returns g c =
-    (c.index-self-place.result, slice_get_read _ _ c.args.place _ refl c.requires.0 c.index-self-place.is, record { shown = _; shows = sym c.index-self-place.is; called = c.asker.ensures })
+returns g c = (
+  c.index-self-place.result,
+  slice_get_read _ _ c.args.place _ refl c.requires.0 c.index-self-place.is,
+  record { shown = _; shows = sym c.index-self-place.is; called = c.asker.ensures },
+)

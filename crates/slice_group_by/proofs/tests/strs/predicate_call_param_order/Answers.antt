@@ -1,6 +1,6 @@
 use Rattle.std.proofs.Common.{ℕ, ◌≡◌, ◌<◌, [], ◌∷◌, refl, arith, inl, inr}
 use Rattle.std.specs.Str.{chars}
-use Rattle.slice_group_by.specs.Lists.{AreNeighbours}
+use Rattle.slice_group_by.specs.Split.{AreNeighbours}
 use Rattle.slice_group_by.proofs.tests.strs.predicate_call_param_order.Goals as goal
 
 characters : chars (97 ∷ 98 ∷ 99 ∷ 100 ∷ 101 ∷ []) ≡ 97 ∷ 98 ∷ 99 ∷ 100 ∷ 101 ∷ []
