@@ -40,7 +40,9 @@ module _ {T J : Type 0} (asks : End → List T → ℕ → J → J → Type 0) (
       let len = length-take n rest in
       record {
         nonempty = omega (arith, len, nonempty, inside);
-        cut = sym is ∙ sym (take-append-drop n rest) ∙ ap (λ (ys : List T). take n rest ++ ys) (ap (drop n) is ∙ sym (part_after xs low high n (rw is at inside)));
+        cut =
+            sym is ∙ sym (take-append-drop n rest)
+            ∙ ap (λ (ys : List T). take n rest ++ ys) (ap (drop n) is ∙ sym (part_after xs low high n (rw is at inside)));
         asked = subst (λ (ys : List T). asks Front ys (length (take n rest)) j k) is
             (subst (λ (m : ℕ). asks Front rest m j k) {x = n} {y = length (take n rest)} (omega (arith, len, inside)) asked);
       }
@@ -52,7 +54,9 @@ module _ {T J : Type 0} (asks : End → List T → ℕ → J → J → Type 0) (
       let here = length-drop n rest in
       record {
         nonempty = omega (arith, here, all, nonempty);
-        cut = sym is ∙ sym (take-append-drop n rest) ∙ ap (λ (ys : List T). ys ++ drop n rest) (ap (take n) is ∙ sym (part_before xs low high n (rw is at inside)));
+        cut =
+            sym is ∙ sym (take-append-drop n rest)
+            ∙ ap (λ (ys : List T). ys ++ drop n rest) (ap (take n) is ∙ sym (part_before xs low high n (rw is at inside)));
         asked = subst (λ (ys : List T). asks Back ys (length (drop n rest)) j k) is
             (subst (λ (m : ℕ). asks Back rest m j k) {x = len} {y = length (drop n rest)} (omega (arith, here, all)) asked);
       }

@@ -31,13 +31,15 @@ impl<'a, T, K: PartialEq + Drop, F: FnMut(&T) -> K, C: GroupEnd> SliceGroups<
     /// should be grouped for the key: equal keys should stand side by side, as where the slice ascends by the key.
     #[inline]
     pub fn new(slice: &'a [T], func: F) -> Self
-        requires { IsCallableBy (C.allowed T) (by_key F.FnMut K.eq) (record { remainder = slice.now; judge = key_judge func }) }
+        requires { IsCallableBy (C.allowed T) (by_key F.FnMut K.eq)
+            (record { remainder = slice.now; judge = key_judge func }) }
         ensures remainder { (shown result).remainder ≡ slice.now }
         ensures judge { result.judge ≡ key_judge func }
         ensures callable { IsCallableBy (C.allowed T) (by_key F.FnMut K.eq) (shown result) }
         ensures computes { (key : T → K) → ComputesKey F.FnMut key func
             → ComputesBy (C.allowed T) (by_key F.FnMut K.eq) (shown result) (λ x y. K.eq (key x) (key y)) }
-        ensures settled { (key : T → K) → ComputesKey F.FnMut key func → C.fits T (λ x y. K.eq (key x) (key y)) slice.now
+        ensures settled { (key : T → K) → ComputesKey F.FnMut key func
+            → C.fits T (λ x y. K.eq (key x) (key y)) slice.now
             → C.settled T (KeyJudge F K) (by_key F.FnMut K.eq) (shown result) (λ x y. K.eq (key x) (key y)) }
     {
         SliceGroups::with_judge(slice, KeyJudge::new(func))
@@ -55,13 +57,15 @@ impl<'a, T, K: PartialEq + Drop, F: FnMut(&T) -> K, C: GroupEnd> SliceGroupsMut<
     /// It requires of the key function what `new` for reading requires, of the elements as they are now.
     #[inline]
     pub fn new(slice: &'a mut [T], func: F) -> Self
-        requires { IsCallableBy (C.allowed T) (by_key F.FnMut K.eq) (record { remainder = slice.old; judge = key_judge func }) }
+        requires { IsCallableBy (C.allowed T) (by_key F.FnMut K.eq)
+            (record { remainder = slice.old; judge = key_judge func }) }
         ensures remainder { result.remainder ≡ slice.old }
         ensures judge { result.judge ≡ key_judge func }
         ensures callable { IsCallableBy (C.allowed T) (by_key F.FnMut K.eq) (seen result) }
         ensures computes { (key : T → K) → ComputesKey F.FnMut key func
             → ComputesBy (C.allowed T) (by_key F.FnMut K.eq) (seen result) (λ x y. K.eq (key x) (key y)) }
-        ensures settled { (key : T → K) → ComputesKey F.FnMut key func → C.fits T (λ x y. K.eq (key x) (key y)) slice.old
+        ensures settled { (key : T → K) → ComputesKey F.FnMut key func
+            → C.fits T (λ x y. K.eq (key x) (key y)) slice.old
             → C.settled T (KeyJudge F K) (by_key F.FnMut K.eq) (seen result) (λ x y. K.eq (key x) (key y)) }
         ensures loans { NothingOut slice.entry.ghost_name result.loans }
     {

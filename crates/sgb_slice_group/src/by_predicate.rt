@@ -25,7 +25,8 @@ impl<'a, T, P: FnMut(&T, &T) -> bool, C: GroupEnd> SliceGroups<'a, T, PredicateJ
     /// grouped for the test: any two different places should agree exactly if all neighbours between them do.
     #[inline]
     pub fn new(slice: &'a [T], predicate: P) -> Self
-        requires { IsCallableBy (C.allowed T) (by_predicate P.FnMut) (record { remainder = slice.now; judge = predicate_judge predicate }) }
+        requires { IsCallableBy (C.allowed T) (by_predicate P.FnMut)
+            (record { remainder = slice.now; judge = predicate_judge predicate }) }
         ensures remainder { (shown result).remainder ≡ slice.now }
         ensures judge { result.judge ≡ predicate_judge predicate }
         ensures callable { IsCallableBy (C.allowed T) (by_predicate P.FnMut) (shown result) }
@@ -44,7 +45,8 @@ impl<'a, T, P: FnMut(&T, &T) -> bool, C: GroupEnd> SliceGroupsMut<'a, T, Predica
     /// It requires of the predicate what `new` for reading requires, of the elements as they are now.
     #[inline]
     pub fn new(slice: &'a mut [T], predicate: P) -> Self
-        requires { IsCallableBy (C.allowed T) (by_predicate P.FnMut) (record { remainder = slice.old; judge = predicate_judge predicate }) }
+        requires { IsCallableBy (C.allowed T) (by_predicate P.FnMut)
+            (record { remainder = slice.old; judge = predicate_judge predicate }) }
         ensures remainder { result.remainder ≡ slice.old }
         ensures judge { result.judge ≡ predicate_judge predicate }
         ensures callable { IsCallableBy (C.allowed T) (by_predicate P.FnMut) (seen result) }

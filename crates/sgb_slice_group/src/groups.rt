@@ -82,7 +82,8 @@ pub trait GroupEnd {
         → CallAt (asks T J g) e s group t → IsCallableBy (allowed T) g s → IsCallableBy (allowed T) g t };
 
     // Whatever is answered, a call asks no more than it takes off what is due.
-    ghost asks_due: { (T J : Type 0) (g : Ghosts J T) (e : End) (s : Groups T J) (group : Option (List T)) (t : Groups T J)
+    ghost asks_due: { (T J : Type 0) (g : Ghosts J T) (e : End) (s : Groups T J) (group : Option (List T))
+        (t : Groups T J)
         → CallAt (asks T J g) e s group t
         → AsksWithin (λ q r n. IsRunOf g.may_ask g.answers n q.judge r.judge) (λ q. due T q.remainder) exact s t };
 
@@ -192,7 +193,9 @@ impl<'a, T, J: Judge<T> + Drop, C: GroupEnd> Iterator for SliceGroups<'a, T, J, 
     /// No groups where nothing remains, and else at least one and at most as many as elements remain.
     #[inline]
     fn size_hint(&self) -> (usize, Option<usize>)
-        ensures value { result ≡ (if nat_eq (length (shown self.now).remainder) 0 then (0, Some 0) else (1, Some (length (shown self.now).remainder))) }
+        ensures value { result
+            ≡ (if nat_eq (length (shown self.now).remainder) 0 then (0, Some 0) else
+            (1, Some (length (shown self.now).remainder))) }
         ensures lower { IsWithinCount result.0 (groups_left (shown self.now)) }
         ensures upper { IfSome result.1 (UpTo (groups_left (shown self.now))) }
     {

@@ -11,12 +11,16 @@ use Rattle.sgb_search.specs.Split.{neighbours}
 use Rattle.sgb_search.specs.Search.{NeverDescends}
 
 module _ {A : Type 0} (P : A → A → Type 0) where
-  pub neighbours_by_place : (xs : List A) → ((k j : ℕ) (d : A) → j ≡ suc k → j < length xs → P (slice_index_or xs k d) (slice_index_or xs j d)) → AllByRecursion (λ q. P q.0 q.1) (neighbours xs)
+  pub neighbours_by_place : (xs : List A)
+      → ((k j : ℕ) (d : A) → j ≡ suc k → j < length xs → P (slice_index_or xs k d) (slice_index_or xs j d))
+      → AllByRecursion (λ q. P q.0 q.1) (neighbours xs)
   neighbours_by_place [] h = tt
   neighbours_by_place (x ∷ []) h = tt
-  neighbours_by_place (x ∷ y ∷ ys) h = (h 0 1 x refl (omega arith), neighbours_by_place (y ∷ ys) (λ k j d e l. h (suc k) (suc j) d (ap suc e) (omega arith)))
+  neighbours_by_place (x ∷ y ∷ ys) h =
+      (h 0 1 x refl (omega arith), neighbours_by_place (y ∷ ys) (λ k j d e l. h (suc k) (suc j) d (ap suc e) (omega arith)))
 
-  pub place_by_neighbours : (xs : List A) → AllByRecursion (λ q. P q.0 q.1) (neighbours xs) → (k j : ℕ) (d : A) → j ≡ suc k → j < length xs → P (slice_index_or xs k d) (slice_index_or xs j d)
+  pub place_by_neighbours : (xs : List A) → AllByRecursion (λ q. P q.0 q.1) (neighbours xs) → (k j : ℕ) (d : A) → j ≡ suc k → j < length xs
+      → P (slice_index_or xs k d) (slice_index_or xs j d)
   place_by_neighbours [] h k j d e l = absurd (omega arith)
   place_by_neighbours (x ∷ []) h k j d e l = absurd (omega arith)
   place_by_neighbours (x ∷ y ∷ ys) h zero zero d e l = absurd (omega arith)
@@ -34,13 +38,17 @@ module _ {A : Type 0} (compare : A → A → Option Ordering) (cmp : A → A →
   greater x y h Equal e n = let p : compare x y ≡ Some Equal = agree x y ∙ ap Some e in cc (p, h)
   greater x y h Greater e n = n e
 
-  pub sorted_never_descends : (xs : List A) (r : Bool) → IsAllAdjacentAnswer (λ x y b. partial_le compare x y ≡ b) xs r → r ≡ true → NeverDescends cmp xs
+  pub sorted_never_descends : (xs : List A) (r : Bool) → IsAllAdjacentAnswer (λ x y b. partial_le compare x y ≡ b) xs r → r ≡ true
+      → NeverDescends cmp xs
   sorted_never_descends xs true h e =
       neighbours_by_place (λ x y. cmp x y ≢ Greater) xs
-      (λ k j d e l. not_greater _ _ (subst (λ (m : ℕ). partial_le compare (slice_index_or xs k d) (slice_index_or xs m d) ≡ true) {x = k + 1} {y = j} (omega arith) (h k d (omega arith))))
+      (λ k j d e l. not_greater _ _
+      (subst (λ (m : ℕ). partial_le compare (slice_index_or xs k d) (slice_index_or xs m d) ≡ true) {x = k + 1} {y = j} (omega arith)
+      (h k d (omega arith))))
   sorted_never_descends xs false h e = cc e
 
-  pub never_descends_sorted : (xs : List A) (r : Bool) → IsAllAdjacentAnswer (λ x y b. partial_le compare x y ≡ b) xs r → NeverDescends cmp xs → r ≡ true
+  pub never_descends_sorted : (xs : List A) (r : Bool) → IsAllAdjacentAnswer (λ x y b. partial_le compare x y ≡ b) xs r
+      → NeverDescends cmp xs → r ≡ true
   never_descends_sorted xs true h all = refl
   never_descends_sorted [] false h all = absurd (omega (arith, h.1))
   never_descends_sorted (x ∷ xs) false h all =
@@ -56,9 +64,12 @@ module _ {T K : Type 0} (cmp : K → K → Ordering) (total : IsTotalOrder cmp) 
   pub sort_ascends : (xs : List T) → IsSortedByKey key cmp xs → AllByRecursion (λ q. cmp (key q.0) (key q.1) ≢ Greater) (neighbours xs)
   sort_ascends xs h =
       neighbours_by_place (λ x y. cmp (key x) (key y) ≢ Greater) xs
-      (λ k j d e l. not_below _ _ (subst (λ (m : ℕ). is_lt (cmp (key (slice_index_or xs m d)) (key (slice_index_or xs k d))) ≡ false) {x = k + 1} {y = j} (omega arith) (h k d (omega arith) (omega arith))) (total.antisymm (key (slice_index_or xs k d)) (key (slice_index_or xs j d))))
+      (λ k j d e l. not_below _ _
+      (subst (λ (m : ℕ). is_lt (cmp (key (slice_index_or xs m d)) (key (slice_index_or xs k d))) ≡ false) {x = k + 1} {y = j} (omega arith)
+      (h k d (omega arith) (omega arith))) (total.antisymm (key (slice_index_or xs k d)) (key (slice_index_or xs j d))))
 
-  pub keys_of_neighbours : (xs : List T) → AllByRecursion (λ q. cmp (key q.0) (key q.1) ≢ Greater) (neighbours xs) → NeverDescends cmp (map key xs)
+  pub keys_of_neighbours : (xs : List T) → AllByRecursion (λ q. cmp (key q.0) (key q.1) ≢ Greater) (neighbours xs)
+      → NeverDescends cmp (map key xs)
   keys_of_neighbours [] h = tt
   keys_of_neighbours (x ∷ []) h = tt
   keys_of_neighbours (x ∷ y ∷ ys) h = (h.0, keys_of_neighbours (y ∷ ys) h.1)

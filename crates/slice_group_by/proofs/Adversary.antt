@@ -18,30 +18,40 @@ pub record Narrowed (plan : Plan) (n low high : ℕ) (current : Plan) (k : ℕ) 
 
 module _ (q : ℕ) (p : _) (more : Plan) (r : _) (less : Plan) (current : Plan) (is : current ≡ Ask' q p more r less) where
   runs_more : (l : ℕ) → q < l → ((run current l).0 ≡ (run more l).0) × ((run current l).1 ≡ (run more l).1 + 1)
-  runs_more l h = rw is (ap (λ (b : Bool). cond b (run more l).0 (run less l).0) (lt-ltb q l h), ap (λ (b : Bool). cond b (run more l).1 (run less l).1 + 1) (lt-ltb q l h))
+  runs_more l h =
+      rw is (ap (λ (b : Bool). cond b (run more l).0 (run less l).0) (lt-ltb q l h),
+      ap (λ (b : Bool). cond b (run more l).1 (run less l).1 + 1) (lt-ltb q l h))
 
   runs_less : (l : ℕ) → l ≤ q → ((run current l).0 ≡ (run less l).0) × ((run current l).1 ≡ (run less l).1 + 1)
-  runs_less l h = rw is (ap (λ (b : Bool). cond b (run more l).0 (run less l).0) (le-ltb q l h), ap (λ (b : Bool). cond b (run more l).1 (run less l).1 + 1) (le-ltb q l h))
+  runs_less l h =
+      rw is (ap (λ (b : Bool). cond b (run more l).0 (run less l).0) (le-ltb q l h),
+      ap (λ (b : Bool). cond b (run more l).1 (run less l).1 + 1) (le-ltb q l h))
 
   module _ (plan : Plan) (n low high k : ℕ) (w : Narrowed plan n low high current k) (next : Plan) where
-    pub to_more : next ≡ more → (low' : ℕ) → low ≤ low' → low' ≤ high → q < low' → high - low ≤ 2 * (high - low') + 1 → (j : ℕ) × Narrowed plan n low' high next j
+    pub to_more : next ≡ more → (low' : ℕ) → low ≤ low' → low' ≤ high → q < low' → high - low ≤ 2 * (high - low') + 1
+        → (j : ℕ) × Narrowed plan n low' high next j
     to_more e low' a b c d = (
       k + 1,
       record {
         order = (omega (arith, w.order), b, w.order.2);
         answers = λ l x y. w.answers l (omega arith) y ∙ (runs_more l (omega arith)).0 ∙ ap (λ (v : Plan). (run v l).0) (sym e);
-        counts = λ l x y. let s = runs_more l (omega arith) in let same : (run next l).1 ≡ (run more l).1 = ap (λ (v : Plan). (run v l).1) e in omega (arith, w.counts l (omega arith) y, s.1, same);
+        counts =
+            λ l x y. let s = runs_more l (omega arith) in let same : (run next l).1 ≡ (run more l).1 = ap (λ (v : Plan). (run v l).1) e in
+            omega (arith, w.counts l (omega arith) y, s.1, same);
         many = omega (arith, w.many, digits_double (high - low) (high - low') d);
       },
     )
 
-    pub to_less : next ≡ less → (high' : ℕ) → low ≤ high' → high' ≤ high → high' ≤ q → high - low ≤ 2 * (high' - low) + 1 → (j : ℕ) × Narrowed plan n low high' next j
+    pub to_less : next ≡ less → (high' : ℕ) → low ≤ high' → high' ≤ high → high' ≤ q → high - low ≤ 2 * (high' - low) + 1
+        → (j : ℕ) × Narrowed plan n low high' next j
     to_less e high' a b c d = (
       k + 1,
       record {
         order = (w.order.0, a, omega (arith, w.order));
         answers = λ l x y. w.answers l x (omega arith) ∙ (runs_less l (omega arith)).0 ∙ ap (λ (v : Plan). (run v l).0) (sym e);
-        counts = λ l x y. let s = runs_less l (omega arith) in let same : (run next l).1 ≡ (run less l).1 = ap (λ (v : Plan). (run v l).1) e in omega (arith, w.counts l x (omega arith), s.1, same);
+        counts =
+            λ l x y. let s = runs_less l (omega arith) in let same : (run next l).1 ≡ (run less l).1 = ap (λ (v : Plan). (run v l).1) e in
+            omega (arith, w.counts l x (omega arith), s.1, same);
         many = omega (arith, w.many, digits_double (high - low) (high' - low) d);
       },
     )
@@ -54,7 +64,9 @@ module _ (plan : Plan) (n low high k a : ℕ) (current : Plan) (is : current ≡
       answer = w.answers high (omega (arith, w.order)) (omega arith) ∙ ap (λ (v : Plan). (run v high).0) is
 
       count : (run plan high).1 ≡ k
-      count = let none : (run current high).1 ≡ 0 = ap (λ (v : Plan). (run v high).1) is in omega (arith, w.counts high (omega (arith, w.order)) (omega arith), none)
+      count =
+          let none : (run current high).1 ≡ 0 = ap (λ (v : Plan). (run v high).1) is in
+          omega (arith, w.counts high (omega (arith, w.order)) (omega arith), none)
 
       by : (low < high) ⊎ (high ≤ low) → IsRefuted plan n high
       by (inl h) = inl (λ f. omega (arith, answer, f))
@@ -88,23 +100,27 @@ larger_part q low high h = by (cases_lt q low) (cases_lt q high) (cases_lt (q - 
     by (inr a) (inl b) (inr c) = inr (q, a, omega arith, omega arith, omega arith)
 
 module _ (q : ℕ) (p : _) (more : Plan) (r : _) (less : Plan) (low high : ℕ) where
-  worst_more : (low′ : ℕ) → low ≤ low′ → q < low′ → high - low ≤ 2 * (high - low′) + 1 → Worst more low′ high → Worst (Ask' q p more r less) low high
+  worst_more : (low′ : ℕ) → low ≤ low′ → q < low′ → high - low ≤ 2 * (high - low′) + 1 → Worst more low′ high
+      → Worst (Ask' q p more r less) low high
   worst_more low′ a c d w = (w.0, omega (arith, w.1), w.2, by w.3)
     where
       same : ((run (Ask' q p more r less) w.0).0 ≡ (run more w.0).0) × ((run (Ask' q p more r less) w.0).1 ≡ (run more w.0).1 + 1)
       same = runs_more q p more r less (Ask' q p more r less) refl w.0 (omega (arith, w.1))
 
-      by : ((run more w.0).0 ≢ w.0) ⊎ (digits (high - low′) ≤ (run more w.0).1) → ((run (Ask' q p more r less) w.0).0 ≢ w.0) ⊎ (digits (high - low) ≤ (run (Ask' q p more r less) w.0).1)
+      by : ((run more w.0).0 ≢ w.0) ⊎ (digits (high - low′) ≤ (run more w.0).1)
+          → ((run (Ask' q p more r less) w.0).0 ≢ w.0) ⊎ (digits (high - low) ≤ (run (Ask' q p more r less) w.0).1)
       by (inl f) = inl (λ e. f (sym same.0 ∙ e))
       by (inr m) = inr (omega (arith, m, same.1, digits_double (high - low) (high - low′) d))
 
-  worst_less : (high′ : ℕ) → high′ ≤ high → high′ ≤ q → high - low ≤ 2 * (high′ - low) + 1 → Worst less low high′ → Worst (Ask' q p more r less) low high
+  worst_less : (high′ : ℕ) → high′ ≤ high → high′ ≤ q → high - low ≤ 2 * (high′ - low) + 1 → Worst less low high′
+      → Worst (Ask' q p more r less) low high
   worst_less high′ b c d w = (w.0, w.1, omega (arith, w.2), by w.3)
     where
       same : ((run (Ask' q p more r less) w.0).0 ≡ (run less w.0).0) × ((run (Ask' q p more r less) w.0).1 ≡ (run less w.0).1 + 1)
       same = runs_less q p more r less (Ask' q p more r less) refl w.0 (omega (arith, w.2))
 
-      by : ((run less w.0).0 ≢ w.0) ⊎ (digits (high′ - low) ≤ (run less w.0).1) → ((run (Ask' q p more r less) w.0).0 ≢ w.0) ⊎ (digits (high - low) ≤ (run (Ask' q p more r less) w.0).1)
+      by : ((run less w.0).0 ≢ w.0) ⊎ (digits (high′ - low) ≤ (run less w.0).1)
+          → ((run (Ask' q p more r less) w.0).0 ≢ w.0) ⊎ (digits (high - low) ≤ (run (Ask' q p more r less) w.0).1)
       by (inl f) = inl (λ e. f (sym same.0 ∙ e))
       by (inr m) = inr (omega (arith, m, same.1, digits_double (high - low) (high′ - low) d))
 
@@ -125,9 +141,11 @@ right_plan_asks plan n h right = let w = worst plan 1 n (omega arith) in (w.0, w
     by l a b (inr m) = m
 
 -- and a plan that halves is right, and asks no more anywhere
-pub halving_right : (plan : Plan) (low high : ℕ) → IsHalvingPlan low high plan → (l : ℕ) → low ≤ l → l ≤ high → ((run plan l).0 ≡ l) × ((run plan l).1 ≤ digits (high - low))
+pub halving_right : (plan : Plan) (low high : ℕ) → IsHalvingPlan low high plan → (l : ℕ) → low ≤ l → l ≤ high
+    → ((run plan l).0 ≡ l) × ((run plan l).1 ≤ digits (high - low))
 halving_right (Answer a) low high h l x y = (omega (arith, h), omega arith)
-halving_right (Ask' q p more r less) low high h l x y = elim (cases_lt q l) as (λ _. ((run (Ask' q p more r less) l).0 ≡ l) × ((run (Ask' q p more r less) l).1 ≤ digits (high - low))) [
+halving_right (Ask' q p more r less) low high h l x y =
+    elim (cases_lt q l) as (λ _. ((run (Ask' q p more r less) l).0 ≡ l) × ((run (Ask' q p more r less) l).1 ≤ digits (high - low))) [
   | inl a ↦
       let same = runs_more q p more r less (Ask' q p more r less) refl l a in
       let i = halving_right more (q + 1) high h.2 l (omega arith) y in

@@ -10,7 +10,8 @@ abbrev pub numbered : {A : Type 0} → ℕ → List (List A) → List ℕ
 numbered r [] = []
 numbered r (g ∷ gs) = replicate (length g) r ++ numbered (r + 1) gs
 
-numbered-put_before : {A : Type 0} (b : Bool) (x : A) (r : ℕ) (gs : List (List A)) → numbered r (put_before (λ _ _. b) b x gs) ≡ r ∷ numbered (cond b r (r + 1)) gs
+numbered-put_before : {A : Type 0} (b : Bool) (x : A) (r : ℕ) (gs : List (List A))
+    → numbered r (put_before (λ _ _. b) b x gs) ≡ r ∷ numbered (cond b r (r + 1)) gs
 numbered-put_before true x r [] = refl
 numbered-put_before true x r (g ∷ gs) = refl
 numbered-put_before false x r gs = refl
@@ -57,7 +58,8 @@ module _ {A : Type 0} (p : A → A → Bool) where
   ranks_numbered xs = numbered-split 0 xs ∙ map-none (ranks p xs)
 
 -- one more group has been filled with its number
-pub one_more : {A : Type 0} (p : A → A → Bool) (done whole : List ℕ) (r : ℕ) (group rest xs : List A) (value : List ℕ) → done ++ numbered r (split p xs) ≡ whole
+pub one_more : {A : Type 0} (p : A → A → Bool) (done whole : List ℕ) (r : ℕ) (group rest xs : List A) (value : List ℕ)
+    → done ++ numbered r (split p xs) ≡ whole
     → split p xs ≡ group ∷ split p rest → value ≡ replicate (length group) r → (done ++ value) ++ numbered (r + 1) (split p rest) ≡ whole
 one_more {A = A} p done whole r group rest xs value i cut v =
     append_assoc done value (numbered (r + 1) (split p rest)) ∙ ap (λ (l : List ℕ). done ++ (l ++ numbered (r + 1) (split p rest))) v

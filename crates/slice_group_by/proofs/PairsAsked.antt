@@ -19,15 +19,19 @@ use Rattle.slice_group_by.specs.Walk.{IsChain}
 
 module _ {T J : Type 0} (g : Ghosts J T) where
   -- the calls of any queue whose states show such groups
-  module _ {Q I : Type 0} (gives : End → Q → Option I → Q → Type 0) (view : Q → Groups T J) (once : (e : End) (q : Q) (o : Option I) (t : Q) → gives e q o t → AsksEachOnce g (view q) (view t)) where
+  module _ {Q I : Type 0} (gives : End → Q → Option I → Q → Type 0) (view : Q → Groups T J)
+      (once : (e : End) (q : Q) (o : Option I) (t : Q) → gives e q o t → AsksEachOnce g (view q) (view t)) where
     pub chain_asks_once : (q t : Q) (es : List End) (os : List (Option I)) → IsChain gives q es os t → AsksEachOnce g (view q) (view t)
     chain_asks_once q t [] [] c = asks_none g (view q) (view t) (ap view c)
     chain_asks_once q t [] (o ∷ os) c = absurd c
     chain_asks_once q t (e ∷ es) [] c = absurd c
-    chain_asks_once q t (e ∷ es) (o ∷ os) c = asks_more g (view q) (view c.0) (view t) (once e q o c.0 c.1) (chain_asks_once c.0 t es os c.2)
+    chain_asks_once q t (e ∷ es) (o ∷ os) c =
+        asks_more g (view q) (view c.0) (view t) (once e q o c.0 c.1) (chain_asks_once c.0 t es os c.2)
 
-  pub whole_asks : (s t : Groups T J) → AsksEachOnce g s t → t.remainder ≡ [] → IsRunOf g.may_ask g.answers (length s.remainder - 1) s.judge t.judge
-  whole_asks s t a z = (a.questions, a.run, omega (arith, count_asked g s t a, length-neighbours s.remainder, ap (λ xs. length (neighbours xs)) z))
+  pub whole_asks : (s t : Groups T J) → AsksEachOnce g s t → t.remainder ≡ []
+      → IsRunOf g.may_ask g.answers (length s.remainder - 1) s.judge t.judge
+  whole_asks s t a z =
+      (a.questions, a.run, omega (arith, count_asked g s t a, length-neighbours s.remainder, ap (λ xs. length (neighbours xs)) z))
 
   pub reading_asks_once : {C : Type 0} (e : End) (s : SliceGroups T J C) (o : Option (Bor (List T))) (t : SliceGroups T J C)
       → Gives (LinearQuestions g) e s o t → AsksEachOnce g (shown s) (shown t)

@@ -30,7 +30,8 @@ from_taken Front x (y ∷ ys) h = cc h
 from_taken Back x [] h = cc h
 from_taken Back x (y ∷ []) h = cc h
 from_taken Back x (y ∷ z ∷ zs) h =
-    reverse-append (y ∷ []) (z ∷ zs) ∙ ap (λ l. l ++ y ∷ []) (from_taken Back x (z ∷ zs) h) ∙ ap (λ l. x ∷ l) (sym (reverse-append (y ∷ []) (without_last (z ∷ zs))))
+    reverse-append (y ∷ []) (z ∷ zs) ∙ ap (λ l. l ++ y ∷ []) (from_taken Back x (z ∷ zs) h)
+    ∙ ap (λ l. x ∷ l) (sym (reverse-append (y ∷ []) (without_last (z ∷ zs))))
 
 pub none_some : {X : Type 0} {x : X} → Some x ≡ None → ⊥
 none_some e = cc e
@@ -38,28 +39,36 @@ none_some e = cc e
 pub same_some : {X : Type 0} {x y : X} → Some x ≡ Some y → x ≡ y
 same_some e = cc e
 
-module _ {Q I A : Type 0} (gives : End → Q → Option I → Q → Type 0) (remainder : Q → List A) (shows : I → List A) (settled : Q → (A → A → Bool) → Type 0) (p : A → A → Bool) (piece : (e : End) (q : Q) (o : Option I) (t : Q) (p : A → A → Bool) → gives e q o t → settled q p → TakesPiece p e (remainder q) (option_map shows o) (remainder t) × settled t p) where
-  taken : (e : End) (q : Q) (o : Option I) (t : Q) → gives e q o t → settled q p → (option_map shows o ≡ item_at e (split p (remainder q))) × (split p (remainder t) ≡ without e (split p (remainder q)))
+module _ {Q I A : Type 0} (gives : End → Q → Option I → Q → Type 0) (remainder : Q → List A) (shows : I → List A)
+    (settled : Q → (A → A → Bool) → Type 0) (p : A → A → Bool)
+    (piece : (e : End) (q : Q) (o : Option I) (t : Q) (p : A → A → Bool) → gives e q o t → settled q p → TakesPiece p e (remainder q)
+    (option_map shows o) (remainder t) × settled t p) where
+  taken : (e : End) (q : Q) (o : Option I) (t : Q) → gives e q o t → settled q p
+      → (option_map shows o ≡ item_at e (split p (remainder q))) × (split p (remainder t) ≡ without e (split p (remainder q)))
   taken e q o t g h = (piece e q o t p g h).0
 
-  pub yields_pieces : (e : End) (q : Q) (ps : List (List A)) → settled q p → split p (remainder q) ≡ from e ps → AlwaysYields (gives e) shows q ps
+  pub yields_pieces : (e : End) (q : Q) (ps : List (List A)) → settled q p → split p (remainder q) ≡ from e ps
+      → AlwaysYields (gives e) shows q ps
   yields_pieces e q [] h s = λ x t g. none_some ((taken e q (Some x) t g h).0 ∙ ap (item_at e) s ∙ item_none e)
   yields_pieces e q (y ∷ ps) h s = (
     λ t g. none_some (sym (item_first e y ps) ∙ ap (item_at e) (sym s) ∙ sym (taken e q None t g h).0),
     λ x t g.
         let k = taken e q (Some x) t g h in
-        (same_some (k.0 ∙ ap (item_at e) s ∙ item_first e y ps), yields_pieces e t ps (piece e q (Some x) t p g h).1 (k.1 ∙ ap (without e) s ∙ without_item e y ps)),
+        (same_some (k.0 ∙ ap (item_at e) s ∙ item_first e y ps),
+        yields_pieces e t ps (piece e q (Some x) t p g h).1 (k.1 ∙ ap (without e) s ∙ without_item e y ps)),
   )
 
   -- the groups so far, and what is left
-  pub yields_settled : (e : End) (q t : Q) (xs : List I) → settled q p → Yields (gives e) q xs t → settled t p × (from e (split p (remainder q)) ≡ map shows xs ++ from e (split p (remainder t)))
+  pub yields_settled : (e : End) (q t : Q) (xs : List I) → settled q p → Yields (gives e) q xs t
+      → settled t p × (from e (split p (remainder q)) ≡ map shows xs ++ from e (split p (remainder t)))
   yields_settled e q t [] h y = rw (sym y) (h, refl)
   yields_settled e q t (x ∷ xs) h y =
       let k = taken e q (Some x) y.0 y.1 h in
       let later = yields_settled e y.0 t xs (piece e q (Some x) y.0 p y.1 h).1 y.2 in
       (later.0, from_taken e (shows x) (split p (remainder q)) (sym k.0) ∙ ap (λ l. shows x ∷ l) (ap (from e) (sym k.1) ∙ later.1))
 
-module _ {Q I A : Type 0} (gives : End → Q → Option I → Q → Type 0) (remainder : Q → List A) (shows : I → List A) (part : (e : End) (q : Q) (o : Option I) (t : Q) → gives e q o t → TakesPart e (remainder q) (option_map shows o) (remainder t)) where
+module _ {Q I A : Type 0} (gives : End → Q → Option I → Q → Type 0) (remainder : Q → List A) (shows : I → List A)
+    (part : (e : End) (q : Q) (o : Option I) (t : Q) → gives e q o t → TakesPart e (remainder q) (option_map shows o) (remainder t)) where
   pub yields_parts : (e : End) (q t : Q) (xs : List I) → Yields (gives e) q xs t
       → put_at e (concat (from e (map shows xs))) (remainder t) ≡ remainder q
   yields_parts Front q t [] y = ap remainder (sym y)
@@ -82,6 +91,7 @@ module _ {Q I A : Type 0} (gives : End → Q → Option I → Q → Type 0) (rem
       put_nothing Back ys = refl
 
 -- what a reversed iterator gives, its own gives from the back
-pub rev_always : {S A B : Type 0} (steps : S → Option A → S → Type 0) (v : A → B) (s : Rev S) (ys : List B) → AlwaysYields steps v (rev_source s) ys → AlwaysYields (rev_steps steps) v s ys
+pub rev_always : {S A B : Type 0} (steps : S → Option A → S → Type 0) (v : A → B) (s : Rev S) (ys : List B)
+    → AlwaysYields steps v (rev_source s) ys → AlwaysYields (rev_steps steps) v s ys
 rev_always steps v s [] h = λ x j. h x (rev_source j)
 rev_always steps v s (y ∷ ys) h = (λ j. h.0 (rev_source j), λ x j g. let k = h.1 x (rev_source j) g in (k.0, rev_always steps v j ys k.1))

@@ -36,7 +36,8 @@ module _ {J : Type 0} (g : Ghosts J ℕ) where
   utf8_group e s None t h = tt
   utf8_group e s (Some x) t h = h.0.group_utf8
 
-  pub utf8_groups : (s : TextGroupsMut J) (es : List End) (os : List (Option (MutBor (List ℕ)))) (t : TextGroupsMut J) → IsChain (GivesTextMut g) s es os t → AllByRecursion (λ o. IfSome o (λ x. IsUtf8 x.now)) os
+  pub utf8_groups : (s : TextGroupsMut J) (es : List End) (os : List (Option (MutBor (List ℕ)))) (t : TextGroupsMut J)
+      → IsChain (GivesTextMut g) s es os t → AllByRecursion (λ o. IfSome o (λ x. IsUtf8 x.now)) os
   utf8_groups s [] [] t c = tt
   utf8_groups s [] (o ∷ os) t c = absurd c
   utf8_groups s (e ∷ es) [] t c = absurd c

@@ -22,8 +22,10 @@ pub fn families_agree<T, I: Judge<T>, B: GroupEnd, J: Judge<T>, C: GroupEnd>(
     _one: &SliceGroups<'_, T, I, B>,
     _other: &SliceGroups<'_, T, J, C>,
 )
-    ensures { (p : T → T → Bool) (q q' : SliceGroups T I B) (r r' : SliceGroups T J C) (ends : List End) (out other : List (Option (Bor (List T))))
-        → B.settled T I I.Judge (shown q) p → C.settled T J J.Judge (shown r) p → (shown q).remainder ≡ (shown r).remainder
+    ensures { (p : T → T → Bool) (q q' : SliceGroups T I B) (r r' : SliceGroups T J C) (ends : List End)
+        (out other : List (Option (Bor (List T))))
+        → B.settled T I I.Judge (shown q) p → C.settled T J J.Judge (shown r) p
+            → (shown q).remainder ≡ (shown r).remainder
         → IsChain (Gives (B.asks T I I.Judge)) q ends out q'
         → IsChain (Gives (C.asks T J J.Judge)) r ends other r'
         → map (option_map (λ group. group.now)) out ≡ map (option_map (λ group. group.now)) other }
@@ -35,7 +37,8 @@ pub fn families_agree_mut<T, I: Judge<T>, B: GroupEnd, J: Judge<T>, C: GroupEnd>
     _one: &SliceGroupsMut<'_, T, I, B>,
     _other: &SliceGroupsMut<'_, T, J, C>,
 )
-    ensures { (p : T → T → Bool) (q q' : GroupsMut T I) (r r' : GroupsMut T J) (ends : List End) (out other : List (Option (MutBor (List T))))
+    ensures { (p : T → T → Bool) (q q' : GroupsMut T I) (r r' : GroupsMut T J) (ends : List End)
+        (out other : List (Option (MutBor (List T))))
         → B.settled T I I.Judge (seen q) p → C.settled T J J.Judge (seen r) p → q.remainder ≡ r.remainder
         → IsChain (GivesMut (B.asks T I I.Judge)) q ends out q'
         → IsChain (GivesMut (C.asks T J J.Judge)) r ends other r'
@@ -49,7 +52,8 @@ pub fn reading_and_writing_agree<T, I: Judge<T>, B: GroupEnd, J: Judge<T>, C: Gr
     _reading: &SliceGroups<'_, T, I, B>,
     _writing: &SliceGroupsMut<'_, T, J, C>,
 )
-    ensures { (p : T → T → Bool) (q q' : SliceGroups T I B) (r r' : GroupsMut T J) (ends : List End) (out : List (Option (Bor (List T)))) (other : List (Option (MutBor (List T))))
+    ensures { (p : T → T → Bool) (q q' : SliceGroups T I B) (r r' : GroupsMut T J) (ends : List End)
+        (out : List (Option (Bor (List T)))) (other : List (Option (MutBor (List T))))
         → B.settled T I I.Judge (shown q) p → C.settled T J J.Judge (seen r) p → (shown q).remainder ≡ r.remainder
         → IsChain (Gives (B.asks T I I.Judge)) q ends out q'
         → IsChain (GivesMut (C.asks T J J.Judge)) r ends other r'
@@ -60,9 +64,12 @@ pub fn reading_and_writing_agree<T, I: Judge<T>, B: GroupEnd, J: Judge<T>, C: Gr
 /// group that ends at a local boundary, where the remainder reads from the call's end, and leaves such a judge.
 #[inline]
 pub fn groups_end_locally<T, J: Judge<T>, S: GroupSearch>(_groups: &SearchGroups<'_, T, J, S>)
-    ensures ends { (p : T → T → Bool) (e : End) (s t : SliceGroups T J (Search S)) (group : Bor (List T)) → ComputesApart J.Judge (shown s) p
-        → Gives (SearchQuestions J.Judge S.cost) e s (Some group) t → IsLocalEnd (from e (shown s).remainder) p (length group.now) }
-    ensures computes { (p : T → T → Bool) (e : End) (s t : SliceGroups T J (Search S)) (group : Bor (List T)) → ComputesApart J.Judge (shown s) p
+    ensures ends { (p : T → T → Bool) (e : End) (s t : SliceGroups T J (Search S)) (group : Bor (List T))
+        → ComputesApart J.Judge (shown s) p
+        → Gives (SearchQuestions J.Judge S.cost) e s (Some group) t
+            → IsLocalEnd (from e (shown s).remainder) p (length group.now) }
+    ensures computes { (p : T → T → Bool) (e : End) (s t : SliceGroups T J (Search S)) (group : Bor (List T))
+        → ComputesApart J.Judge (shown s) p
         → Gives (SearchQuestions J.Judge S.cost) e s (Some group) t → ComputesApart J.Judge (shown t) p }
 {}
 
@@ -71,8 +78,11 @@ pub fn groups_end_locally<T, J: Judge<T>, S: GroupSearch>(_groups: &SearchGroups
 pub fn groups_end_locally_mut<T, J: Judge<T>, S: GroupSearch>(
     _groups: &SearchGroupsMut<'_, T, J, S>,
 )
-    ensures ends { (p : T → T → Bool) (e : End) (s t : GroupsMut T J) (group : MutBor (List T)) → ComputesApart J.Judge (seen s) p
-        → GivesMut (SearchQuestions J.Judge S.cost) e s (Some group) t → IsLocalEnd (from e s.remainder) p (length group.now) }
-    ensures computes { (p : T → T → Bool) (e : End) (s t : GroupsMut T J) (group : MutBor (List T)) → ComputesApart J.Judge (seen s) p
+    ensures ends { (p : T → T → Bool) (e : End) (s t : GroupsMut T J) (group : MutBor (List T))
+        → ComputesApart J.Judge (seen s) p
+        → GivesMut (SearchQuestions J.Judge S.cost) e s (Some group) t
+            → IsLocalEnd (from e s.remainder) p (length group.now) }
+    ensures computes { (p : T → T → Bool) (e : End) (s t : GroupsMut T J) (group : MutBor (List T))
+        → ComputesApart J.Judge (seen s) p
         → GivesMut (SearchQuestions J.Judge S.cost) e s (Some group) t → ComputesApart J.Judge (seen t) p }
 {}

@@ -79,7 +79,8 @@ pub fn calls_take_pieces<Q: GroupQueue>(_queue: &Q)
 #[inline]
 pub fn calls_may_go_on<Q: GroupQueue>(_queue: &Q)
     ensures call { (e : End) (q t : Q) (group : Option Q.Item) → Q.gives e q group t → Q.can_pop q → Q.can_pop t }
-    ensures calls { (q t : Q) (ends : List End) (out : List (Option Q.Item)) → IsChain Q.gives q ends out t → Q.can_pop q → Q.can_pop t }
+    ensures calls { (q t : Q) (ends : List End) (out : List (Option Q.Item)) → IsChain Q.gives q ends out t
+        → Q.can_pop q → Q.can_pop t }
 {}
 
 /// A list of calls on a queue, made one by one, as a loop of a caller makes them: what `walk` promises of its calls.
@@ -87,13 +88,16 @@ pub fn calls_may_go_on<Q: GroupQueue>(_queue: &Q)
 pub fn chains_answer<Q: GroupQueue>(_queue: &Q)
     ensures none { (q : Q) → IsChain Q.gives q [] [] q }
     ensures more { (q r t : Q) (ends : List End) (out : List (Option Q.Item)) (e : End) (group : Option Q.Item)
-        → IsChain Q.gives q ends out r → Q.gives e r group t → IsChain Q.gives q (ends ++ e ∷ []) (out ++ group ∷ []) t }
+        → IsChain Q.gives q ends out r → Q.gives e r group t
+            → IsChain Q.gives q (ends ++ e ∷ []) (out ++ group ∷ []) t }
     ensures partition { (q t : Q) (ends : List End) (out : List (Option Q.Item))
         → IsChain Q.gives q ends out t → Partition ends (map (option_map Q.shows) out) (Q.remainder t) (Q.remainder q) }
     ensures pieces { (p : Q.Element → Q.Element → Bool) (q t : Q) (ends : List End) (out : List (Option Q.Item))
-        → IsChain Q.gives q ends out t → Q.is_settled q p → map (option_map Q.shows) out ≡ pops (split p (Q.remainder q)) ends }
+        → IsChain Q.gives q ends out t → Q.is_settled q p
+            → map (option_map Q.shows) out ≡ pops (split p (Q.remainder q)) ends }
     ensures left { (p : Q.Element → Q.Element → Bool) (q t : Q) (ends : List End) (out : List (Option Q.Item))
-        → IsChain Q.gives q ends out t → Q.is_settled q p → split p (Q.remainder t) ≡ after_pops (split p (Q.remainder q)) ends }
+        → IsChain Q.gives q ends out t → Q.is_settled q p
+            → split p (Q.remainder t) ≡ after_pops (split p (Q.remainder q)) ends }
     ensures settled { (p : Q.Element → Q.Element → Bool) (q t : Q) (ends : List End) (out : List (Option Q.Item))
         → IsChain Q.gives q ends out t → Q.is_settled q p → Q.is_settled t p }
     ensures questions { (q t : Q) (ends : List End) (out : List (Option Q.Item))
@@ -168,10 +172,13 @@ pub fn each_pair_asked_once_mut<T, J: Judge<T>>(_groups: &LinearGroupsMut<'_, T,
 #[inline]
 pub fn texts_join<J: Judge<char>>(_groups: &LinearStrGroups<'_, J>)
     ensures calls { (s t : LinearStrGroups J) (ends : List End) (out : List (Option (Bor (List ℕ))))
-        → IsChain (GivesText J.Judge) s ends out t → Partition ends (map (option_map (λ group. group.now)) out) (shown_text t).text (shown_text s).text }
-    ensures part { (e : End) (s t : LinearStrGroups J) (groups : List (Bor (List ℕ))) → Yields (GivesText J.Judge e) s groups t
+        → IsChain (GivesText J.Judge) s ends out t
+            → Partition ends (map (option_map (λ group. group.now)) out) (shown_text t).text (shown_text s).text }
+    ensures part { (e : End) (s t : LinearStrGroups J) (groups : List (Bor (List ℕ)))
+        → Yields (GivesText J.Judge e) s groups t
         → put_at e (concat (from e (map (λ group. group.now) groups))) (shown_text t).text ≡ (shown_text s).text }
-    ensures whole { (e : End) (s : LinearStrGroups J) (groups : List (Bor (List ℕ))) → Drains (GivesText J.Judge e) s groups
+    ensures whole { (e : End) (s : LinearStrGroups J) (groups : List (Bor (List ℕ)))
+        → Drains (GivesText J.Judge e) s groups
         → concat (from e (map (λ group. group.now) groups)) ≡ (shown_text s).text }
 {}
 
@@ -182,10 +189,13 @@ pub fn texts_join_mut<J: Judge<char>>(_groups: &LinearStrGroupsMut<'_, J>)
         → IsChain (GivesTextMut J.Judge) s ends out t
         → AllByRecursion (λ o. IfSome o (λ group. IsUtf8 group.now)) out }
     ensures calls { (s t : TextGroupsMut J) (ends : List End) (out : List (Option (MutBor (List ℕ))))
-        → IsChain (GivesTextMut J.Judge) s ends out t → Partition ends (map (option_map (λ group. group.now)) out) t.text s.text }
-    ensures part { (e : End) (s t : TextGroupsMut J) (groups : List (MutBor (List ℕ))) → Yields (GivesTextMut J.Judge e) s groups t
+        → IsChain (GivesTextMut J.Judge) s ends out t
+            → Partition ends (map (option_map (λ group. group.now)) out) t.text s.text }
+    ensures part { (e : End) (s t : TextGroupsMut J) (groups : List (MutBor (List ℕ)))
+        → Yields (GivesTextMut J.Judge e) s groups t
         → put_at e (concat (from e (map (λ group. group.now) groups))) t.text ≡ s.text }
-    ensures whole { (e : End) (s : TextGroupsMut J) (groups : List (MutBor (List ℕ))) → Drains (GivesTextMut J.Judge e) s groups
+    ensures whole { (e : End) (s : TextGroupsMut J) (groups : List (MutBor (List ℕ)))
+        → Drains (GivesTextMut J.Judge e) s groups
         → concat (from e (map (λ group. group.now) groups)) ≡ s.text }
 {}
 
@@ -194,7 +204,8 @@ pub fn texts_join_mut<J: Judge<char>>(_groups: &LinearStrGroupsMut<'_, J>)
 #[inline]
 pub fn each_char_pair_asked_once<J: Judge<char>>(_groups: &LinearStrGroups<'_, J>)
     ensures pairs { (s t : LinearStrGroups J) (ends : List End) (out : List (Option (Bor (List ℕ))))
-        → IsChain (GivesText J.Judge) s ends out t → AsksEachOnce J.Judge (in_characters (shown_text s)) (in_characters (shown_text t)) }
+        → IsChain (GivesText J.Judge) s ends out t
+            → AsksEachOnce J.Judge (in_characters (shown_text s)) (in_characters (shown_text t)) }
     ensures whole { (s t : LinearStrGroups J) (ends : List End) (out : List (Option (Bor (List ℕ))))
         → IsChain (GivesText J.Judge) s ends out t → (shown_text t).text ≡ []
         → IsRunOf J.may_ask J.answers (length (chars (shown_text s).text) - 1) s.judge t.judge }
@@ -204,7 +215,8 @@ pub fn each_char_pair_asked_once<J: Judge<char>>(_groups: &LinearStrGroups<'_, J
 #[inline]
 pub fn each_char_pair_asked_once_mut<J: Judge<char>>(_groups: &LinearStrGroupsMut<'_, J>)
     ensures pairs { (s t : TextGroupsMut J) (ends : List End) (out : List (Option (MutBor (List ℕ))))
-        → IsChain (GivesTextMut J.Judge) s ends out t → AsksEachOnce J.Judge (in_characters (seen_text s)) (in_characters (seen_text t)) }
+        → IsChain (GivesTextMut J.Judge) s ends out t
+            → AsksEachOnce J.Judge (in_characters (seen_text s)) (in_characters (seen_text t)) }
     ensures whole { (s t : TextGroupsMut J) (ends : List End) (out : List (Option (MutBor (List ℕ))))
         → IsChain (GivesTextMut J.Judge) s ends out t → t.text ≡ []
         → IsRunOf J.may_ask J.answers (length (chars s.text) - 1) s.judge t.judge }
@@ -214,7 +226,8 @@ pub fn each_char_pair_asked_once_mut<J: Judge<char>>(_groups: &LinearStrGroupsMu
 /// at least `digits(n - 1)` questions at one of them. A plan compares the first element with others, and nothing else.
 #[inline]
 pub fn right_plans_ask()
-    ensures { (plan : Plan) (n : ℕ) → 0 < n → IsRight plan 1 n → (l : ℕ) × (1 ≤ l) × (l ≤ n) × (digits (n - 1) ≤ (run plan l).1) }
+    ensures { (plan : Plan) (n : ℕ) → 0 < n → IsRight plan 1 n
+        → (l : ℕ) × (1 ≤ l) × (l ≤ n) × (digits (n - 1) ≤ (run plan l).1) }
 {}
 
 /// A plan that halves the lengths from 1 up to n answers each of them rightly, and asks at most `digits(n - 1)` questions at

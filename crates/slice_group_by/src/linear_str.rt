@@ -42,17 +42,21 @@ impl<'a, J: Judge<char> + Drop> GroupQueue for LinearStrGroups<'a, J> {
         self.next_back()
     }
 
-    ghost part = { λ e q r t h. laws.part J.Judge e shown_text (λ group. group.now) q r t (laws.call J.Judge e q r t h) };
+    ghost part = { λ e q r t h. laws.part J.Judge e shown_text (λ group. group.now) q r t
+        (laws.call J.Judge e q r t h) };
 
     ghost none = { λ _ _ _ h. h.1 };
 
-    ghost piece = { λ e q r t p h. laws.piece J.Judge e shown_text (λ group. group.now) q r t (laws.call J.Judge e q r t h) p };
+    ghost piece = { λ e q r t p h. laws.piece J.Judge e shown_text (λ group. group.now) q r t
+        (laws.call J.Judge e q r t h) p };
 
-    ghost keeps = { λ e q r t h. laws.keeps J.Judge e shown_text (λ group. group.now) q r t (laws.call J.Judge e q r t h) };
+    ghost keeps = { λ e q r t h. laws.keeps J.Judge e shown_text (λ group. group.now) q r t
+        (laws.call J.Judge e q r t h) };
 
     ghost asked_none = { λ q. run_of_none J.may_ask J.answers q.judge };
 
     ghost asked_more = { λ q r t. run_of_more J.may_ask J.answers q.judge r.judge t.judge };
 
-    ghost asks = { λ e q r t h. laws.asks J.Judge e shown_text (λ group. group.now) q r t (laws.call J.Judge e q r t h) };
+    ghost asks = { λ e q r t h. laws.asks J.Judge e shown_text (λ group. group.now) q r t
+        (laws.call J.Judge e q r t h) };
 }

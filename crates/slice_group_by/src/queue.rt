@@ -69,7 +69,8 @@ pub trait GroupQueue {
         → TakesPiece p e (remainder q) (option_map shows group) (remainder t) × is_settled t p };
 
     // Where a call may be made, one may be made after it.
-    ghost keeps: { (e : End) (q : Self) (group : Option Self.Item) (t : Self) → gives e q group t → can_pop q → can_pop t };
+    ghost keeps: { (e : End) (q : Self) (group : Option Self.Item) (t : Self) → gives e q group t → can_pop q
+        → can_pop t };
 
     // Questions add up, and a call asks no more of them than it takes off those due.
     ghost asked_none: { (q : Self) → asked q q 0 };
@@ -119,7 +120,8 @@ pub fn walk<Q: GroupQueue>(queue: &mut Q, ends: &[End], out: &mut [Option<Q::Ite
     ensures settled { let groups = map (option_map Q.shows) out.new in
         (p : Q.Element → Q.Element → Bool) → Q.is_settled queue.old p
         → Q.is_settled queue.new p
-        × ((ps : List (List Q.Element)) × AnswersAsQueue p (Q.remainder queue.old) ends.now groups (Q.remainder queue.new) ps) }
+        × ((ps : List (List Q.Element))
+            × AnswersAsQueue p (Q.remainder queue.old) ends.now groups (Q.remainder queue.new) ps) }
     ensures pieces { (p : Q.Element → Q.Element → Bool) → Q.is_settled queue.old p
         → map (option_map Q.shows) out.new ≡ pops (split p (Q.remainder queue.old)) ends.now }
     ensures left { (p : Q.Element → Q.Element → Bool) → Q.is_settled queue.old p

@@ -42,7 +42,8 @@ impl<'a, T, J: Judge<T> + Drop, C: GroupEnd> GroupQueue for SliceGroups<'a, T, J
         self.next_back()
     }
 
-    ghost part = { λ e s group t h. part (C.asks T J J.Judge) e (shown s) (option_copied group) (shown t) (call (C.asks T J J.Judge) e s group t h) };
+    ghost part = { λ e s group t h. part (C.asks T J J.Judge) e (shown s) (option_copied group) (shown t)
+        (call (C.asks T J J.Judge) e s group t h) };
 
     ghost none = { λ _ _ _ h. h.1 };
 
@@ -56,6 +57,7 @@ impl<'a, T, J: Judge<T> + Drop, C: GroupEnd> GroupQueue for SliceGroups<'a, T, J
 
     ghost asked_more = { λ q r t. run_of_more J.may_ask J.answers q.judge r.judge t.judge };
 
-    ghost asks = { λ e s group t h. asks_seen _ _ _ shown s t (C.asks_due T J J.Judge e (shown s) (option_copied group) (shown t)
+    ghost asks = { λ e s group t h. asks_seen _ _ _ shown s t
+        (C.asks_due T J J.Judge e (shown s) (option_copied group) (shown t)
         (call (C.asks T J J.Judge) e s group t h)) };
 }

@@ -53,5 +53,6 @@ impl<'a, T, J: Judge<T> + Drop, C: GroupEnd> GroupQueue for SliceGroupsMut<'a, T
 
     ghost asked_more = { λ q r t. run_of_more J.may_ask J.answers q.judge r.judge t.judge };
 
-    ghost asks = { λ e s group t h. asks_seen _ _ _ seen s t (C.asks_due T J J.Judge e (seen s) (option_copied_mut group) (seen t) h.0) };
+    ghost asks = { λ e s group t h. asks_seen _ _ _ seen s t
+        (C.asks_due T J J.Judge e (seen s) (option_copied_mut group) (seen t) h.0) };
 }

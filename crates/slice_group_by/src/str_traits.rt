@@ -30,11 +30,13 @@ pub trait StrGroupBy: AsStr {
     where
         F: FnMut(char) -> K,
         K: PartialEq + Drop,
-        requires { IsCallableText (by_char_key F.FnMut K.eq) (record { text = Self.text self.now; judge = char_key_judge func }) }
+        requires { IsCallableText (by_char_key F.FnMut K.eq)
+            (record { text = Self.text self.now; judge = char_key_judge func }) }
         ensures text { (shown_text result).text ≡ Self.text self.now }
         ensures judge { result.judge ≡ char_key_judge func }
         ensures callable { IsCallableText (by_char_key F.FnMut K.eq) (shown_text result) }
-        ensures settled { (key : ℕ → K) → ComputesCharKey F.FnMut key func → IsSettledText (by_char_key F.FnMut K.eq) (shown_text result) (λ x y. K.eq (key x) (key y)) }
+        ensures settled { (key : ℕ → K) → ComputesCharKey F.FnMut key func
+            → IsSettledText (by_char_key F.FnMut K.eq) (shown_text result) (λ x y. K.eq (key x) (key y)) }
     {
         LinearStrGroupByKey::new(self.as_str(), func)
     }
@@ -44,11 +46,13 @@ pub trait StrGroupBy: AsStr {
     fn linear_group_by<P>(&self, predicate: P) -> LinearStrGroupBy<'_, P>
     where
         P: FnMut(char, char) -> bool,
-        requires { IsCallableText (by_char_predicate P.FnMut) (record { text = Self.text self.now; judge = char_predicate_judge predicate }) }
+        requires { IsCallableText (by_char_predicate P.FnMut)
+            (record { text = Self.text self.now; judge = char_predicate_judge predicate }) }
         ensures text { (shown_text result).text ≡ Self.text self.now }
         ensures judge { result.judge ≡ char_predicate_judge predicate }
         ensures callable { IsCallableText (by_char_predicate P.FnMut) (shown_text result) }
-        ensures settled { (p : ℕ → ℕ → Bool) → ComputesOnChars P.FnMut p predicate → IsSettledText (by_char_predicate P.FnMut) (shown_text result) p }
+        ensures settled { (p : ℕ → ℕ → Bool) → ComputesOnChars P.FnMut p predicate
+            → IsSettledText (by_char_predicate P.FnMut) (shown_text result) p }
     {
         LinearStrGroupBy::new(self.as_str(), predicate)
     }
@@ -97,11 +101,13 @@ pub trait StrGroupByMut {
         F: FnMut(char) -> K,
         K: PartialEq + Drop,
         requires utf8 { IsUtf8 (text self.old) }
-        requires callable { IsCallableText (by_char_key F.FnMut K.eq) (record { text = text self.old; judge = char_key_judge func }) }
+        requires callable { IsCallableText (by_char_key F.FnMut K.eq)
+            (record { text = text self.old; judge = char_key_judge func }) }
         ensures text { result.text ≡ text self.entry.now }
         ensures judge { result.judge ≡ char_key_judge func }
         ensures callable { IsCallableText (by_char_key F.FnMut K.eq) (seen_text result) }
-        ensures settled { (key : ℕ → K) → ComputesCharKey F.FnMut key func → IsSettledText (by_char_key F.FnMut K.eq) (seen_text result) (λ x y. K.eq (key x) (key y)) }
+        ensures settled { (key : ℕ → K) → ComputesCharKey F.FnMut key func
+            → IsSettledText (by_char_key F.FnMut K.eq) (seen_text result) (λ x y. K.eq (key x) (key y)) }
         ensures loans { NothingOut result.loans.root result.loans }
     {
         LinearStrGroupByKeyMut::new(self.as_mut_bytes(), func)
@@ -113,11 +119,13 @@ pub trait StrGroupByMut {
     where
         P: FnMut(char, char) -> bool,
         requires utf8 { IsUtf8 (text self.old) }
-        requires callable { IsCallableText (by_char_predicate P.FnMut) (record { text = text self.old; judge = char_predicate_judge predicate }) }
+        requires callable { IsCallableText (by_char_predicate P.FnMut)
+            (record { text = text self.old; judge = char_predicate_judge predicate }) }
         ensures text { result.text ≡ text self.entry.now }
         ensures judge { result.judge ≡ char_predicate_judge predicate }
         ensures callable { IsCallableText (by_char_predicate P.FnMut) (seen_text result) }
-        ensures settled { (p : ℕ → ℕ → Bool) → ComputesOnChars P.FnMut p predicate → IsSettledText (by_char_predicate P.FnMut) (seen_text result) p }
+        ensures settled { (p : ℕ → ℕ → Bool) → ComputesOnChars P.FnMut p predicate
+            → IsSettledText (by_char_predicate P.FnMut) (seen_text result) p }
         ensures loans { NothingOut result.loans.root result.loans }
     {
         LinearStrGroupByMut::new(self.as_mut_bytes(), predicate)

@@ -31,11 +31,13 @@ pub trait GroupBy<T>: AsSlice<T> {
     where
         F: FnMut(&T) -> K,
         K: PartialEq + Drop,
-        requires { IsCallable (by_key F.FnMut K.eq) (record { remainder = Self.items self.now; judge = key_judge func }) }
+        requires { IsCallable (by_key F.FnMut K.eq)
+            (record { remainder = Self.items self.now; judge = key_judge func }) }
         ensures remainder { (shown result).remainder ≡ Self.items self.now }
         ensures judge { result.judge ≡ key_judge func }
         ensures callable { IsCallable (by_key F.FnMut K.eq) (shown result) }
-        ensures settled { (key : T → K) → ComputesKey F.FnMut key func → IsSettled (by_key F.FnMut K.eq) (shown result) (λ x y. K.eq (key x) (key y)) }
+        ensures settled { (key : T → K) → ComputesKey F.FnMut key func
+            → IsSettled (by_key F.FnMut K.eq) (shown result) (λ x y. K.eq (key x) (key y)) }
     {
         LinearGroupByKey::new(self.as_slice(), func)
     }
@@ -45,11 +47,13 @@ pub trait GroupBy<T>: AsSlice<T> {
     fn linear_group_by<P>(&self, predicate: P) -> LinearGroupBy<'_, T, P>
     where
         P: FnMut(&T, &T) -> bool,
-        requires { IsCallable (by_predicate P.FnMut) (record { remainder = Self.items self.now; judge = predicate_judge predicate }) }
+        requires { IsCallable (by_predicate P.FnMut)
+            (record { remainder = Self.items self.now; judge = predicate_judge predicate }) }
         ensures remainder { (shown result).remainder ≡ Self.items self.now }
         ensures judge { result.judge ≡ predicate_judge predicate }
         ensures callable { IsCallable (by_predicate P.FnMut) (shown result) }
-        ensures settled { (p : T → T → Bool) → ComputesOnPairs P.FnMut p predicate → IsSettled (by_predicate P.FnMut) (shown result) p }
+        ensures settled { (p : T → T → Bool) → ComputesOnPairs P.FnMut p predicate
+            → IsSettled (by_predicate P.FnMut) (shown result) p }
     {
         LinearGroupBy::new(self.as_slice(), predicate)
     }
@@ -73,12 +77,16 @@ pub trait GroupBy<T>: AsSlice<T> {
     where
         F: FnMut(&T) -> K,
         K: PartialEq + Drop,
-        requires { IsCallableApart (by_key F.FnMut K.eq) (record { remainder = Self.items self.now; judge = key_judge func }) }
+        requires { IsCallableApart (by_key F.FnMut K.eq)
+            (record { remainder = Self.items self.now; judge = key_judge func }) }
         ensures remainder { (shown result).remainder ≡ Self.items self.now }
         ensures judge { result.judge ≡ key_judge func }
         ensures callable { IsCallableApart (by_key F.FnMut K.eq) (shown result) }
-        ensures computes { (key : T → K) → ComputesKey F.FnMut key func → ComputesApart (by_key F.FnMut K.eq) (shown result) (λ x y. K.eq (key x) (key y)) }
-        ensures settled { (key : T → K) → ComputesKey F.FnMut key func → IsGrouped (λ x y. K.eq (key x) (key y)) (Self.items self.now) → IsSettledApart (by_key F.FnMut K.eq) (shown result) (λ x y. K.eq (key x) (key y)) }
+        ensures computes { (key : T → K) → ComputesKey F.FnMut key func
+            → ComputesApart (by_key F.FnMut K.eq) (shown result) (λ x y. K.eq (key x) (key y)) }
+        ensures settled { (key : T → K) → ComputesKey F.FnMut key func
+            → IsGrouped (λ x y. K.eq (key x) (key y)) (Self.items self.now)
+            → IsSettledApart (by_key F.FnMut K.eq) (shown result) (λ x y. K.eq (key x) (key y)) }
     {
         BinaryGroupByKey::new(self.as_slice(), func)
     }
@@ -88,12 +96,15 @@ pub trait GroupBy<T>: AsSlice<T> {
     fn binary_group_by<P>(&self, predicate: P) -> BinaryGroupBy<'_, T, P>
     where
         P: FnMut(&T, &T) -> bool,
-        requires { IsCallableApart (by_predicate P.FnMut) (record { remainder = Self.items self.now; judge = predicate_judge predicate }) }
+        requires { IsCallableApart (by_predicate P.FnMut)
+            (record { remainder = Self.items self.now; judge = predicate_judge predicate }) }
         ensures remainder { (shown result).remainder ≡ Self.items self.now }
         ensures judge { result.judge ≡ predicate_judge predicate }
         ensures callable { IsCallableApart (by_predicate P.FnMut) (shown result) }
-        ensures computes { (p : T → T → Bool) → ComputesOnPairs P.FnMut p predicate → ComputesApart (by_predicate P.FnMut) (shown result) p }
-        ensures settled { (p : T → T → Bool) → ComputesOnPairs P.FnMut p predicate → IsGrouped p (Self.items self.now) → IsSettledApart (by_predicate P.FnMut) (shown result) p }
+        ensures computes { (p : T → T → Bool) → ComputesOnPairs P.FnMut p predicate
+            → ComputesApart (by_predicate P.FnMut) (shown result) p }
+        ensures settled { (p : T → T → Bool) → ComputesOnPairs P.FnMut p predicate → IsGrouped p (Self.items self.now)
+            → IsSettledApart (by_predicate P.FnMut) (shown result) p }
     {
         BinaryGroupBy::new(self.as_slice(), predicate)
     }
@@ -118,12 +129,16 @@ pub trait GroupBy<T>: AsSlice<T> {
     where
         F: Fn(&T) -> K,
         K: PartialEq + Drop,
-        requires { IsCallableApart (by_key F.FnMut K.eq) (record { remainder = Self.items self.now; judge = key_judge func }) }
+        requires { IsCallableApart (by_key F.FnMut K.eq)
+            (record { remainder = Self.items self.now; judge = key_judge func }) }
         ensures remainder { (shown result).remainder ≡ Self.items self.now }
         ensures judge { result.judge ≡ key_judge func }
         ensures callable { IsCallableApart (by_key F.FnMut K.eq) (shown result) }
-        ensures computes { (key : T → K) → ComputesKey F.FnMut key func → ComputesApart (by_key F.FnMut K.eq) (shown result) (λ x y. K.eq (key x) (key y)) }
-        ensures settled { (key : T → K) → ComputesKey F.FnMut key func → IsGrouped (λ x y. K.eq (key x) (key y)) (Self.items self.now) → IsSettledApart (by_key F.FnMut K.eq) (shown result) (λ x y. K.eq (key x) (key y)) }
+        ensures computes { (key : T → K) → ComputesKey F.FnMut key func
+            → ComputesApart (by_key F.FnMut K.eq) (shown result) (λ x y. K.eq (key x) (key y)) }
+        ensures settled { (key : T → K) → ComputesKey F.FnMut key func
+            → IsGrouped (λ x y. K.eq (key x) (key y)) (Self.items self.now)
+            → IsSettledApart (by_key F.FnMut K.eq) (shown result) (λ x y. K.eq (key x) (key y)) }
     {
         ExponentialGroupByKey::new(self.as_slice(), func)
     }
@@ -133,12 +148,15 @@ pub trait GroupBy<T>: AsSlice<T> {
     fn exponential_group_by<P>(&self, predicate: P) -> ExponentialGroupBy<'_, T, P>
     where
         P: FnMut(&T, &T) -> bool,
-        requires { IsCallableApart (by_predicate P.FnMut) (record { remainder = Self.items self.now; judge = predicate_judge predicate }) }
+        requires { IsCallableApart (by_predicate P.FnMut)
+            (record { remainder = Self.items self.now; judge = predicate_judge predicate }) }
         ensures remainder { (shown result).remainder ≡ Self.items self.now }
         ensures judge { result.judge ≡ predicate_judge predicate }
         ensures callable { IsCallableApart (by_predicate P.FnMut) (shown result) }
-        ensures computes { (p : T → T → Bool) → ComputesOnPairs P.FnMut p predicate → ComputesApart (by_predicate P.FnMut) (shown result) p }
-        ensures settled { (p : T → T → Bool) → ComputesOnPairs P.FnMut p predicate → IsGrouped p (Self.items self.now) → IsSettledApart (by_predicate P.FnMut) (shown result) p }
+        ensures computes { (p : T → T → Bool) → ComputesOnPairs P.FnMut p predicate
+            → ComputesApart (by_predicate P.FnMut) (shown result) p }
+        ensures settled { (p : T → T → Bool) → ComputesOnPairs P.FnMut p predicate → IsGrouped p (Self.items self.now)
+            → IsSettledApart (by_predicate P.FnMut) (shown result) p }
     {
         ExponentialGroupBy::new(self.as_slice(), predicate)
     }

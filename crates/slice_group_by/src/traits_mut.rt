@@ -44,7 +44,8 @@ pub trait GroupByMut<T> {
         ensures remainder { result.remainder ≡ elements self.entry.now }
         ensures judge { result.judge ≡ key_judge func }
         ensures callable { IsCallable (by_key F.FnMut K.eq) (seen result) }
-        ensures settled { (key : T → K) → ComputesKey F.FnMut key func → IsSettled (by_key F.FnMut K.eq) (seen result) (λ x y. K.eq (key x) (key y)) }
+        ensures settled { (key : T → K) → ComputesKey F.FnMut key func
+            → IsSettled (by_key F.FnMut K.eq) (seen result) (λ x y. K.eq (key x) (key y)) }
         ensures loans { NothingOut result.loans.root result.loans }
     {
         LinearGroupByKeyMut::new(self.as_mut_slice(), func)
@@ -55,11 +56,13 @@ pub trait GroupByMut<T> {
     fn linear_group_by_mut<P>(&mut self, predicate: P) -> LinearGroupByMut<'_, T, P>
     where
         P: FnMut(&T, &T) -> bool,
-        requires { IsCallable (by_predicate P.FnMut) (record { remainder = elements self.old; judge = predicate_judge predicate }) }
+        requires { IsCallable (by_predicate P.FnMut)
+            (record { remainder = elements self.old; judge = predicate_judge predicate }) }
         ensures remainder { result.remainder ≡ elements self.entry.now }
         ensures judge { result.judge ≡ predicate_judge predicate }
         ensures callable { IsCallable (by_predicate P.FnMut) (seen result) }
-        ensures settled { (p : T → T → Bool) → ComputesOnPairs P.FnMut p predicate → IsSettled (by_predicate P.FnMut) (seen result) p }
+        ensures settled { (p : T → T → Bool) → ComputesOnPairs P.FnMut p predicate
+            → IsSettled (by_predicate P.FnMut) (seen result) p }
         ensures loans { NothingOut result.loans.root result.loans }
     {
         LinearGroupByMut::new(self.as_mut_slice(), predicate)
@@ -85,12 +88,16 @@ pub trait GroupByMut<T> {
     where
         F: FnMut(&T) -> K,
         K: PartialEq + Drop,
-        requires { IsCallableApart (by_key F.FnMut K.eq) (record { remainder = elements self.old; judge = key_judge func }) }
+        requires { IsCallableApart (by_key F.FnMut K.eq)
+            (record { remainder = elements self.old; judge = key_judge func }) }
         ensures remainder { result.remainder ≡ elements self.entry.now }
         ensures judge { result.judge ≡ key_judge func }
         ensures callable { IsCallableApart (by_key F.FnMut K.eq) (seen result) }
-        ensures computes { (key : T → K) → ComputesKey F.FnMut key func → ComputesApart (by_key F.FnMut K.eq) (seen result) (λ x y. K.eq (key x) (key y)) }
-        ensures settled { (key : T → K) → ComputesKey F.FnMut key func → IsGrouped (λ x y. K.eq (key x) (key y)) (elements self.entry.now) → IsSettledApart (by_key F.FnMut K.eq) (seen result) (λ x y. K.eq (key x) (key y)) }
+        ensures computes { (key : T → K) → ComputesKey F.FnMut key func
+            → ComputesApart (by_key F.FnMut K.eq) (seen result) (λ x y. K.eq (key x) (key y)) }
+        ensures settled { (key : T → K) → ComputesKey F.FnMut key func
+            → IsGrouped (λ x y. K.eq (key x) (key y)) (elements self.entry.now)
+            → IsSettledApart (by_key F.FnMut K.eq) (seen result) (λ x y. K.eq (key x) (key y)) }
         ensures loans { NothingOut result.loans.root result.loans }
     {
         BinaryGroupByKeyMut::new(self.as_mut_slice(), func)
@@ -101,12 +108,15 @@ pub trait GroupByMut<T> {
     fn binary_group_by_mut<P>(&mut self, predicate: P) -> BinaryGroupByMut<'_, T, P>
     where
         P: FnMut(&T, &T) -> bool,
-        requires { IsCallableApart (by_predicate P.FnMut) (record { remainder = elements self.old; judge = predicate_judge predicate }) }
+        requires { IsCallableApart (by_predicate P.FnMut)
+            (record { remainder = elements self.old; judge = predicate_judge predicate }) }
         ensures remainder { result.remainder ≡ elements self.entry.now }
         ensures judge { result.judge ≡ predicate_judge predicate }
         ensures callable { IsCallableApart (by_predicate P.FnMut) (seen result) }
-        ensures computes { (p : T → T → Bool) → ComputesOnPairs P.FnMut p predicate → ComputesApart (by_predicate P.FnMut) (seen result) p }
-        ensures settled { (p : T → T → Bool) → ComputesOnPairs P.FnMut p predicate → IsGrouped p (elements self.entry.now) → IsSettledApart (by_predicate P.FnMut) (seen result) p }
+        ensures computes { (p : T → T → Bool) → ComputesOnPairs P.FnMut p predicate
+            → ComputesApart (by_predicate P.FnMut) (seen result) p }
+        ensures settled { (p : T → T → Bool) → ComputesOnPairs P.FnMut p predicate
+            → IsGrouped p (elements self.entry.now) → IsSettledApart (by_predicate P.FnMut) (seen result) p }
         ensures loans { NothingOut result.loans.root result.loans }
     {
         BinaryGroupByMut::new(self.as_mut_slice(), predicate)
@@ -121,7 +131,8 @@ pub trait GroupByMut<T> {
         ensures asked { result.judge.questions.asked ≡ 0 }
         ensures callable { IsCallableApart (by_equality T.eq) (seen result) }
         ensures computes { ComputesApart (by_equality T.eq) (seen result) T.eq }
-        ensures settled { IsGrouped T.eq (elements self.entry.now) → IsSettledApart (by_equality T.eq) (seen result) T.eq }
+        ensures settled { IsGrouped T.eq (elements self.entry.now)
+            → IsSettledApart (by_equality T.eq) (seen result) T.eq }
         ensures loans { NothingOut result.loans.root result.loans }
     {
         BinaryGroupMut::new(self.as_mut_slice())
@@ -136,12 +147,16 @@ pub trait GroupByMut<T> {
     where
         F: Fn(&T) -> K,
         K: PartialEq + Drop,
-        requires { IsCallableApart (by_key F.FnMut K.eq) (record { remainder = elements self.old; judge = key_judge func }) }
+        requires { IsCallableApart (by_key F.FnMut K.eq)
+            (record { remainder = elements self.old; judge = key_judge func }) }
         ensures remainder { result.remainder ≡ elements self.entry.now }
         ensures judge { result.judge ≡ key_judge func }
         ensures callable { IsCallableApart (by_key F.FnMut K.eq) (seen result) }
-        ensures computes { (key : T → K) → ComputesKey F.FnMut key func → ComputesApart (by_key F.FnMut K.eq) (seen result) (λ x y. K.eq (key x) (key y)) }
-        ensures settled { (key : T → K) → ComputesKey F.FnMut key func → IsGrouped (λ x y. K.eq (key x) (key y)) (elements self.entry.now) → IsSettledApart (by_key F.FnMut K.eq) (seen result) (λ x y. K.eq (key x) (key y)) }
+        ensures computes { (key : T → K) → ComputesKey F.FnMut key func
+            → ComputesApart (by_key F.FnMut K.eq) (seen result) (λ x y. K.eq (key x) (key y)) }
+        ensures settled { (key : T → K) → ComputesKey F.FnMut key func
+            → IsGrouped (λ x y. K.eq (key x) (key y)) (elements self.entry.now)
+            → IsSettledApart (by_key F.FnMut K.eq) (seen result) (λ x y. K.eq (key x) (key y)) }
         ensures loans { NothingOut result.loans.root result.loans }
     {
         ExponentialGroupByKeyMut::new(self.as_mut_slice(), func)
@@ -152,12 +167,15 @@ pub trait GroupByMut<T> {
     fn exponential_group_by_mut<P>(&mut self, predicate: P) -> ExponentialGroupByMut<'_, T, P>
     where
         P: FnMut(&T, &T) -> bool,
-        requires { IsCallableApart (by_predicate P.FnMut) (record { remainder = elements self.old; judge = predicate_judge predicate }) }
+        requires { IsCallableApart (by_predicate P.FnMut)
+            (record { remainder = elements self.old; judge = predicate_judge predicate }) }
         ensures remainder { result.remainder ≡ elements self.entry.now }
         ensures judge { result.judge ≡ predicate_judge predicate }
         ensures callable { IsCallableApart (by_predicate P.FnMut) (seen result) }
-        ensures computes { (p : T → T → Bool) → ComputesOnPairs P.FnMut p predicate → ComputesApart (by_predicate P.FnMut) (seen result) p }
-        ensures settled { (p : T → T → Bool) → ComputesOnPairs P.FnMut p predicate → IsGrouped p (elements self.entry.now) → IsSettledApart (by_predicate P.FnMut) (seen result) p }
+        ensures computes { (p : T → T → Bool) → ComputesOnPairs P.FnMut p predicate
+            → ComputesApart (by_predicate P.FnMut) (seen result) p }
+        ensures settled { (p : T → T → Bool) → ComputesOnPairs P.FnMut p predicate
+            → IsGrouped p (elements self.entry.now) → IsSettledApart (by_predicate P.FnMut) (seen result) p }
         ensures loans { NothingOut result.loans.root result.loans }
     {
         ExponentialGroupByMut::new(self.as_mut_slice(), predicate)
@@ -172,7 +190,8 @@ pub trait GroupByMut<T> {
         ensures asked { result.judge.questions.asked ≡ 0 }
         ensures callable { IsCallableApart (by_equality T.eq) (seen result) }
         ensures computes { ComputesApart (by_equality T.eq) (seen result) T.eq }
-        ensures settled { IsGrouped T.eq (elements self.entry.now) → IsSettledApart (by_equality T.eq) (seen result) T.eq }
+        ensures settled { IsGrouped T.eq (elements self.entry.now)
+            → IsSettledApart (by_equality T.eq) (seen result) T.eq }
         ensures loans { NothingOut result.loans.root result.loans }
     {
         ExponentialGroupMut::new(self.as_mut_slice())

@@ -29,8 +29,10 @@ fn walk_families<'a, T: Ord>(
     requires linear { length linear.old ≡ length ends.now }
     requires binary { length binary.old ≡ length ends.now }
     requires exponential { length exponential.old ≡ length ends.now }
-    ensures binary { map (option_map (λ group. group.now)) binary.new ≡ map (option_map (λ group. group.now)) linear.new }
-    ensures exponential { map (option_map (λ group. group.now)) exponential.new ≡ map (option_map (λ group. group.now)) linear.new }
+    ensures binary { map (option_map (λ group. group.now)) binary.new
+        ≡ map (option_map (λ group. group.now)) linear.new }
+    ensures exponential { map (option_map (λ group. group.now)) exponential.new
+        ≡ map (option_map (λ group. group.now)) linear.new }
 {
     ascending_is_grouped::<T, T>();
     walk(&mut LinearGroup::new(slice), ends, linear);
@@ -58,9 +60,12 @@ fn walk_families_mut<'a, T: Ord>(
     requires linear { length linear.old ≡ length ends.now }
     requires binary { length binary.old ≡ length ends.now }
     requires exponential { length exponential.old ≡ length ends.now }
-    ensures linear { map (option_map (λ group. group.now)) linear.new ≡ map (option_map (λ group. group.now)) reading.new }
-    ensures binary { map (option_map (λ group. group.now)) binary.new ≡ map (option_map (λ group. group.now)) reading.new }
-    ensures exponential { map (option_map (λ group. group.now)) exponential.new ≡ map (option_map (λ group. group.now)) reading.new }
+    ensures linear { map (option_map (λ group. group.now)) linear.new
+        ≡ map (option_map (λ group. group.now)) reading.new }
+    ensures binary { map (option_map (λ group. group.now)) binary.new
+        ≡ map (option_map (λ group. group.now)) reading.new }
+    ensures exponential { map (option_map (λ group. group.now)) exponential.new
+        ≡ map (option_map (λ group. group.now)) reading.new }
 {
     ascending_is_grouped::<T, T>();
     walk(&mut LinearGroup::new(slice), ends, reading);
@@ -73,7 +78,8 @@ fn walk_families_mut<'a, T: Ord>(
 fn walk_by_tens<'a>(slice: &'a &[u8], ends: &[End], out: &mut [Option<&'a [u8]>])
     requires grouped { IsGrouped (λ a b. nat_eq (a / 10) (b / 10)) slice.now.now }
     requires len { length out.old ≡ length ends.now }
-    ensures { map (option_map (λ group. group.now)) out.new ≡ pops (split (λ a b. nat_eq (a / 10) (b / 10)) slice.now.now) ends.now }
+    ensures { map (option_map (λ group. group.now)) out.new
+        ≡ pops (split (λ a b. nat_eq (a / 10) (b / 10)) slice.now.now) ends.now }
 {
     let mut groups = slice.binary_group_by(|a, b| *a / 10 == *b / 10);
     walk(&mut groups, ends, out);

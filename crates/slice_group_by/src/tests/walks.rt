@@ -43,10 +43,13 @@ fn over_nothing(rt: HostRuntime) {
 }
 
 fn queue_of_three()
-    ensures answers { pops {X = ℕ} (1 ∷ 2 ∷ 3 ∷ []) (Front ∷ Back ∷ Front ∷ Back ∷ Front ∷ []) ≡ Some 1 ∷ Some 3 ∷ Some 2 ∷ None ∷ None ∷ [] }
+    ensures answers { pops {X = ℕ} (1 ∷ 2 ∷ 3 ∷ []) (Front ∷ Back ∷ Front ∷ Back ∷ Front ∷ [])
+        ≡ Some 1 ∷ Some 3 ∷ Some 2 ∷ None ∷ None ∷ [] }
     ensures left { after_pops {X = ℕ} (1 ∷ 2 ∷ 3 ∷ []) (Front ∷ Back ∷ []) ≡ 2 ∷ [] }
-    ensures front { given_at {X = ℕ} Front (Front ∷ Back ∷ Front ∷ Back ∷ Front ∷ []) (Some 1 ∷ Some 3 ∷ Some 2 ∷ None ∷ None ∷ []) ≡ 1 ∷ 2 ∷ [] }
-    ensures back { given_at {X = ℕ} Back (Front ∷ Back ∷ Front ∷ Back ∷ Front ∷ []) (Some 1 ∷ Some 3 ∷ Some 2 ∷ None ∷ None ∷ []) ≡ 3 ∷ [] }
+    ensures front { given_at {X = ℕ} Front (Front ∷ Back ∷ Front ∷ Back ∷ Front ∷ [])
+        (Some 1 ∷ Some 3 ∷ Some 2 ∷ None ∷ None ∷ []) ≡ 1 ∷ 2 ∷ [] }
+    ensures back { given_at {X = ℕ} Back (Front ∷ Back ∷ Front ∷ Back ∷ Front ∷ [])
+        (Some 1 ∷ Some 3 ∷ Some 2 ∷ None ∷ None ∷ []) ≡ 3 ∷ [] }
 {}
 
 #[test]

@@ -16,7 +16,8 @@ returns-then-not-together-clause-asked g c =
     let i = c.loop-end.invariant in
     let near = are_neighbours xs c.loop-end.end _ _ (omega arith) (omega arith) c.index-slice-end.is c.index-slice-end-in-loop-end.is in
     let here = front_pair xs c.loop-end.end _ _ (omega arith) (omega arith) c.index-slice-end.is c.index-slice-end-in-loop-end.is in
-    refused_next _ _ (neighbours xs) _ _ _ _ _ i.accepted here (may_now _ _ _ _ _ i.callable near) c.if-not-together.ensures c.loop-end.end (omega arith)
+    refused_next _ _ (neighbours xs) _ _ _ _ _ i.accepted here (may_now _ _ _ _ _ i.callable near) c.if-not-together.ensures c.loop-end.end
+    (omega arith)
 
 pub loop-end-preserved : goal.loop-end-preserved
 loop-end-preserved g c =
@@ -28,9 +29,12 @@ loop-end-preserved g c =
       after = omega arith;
       upto = omega arith;
       callable = may_next _ _ _ _ _ _ _ i.callable near c.if-not-together.ensures;
-      accepted = accepted_more _ _ (neighbours xs) _ _ _ _ _ i.accepted here (may_now _ _ _ _ _ i.callable near) c.if-not-together.ensures _ (omega arith);
+      accepted =
+          accepted_more _ _ (neighbours xs) _ _ _ _ _ i.accepted here (may_now _ _ _ _ _ i.callable near) c.if-not-together.ensures _
+          (omega arith);
     }
 
 pub returns-clause-asked : goal.returns-clause-asked
 returns-clause-asked g c =
-    accepted_all _ _ (neighbours c.args.slice.now) _ _ _ c.loop-end.invariant.accepted (omega (arith, length-neighbours c.args.slice.now)) c.loop-end.end (omega arith)
+    accepted_all _ _ (neighbours c.args.slice.now) _ _ _ c.loop-end.invariant.accepted
+    (omega (arith, length-neighbours c.args.slice.now)) c.loop-end.end (omega arith)

@@ -8,7 +8,8 @@ abbrev pub invariant-loop-start : goal.invariant-loop-start
 invariant-loop-start g l = record {
   before : l.start < length l.slice;
   callable : MayAskAlong g.J.Judge l.slice l.judge;
-  accepted : Accepted g.J.Judge.may_ask g.J.Judge.answers (reverse (neighbours l.slice)) l.initial.judge (length l.slice - l.start - 1) l.judge;
+  accepted : Accepted g.J.Judge.may_ask g.J.Judge.answers (reverse (neighbours l.slice)) l.initial.judge
+      (length l.slice - l.start - 1) l.judge;
 }
 
 abbrev pub decreases-loop-start : goal.decreases-loop-start

@@ -8,7 +8,8 @@ use Rattle.sgb_slice_group.proofs.searching.first_len.Goals as goal
 pub search-requires : goal.search-requires
 search-requires g c =
     let xs = c.args.slice.now in
-    may_places g.J.Judge xs (AreApart xs) (outward_apart Front xs) (length xs - 1) _ (omega (arith, c.requires.nonempty)) c.requires.callable
+    may_places g.J.Judge xs (AreApart xs) (outward_apart Front xs) (length xs - 1) _
+    (omega (arith, c.requires.nonempty)) c.requires.callable
 
 pub returns-clause-asked : goal.returns-clause-asked
 returns-clause-asked g c =

@@ -11,4 +11,6 @@ returns-clause-pairs g c = chain_asks_once g.J.Judge (GivesText g.J.Judge) (λ s
 
 pub returns-clause-whole : goal.returns-clause-whole
 returns-clause-whole g c s t ends out h z =
-    whole_asks g.J.Judge (in_characters (shown_text s)) (in_characters (shown_text t)) (chain_asks_once g.J.Judge (GivesText g.J.Judge) (λ s. in_characters (shown_text s)) (reading_once g.J.Judge) s t ends out h) (ap chars z ∙ chars-nil)
+    whole_asks g.J.Judge (in_characters (shown_text s)) (in_characters (shown_text t))
+    (chain_asks_once g.J.Judge (GivesText g.J.Judge) (λ s. in_characters (shown_text s)) (reading_once g.J.Judge) s t ends out h)
+    (ap chars z ∙ chars-nil)

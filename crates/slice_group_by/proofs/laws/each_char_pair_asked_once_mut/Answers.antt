@@ -12,4 +12,6 @@ returns-clause-pairs g c = chain_asks_once g.J.Judge (GivesTextMut g.J.Judge) (�
 
 pub returns-clause-whole : goal.returns-clause-whole
 returns-clause-whole g c s t ends out h z =
-    whole_asks g.J.Judge (in_characters (seen_text s)) (in_characters (seen_text t)) (chain_asks_once g.J.Judge (GivesTextMut g.J.Judge) (λ s. in_characters (seen_text s)) (writing_once g.J.Judge) s t ends out h) (ap chars z ∙ chars-nil)
+    whole_asks g.J.Judge (in_characters (seen_text s)) (in_characters (seen_text t))
+    (chain_asks_once g.J.Judge (GivesTextMut g.J.Judge) (λ s. in_characters (seen_text s)) (writing_once g.J.Judge) s t ends out h)
+    (ap chars z ∙ chars-nil)

@@ -8,4 +8,5 @@ returns-clause-pairs g c = chain_asks_once g.J.Judge (Gives (LinearQuestions g.J
 
 pub returns-clause-whole : goal.returns-clause-whole
 returns-clause-whole g c s t es os h z =
-    whole_asks g.J.Judge (shown s) (shown t) (chain_asks_once g.J.Judge (Gives (LinearQuestions g.J.Judge)) shown (reading_asks_once g.J.Judge) s t es os h) z
+    whole_asks g.J.Judge (shown s) (shown t)
+    (chain_asks_once g.J.Judge (Gives (LinearQuestions g.J.Judge)) shown (reading_asks_once g.J.Judge) s t es os h) z

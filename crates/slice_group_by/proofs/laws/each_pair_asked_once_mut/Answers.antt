@@ -8,4 +8,5 @@ returns-clause-pairs g c = chain_asks_once g.J.Judge (GivesMut (LinearQuestions 
 
 pub returns-clause-whole : goal.returns-clause-whole
 returns-clause-whole g c s t es os h z =
-    whole_asks g.J.Judge (seen s) (seen t) (chain_asks_once g.J.Judge (GivesMut (LinearQuestions g.J.Judge)) seen (writing_asks_once g.J.Judge) s t es os h) z
+    whole_asks g.J.Judge (seen s) (seen t)
+    (chain_asks_once g.J.Judge (GivesMut (LinearQuestions g.J.Judge)) seen (writing_asks_once g.J.Judge) s t es os h) z

@@ -5,7 +5,8 @@ use Rattle.slice_group_by.proofs.Seen.{yields_parts, drains_parts}
 use Rattle.slice_group_by.proofs.laws.texts_join_mut.Goals as goal
 
 pub returns-clause-calls : goal.returns-clause-calls
-returns-clause-calls g c s t ends out = chain_parts (GivesTextMut g.J.Judge) (λ s. s.text) (λ x. x.now) (text_part_mut g.J.Judge) s ends out t
+returns-clause-calls g c s t ends out =
+    chain_parts (GivesTextMut g.J.Judge) (λ s. s.text) (λ x. x.now) (text_part_mut g.J.Judge) s ends out t
 
 pub returns-clause-part : goal.returns-clause-part
 returns-clause-part g c = yields_parts (GivesTextMut g.J.Judge) (λ s. s.text) (λ x. x.now) (text_part_mut g.J.Judge)

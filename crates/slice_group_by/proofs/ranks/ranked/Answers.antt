@@ -13,7 +13,9 @@ loop-group-init c =
       root = refl;
       cuts = loans.cuts;
       after = loans.after;
-      ranked = ap (λ (l : List ℕ). l ++ numbered 0 (split nat_eq c.new-groups.result.remainder)) loans.before ∙ ranks_numbered nat_eq c.new-groups.result.remainder;
+      ranked =
+          ap (λ (l : List ℕ). l ++ numbered 0 (split nat_eq c.new-groups.result.remainder)) loans.before
+          ∙ ranks_numbered nat_eq c.new-groups.result.remainder;
       counted = omega arith;
       kept = omega (arith, ap length loans.before);
     }
@@ -33,16 +35,19 @@ loop-group-preserved c =
     let before : c.note_front.new.self.loans.before ≡ c.loop-group.groups.loans.before ++ c.of.result.value =
     note.before ∙ ap (λ (l : List ℕ). l ++ c.of.result.value) steps.1.before in
     let longer : length c.note_front.new.self.loans.before ≡ length c.loop-group.groups.loans.before + length group =
-    ap length before ∙ length-append c.loop-group.groups.loans.before c.of.result.value ∙ ap (λ n. length c.loop-group.groups.loans.before + n) (ap length filled ∙ length-replicate (length group) c.loop-group.rank) in
+    ap length before ∙ length-append c.loop-group.groups.loans.before c.of.result.value
+    ∙ ap (λ n. length c.loop-group.groups.loans.before + n) (ap length filled ∙ length-replicate (length group) c.loop-group.rank) in
     let shorter : length c.loop-group.groups.remainder ≡ length group + length c.note_front.new.self.remainder =
-    ap length steps.0.cut ∙ length-append group c.next.new.self.remainder ∙ ap (λ (l : List ℕ). length group + length l) (sym note.remainder) in
+    ap length steps.0.cut ∙ length-append group c.next.new.self.remainder
+    ∙ ap (λ (l : List ℕ). length group + length l) (sym note.remainder) in
     record {
       settled = rw (note.remainder, note.judge) stays;
       root = note.root ∙ steps.1.root ∙ i.root;
       cuts = note.cuts ∙ ap (drop 1) (steps.1.cuts ∙ ap (λ cs. cs ++ (Front, c.in-Some.group.ghost_name) ∷ []) i.cuts);
       after = note.after ∙ steps.1.after ∙ i.after;
       ranked = ap (λ (l : List ℕ). l ++ numbered (c.loop-group.rank + 1) (split nat_eq c.note_front.new.self.remainder)) before
-          ∙ ap (λ (l : List ℕ). (c.loop-group.groups.loans.before ++ c.of.result.value) ++ numbered (c.loop-group.rank + 1) (split nat_eq l)) note.remainder
+          ∙ ap (λ (l : List ℕ). (c.loop-group.groups.loans.before ++ c.of.result.value) ++ numbered (c.loop-group.rank + 1)
+          (split nat_eq l)) note.remainder
           ∙ one_more nat_eq _ _ c.loop-group.rank group after_it.remainder before_it.remainder _ i.ranked cut filled;
       counted = omega (arith, longer, i.counted, steps.0.nonempty);
       kept = omega (arith, longer, shorter, i.kept);

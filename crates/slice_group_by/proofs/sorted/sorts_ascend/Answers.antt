@@ -5,4 +5,5 @@ pub returns-clause-by_itself : goal.returns-clause-by_itself
 returns-clause-by_itself g c xs h = sort_ascends g.K.Ord.cmp g.met.K.Ord.total (λ x. x) xs h
 
 pub returns-clause-by_key : goal.returns-clause-by_key
-returns-clause-by_key g c key xs h = keys_of_neighbours g.K.Ord.cmp g.met.K.Ord.total key xs (sort_ascends g.K.Ord.cmp g.met.K.Ord.total key xs h)
+returns-clause-by_key g c key xs h =
+    keys_of_neighbours g.K.Ord.cmp g.met.K.Ord.total key xs (sort_ascends g.K.Ord.cmp g.met.K.Ord.total key xs h)

@@ -4,4 +4,7 @@ use Rattle.slice_group_by.proofs.tests.families.walk_by_tens.Goals as goal
 
 pub returns : goal.returns
 returns c =
-    rw c.binary_group_by-groups.ensures.remainder at (c.walk.ensures.pieces _ (c.binary_group_by-groups.ensures.settled (λ a b. nat_eq (a / 10) (b / 10)) (always_returns_same _ _ _ (λ a r f' k. search rules)) c.requires.grouped))
+    rw c.binary_group_by-groups.ensures.remainder at
+    (c.walk.ensures.pieces _
+    (c.binary_group_by-groups.ensures.settled (λ a b. nat_eq (a / 10) (b / 10))
+    (always_returns_same _ _ _ (λ a r f' k. search rules)) c.requires.grouped))
