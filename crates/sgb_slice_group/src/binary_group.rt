@@ -4,7 +4,6 @@ use crate::groups_mut::SearchGroupsMut;
 use crate::searching::GroupSearch;
 use sgb_search::gallop::{Places, halve};
 use sgb_search::judge::{EqualityJudge, KeyJudge, PredicateJudge};
-use std::fmt;
 
 /// An iterator over the groups of equal elements of a slice, which should be grouped: a call asks at most `digits(n - 1)`
 /// questions, where n elements remain.
@@ -89,41 +88,5 @@ impl GroupSearch for Binary {
     #[inline]
     fn search<A, P: Places<A>>(asker: &mut A, places: &P, len: usize) -> Result<usize, usize> {
         halve(asker, places, 0, len)
-    }
-}
-
-impl<'a, T: fmt::Debug, P> fmt::Debug for SearchGroups<'a, T, PredicateJudge<P>, Binary> {
-    fn fmt<W: fmt::Write>(&self, f: &mut fmt::Formatter<W>) -> fmt::Result {
-        write!(f, "BinaryGroupBy {{ remainder: {:?} }}", self.remainder())
-    }
-}
-
-impl<'a, T: fmt::Debug, F, K> fmt::Debug for SearchGroups<'a, T, KeyJudge<F, K>, Binary> {
-    fn fmt<W: fmt::Write>(&self, f: &mut fmt::Formatter<W>) -> fmt::Result {
-        write!(
-            f,
-            "BinaryGroupByKey {{ remainder: {:?} }}",
-            self.remainder()
-        )
-    }
-}
-
-impl<'a, T: fmt::Debug, P> fmt::Debug for SearchGroupsMut<'a, T, PredicateJudge<P>, Binary> {
-    fn fmt<W: fmt::Write>(&self, f: &mut fmt::Formatter<W>) -> fmt::Result {
-        write!(
-            f,
-            "BinaryGroupByMut {{ remainder: {:?} }}",
-            self.remainder()
-        )
-    }
-}
-
-impl<'a, T: fmt::Debug, F, K> fmt::Debug for SearchGroupsMut<'a, T, KeyJudge<F, K>, Binary> {
-    fn fmt<W: fmt::Write>(&self, f: &mut fmt::Formatter<W>) -> fmt::Result {
-        write!(
-            f,
-            "BinaryGroupByKeyMut {{ remainder: {:?} }}",
-            self.remainder()
-        )
     }
 }

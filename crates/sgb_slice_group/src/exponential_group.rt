@@ -4,7 +4,6 @@ use crate::groups_mut::SearchGroupsMut;
 use crate::searching::GroupSearch;
 use sgb_search::gallop::{Places, gallop};
 use sgb_search::judge::{EqualityJudge, KeyJudge, PredicateJudge};
-use std::fmt;
 
 /// An iterator over the groups of equal elements of a slice, which should be grouped: a call that gives a group of g asks
 /// at most `2 * digits(g) + 1` questions, from both ends.
@@ -94,45 +93,5 @@ impl GroupSearch for Exponential {
     #[inline]
     fn search<A, P: Places<A>>(asker: &mut A, places: &P, len: usize) -> Result<usize, usize> {
         gallop(asker, places, len)
-    }
-}
-
-impl<'a, T: fmt::Debug, P> fmt::Debug for SearchGroups<'a, T, PredicateJudge<P>, Exponential> {
-    fn fmt<W: fmt::Write>(&self, f: &mut fmt::Formatter<W>) -> fmt::Result {
-        write!(
-            f,
-            "ExponentialGroupBy {{ remainder: {:?} }}",
-            self.remainder()
-        )
-    }
-}
-
-impl<'a, T: fmt::Debug, F, K> fmt::Debug for SearchGroups<'a, T, KeyJudge<F, K>, Exponential> {
-    fn fmt<W: fmt::Write>(&self, f: &mut fmt::Formatter<W>) -> fmt::Result {
-        write!(
-            f,
-            "ExponentialGroupByKey {{ remainder: {:?} }}",
-            self.remainder()
-        )
-    }
-}
-
-impl<'a, T: fmt::Debug, P> fmt::Debug for SearchGroupsMut<'a, T, PredicateJudge<P>, Exponential> {
-    fn fmt<W: fmt::Write>(&self, f: &mut fmt::Formatter<W>) -> fmt::Result {
-        write!(
-            f,
-            "ExponentialGroupByMut {{ remaining: {:?} }}",
-            self.remainder()
-        )
-    }
-}
-
-impl<'a, T: fmt::Debug, F, K> fmt::Debug for SearchGroupsMut<'a, T, KeyJudge<F, K>, Exponential> {
-    fn fmt<W: fmt::Write>(&self, f: &mut fmt::Formatter<W>) -> fmt::Result {
-        write!(
-            f,
-            "ExponentialGroupByKeyMut {{ remaining: {:?} }}",
-            self.remainder()
-        )
     }
 }

@@ -6,6 +6,7 @@ pub mod binary_group;
 mod by_equality;
 mod by_key;
 mod by_predicate;
+mod debug;
 pub mod exponential_group;
 pub mod groups;
 pub mod groups_mut;

@@ -8,7 +8,6 @@ use crate::groups::{GroupEnd, LinearGroups};
 use crate::groups_mut::LinearGroupsMut;
 use sgb_search::end::End;
 use sgb_search::judge::{EqualityJudge, Judge, KeyJudge, PredicateJudge};
-use std::fmt;
 
 /// An iterator over the groups of equal elements of a slice, by `==` of neighbours.
 ///
@@ -154,36 +153,4 @@ fn last_len<T, J: Judge<T>>(slice: &[T], judge: &mut J) -> usize
         start -= 1;
     }
     slice.len()
-}
-
-impl<'a, T: fmt::Debug, P> fmt::Debug for LinearGroups<'a, T, PredicateJudge<P>> {
-    fn fmt<W: fmt::Write>(&self, f: &mut fmt::Formatter<W>) -> fmt::Result {
-        write!(f, "LinearGroupBy {{ slice: {:?} }}", self.remainder())
-    }
-}
-
-impl<'a, T: fmt::Debug, F, K> fmt::Debug for LinearGroups<'a, T, KeyJudge<F, K>> {
-    fn fmt<W: fmt::Write>(&self, f: &mut fmt::Formatter<W>) -> fmt::Result {
-        write!(
-            f,
-            "LinearGroupByKey {{ remainder: {:?} }}",
-            self.remainder()
-        )
-    }
-}
-
-impl<'a, T: fmt::Debug, P> fmt::Debug for LinearGroupsMut<'a, T, PredicateJudge<P>> {
-    fn fmt<W: fmt::Write>(&self, f: &mut fmt::Formatter<W>) -> fmt::Result {
-        write!(f, "LinearGroupByMut {{ slice: {:?} }}", self.remainder())
-    }
-}
-
-impl<'a, T: fmt::Debug, F, K> fmt::Debug for LinearGroupsMut<'a, T, KeyJudge<F, K>> {
-    fn fmt<W: fmt::Write>(&self, f: &mut fmt::Formatter<W>) -> fmt::Result {
-        write!(
-            f,
-            "LinearGroupByKeyMut {{ remainder: {:?} }}",
-            self.remainder()
-        )
-    }
 }
