@@ -38,8 +38,8 @@ abbrev pub shown_text : {J : Type 0} → LinearStrGroups J → TextGroups J
 shown_text s = record { text = text_between s.string.now s.low s.high; judge = s.judge }
 
 -- no more groups come than bytes remain
-abbrev pub text_groups_left : {J : Type 0} → TextGroups J → Count
-text_groups_left s = at_most (length s.text)
+abbrev pub text_groups_to_come : {J : Type 0} → TextGroups J → Count
+text_groups_to_come s = at_most (length s.text)
 
 module _ {J : Type 0} (g : Ghosts J ℕ) where
   -- the judge may be asked about the neighbouring characters that remain, now and after any such questions

@@ -7,7 +7,7 @@ use Rattle.sgb_search.specs.declared.judge.Judge.{Ghosts}
 use Rattle.sgb_loans.specs.declared.loans.Loans.{Loans}
 use Rattle.sgb_loans.specs.GroupsMut.{HandsOut}
 use Rattle.sgb_search.specs.declared.end.End.{End}
-use Rattle.sgb_linear_str_group.specs.Texts.{TextGroups, text_groups_left, TextCallAt}
+use Rattle.sgb_linear_str_group.specs.Texts.{TextGroups, text_groups_to_come, TextCallAt}
 
 -- the bytes that it has not handed out yet, its judge, and the parts of the input that are out
 pub record TextGroupsMut (J : Type 0) : Type 0 where
@@ -20,8 +20,8 @@ abbrev pub seen_text : {J : Type 0} → TextGroupsMut J → TextGroups J
 seen_text s = record { text = s.text; judge = s.judge }
 
 -- no more groups come than bytes remain, as for reading
-abbrev pub text_groups_mut_left : {J : Type 0} → TextGroupsMut J → Count
-text_groups_mut_left s = text_groups_left (seen_text s)
+abbrev pub text_groups_mut_to_come : {J : Type 0} → TextGroupsMut J → Count
+text_groups_mut_to_come s = text_groups_to_come (seen_text s)
 
 -- what a call at the end gives for writing: what it gives for reading, and the group is out then; or nothing, and then nothing changes
 abbrev pub GivesTextMut : {J : Type 0} → Ghosts J ℕ → End → TextGroupsMut J → Option (MutBor (List ℕ)) → TextGroupsMut J → Type 0

@@ -3,7 +3,7 @@ ghost use Rattle.std.specs.Prelude.{◌≡◌, ◌<◌, ◌+◌, ◌^◌, length
 ghost use Rattle.std.specs.Iterator.{UpTo};
 ghost use Rattle.std.specs.Iterator.SizeHint.{IsWithinCount};
 ghost use Rattle.sgb_search.specs.declared.end.End.TheVariants.{Front, Back};
-ghost use Rattle.sgb_linear_str_group.specs.Texts.{text_between, shown_text, text_groups_left};
+ghost use Rattle.sgb_linear_str_group.specs.Texts.{text_between, shown_text, text_groups_to_come};
 
 use crate::scan::{first_len, last_len};
 use sgb_search::end::End;
@@ -125,7 +125,7 @@ impl<'a, J: Judge<char> + Drop> Iterator for LinearStrGroups<'a, J> {
 
     ghost next_gives = { GivesText J.Judge Front };
 
-    ghost remaining = { λ s. text_groups_left (shown_text s) };
+    ghost remaining = { λ s. text_groups_to_come (shown_text s) };
 
     /// The first group of the remainder, or `None` where nothing remains.
     #[inline]
@@ -137,8 +137,8 @@ impl<'a, J: Judge<char> + Drop> Iterator for LinearStrGroups<'a, J> {
     #[inline]
     fn size_hint(&self) -> (usize, Option<usize>)
         ensures value { result ≡ (0, None) }
-        ensures lower { IsWithinCount result.0 (text_groups_left (shown_text self.now)) }
-        ensures upper { IfSome result.1 (UpTo (text_groups_left (shown_text self.now))) }
+        ensures lower { IsWithinCount result.0 (text_groups_to_come (shown_text self.now)) }
+        ensures upper { IfSome result.1 (UpTo (text_groups_to_come (shown_text self.now))) }
     {
         (0, None)
     }

@@ -5,7 +5,7 @@ ghost use Rattle.std.specs.Iterator.SizeHint.{IsWithinCount};
 ghost use Rattle.std.specs.Str.{IsUtf8};
 ghost use Rattle.sgb_search.specs.declared.end.End.TheVariants.{Front, Back};
 ghost use Rattle.sgb_loans.specs.GroupsMut.{NothingOut};
-ghost use Rattle.sgb_linear_str_group.specs.TextsMut.{TextGroupsMut, text_groups_mut_left};
+ghost use Rattle.sgb_linear_str_group.specs.TextsMut.{TextGroupsMut, text_groups_mut_to_come};
 
 use crate::scan::{first_len, last_len};
 use sgb_loans::loans::{Ended, Loans};
@@ -183,7 +183,7 @@ impl<'a, J: Judge<char> + Drop> Iterator for LinearStrGroupsMut<'a, J> {
 
     ghost next_gives = { GivesTextMut J.Judge Front };
 
-    ghost remaining = { text_groups_mut_left };
+    ghost remaining = { text_groups_mut_to_come };
 
     /// The bytes of the first group of the remainder, or `None` where nothing remains. For a group of g characters it asks g
     /// questions, or g - 1 where nothing remains after it.
@@ -196,8 +196,8 @@ impl<'a, J: Judge<char> + Drop> Iterator for LinearStrGroupsMut<'a, J> {
     #[inline]
     fn size_hint(&self) -> (usize, Option<usize>)
         ensures value { result ≡ (0, None) }
-        ensures lower { IsWithinCount result.0 (text_groups_mut_left self.now) }
-        ensures upper { IfSome result.1 (UpTo (text_groups_mut_left self.now)) }
+        ensures lower { IsWithinCount result.0 (text_groups_mut_to_come self.now) }
+        ensures upper { IfSome result.1 (UpTo (text_groups_mut_to_come self.now)) }
     {
         (0, None)
     }

@@ -12,8 +12,8 @@ pub record GroupsMut (T J : Type 0) : Type 0 where
   pub loans : Loans T
 
 -- no more groups come than elements remain
-abbrev pub groups_mut_left : {T J : Type 0} → GroupsMut T J → Count
-groups_mut_left s = at_most (length s.remainder)
+abbrev pub groups_mut_to_come : {T J : Type 0} → GroupsMut T J → Count
+groups_mut_to_come s = at_most (length s.remainder)
 
 -- the part named g came off at the end e, and is out with those that were out before; the rest has a new name
 pub record HandsOut {T : Type 0} (e : End) (l : Loans T) (g : GName) (m : Loans T) : Type 0 where

@@ -13,8 +13,8 @@ pub record Groups (T J : Type 0) : Type 0 where
   pub judge : J
 
 -- no more groups come than elements remain
-abbrev pub groups_left : {T J : Type 0} → Groups T J → Count
-groups_left s = at_most (length s.remainder)
+abbrev pub groups_to_come : {T J : Type 0} → Groups T J → Count
+groups_to_come s = at_most (length s.remainder)
 
 module _ {T J : Type 0} where
   -- asks e xs n j k: a call at the end e that takes n of the elements xs may lead the judge from j to k

@@ -12,7 +12,6 @@ ghost use Rattle.sgb_search.specs.declared.judge.EqualityJudge.{EqualityJudge};
 
 /// Each list has exactly one split for a test. It has one piece more than the test refuses pairs, and none if it is
 /// empty.
-#[inline]
 pub fn one_split<T>()
     ensures exists { (p : T → T → Bool) (xs : List T) → IsSplit p xs (split p xs) }
     ensures unique { (p : T → T → Bool) (xs : List T) (ps : List (List T)) → IsSplit p xs ps → ps ≡ split p xs }
@@ -21,7 +20,6 @@ pub fn one_split<T>()
 
 /// How many neighbouring pairs a list has, and how many questions a linear call asks that takes g of its elements: g if
 /// something remains after them, and else g - 1.
-#[inline]
 pub fn question_count<T>()
     ensures pairs { (xs : List T) → length (neighbours xs) ≡ length xs - 1 }
     ensures some_remain { (e : End) (xs : List T) (g : ℕ) → 0 < g → g < length xs → length (questions e xs g) ≡ g }
@@ -29,28 +27,24 @@ pub fn question_count<T>()
 {}
 
 /// A predicate that may always be called may be asked about the neighbouring pairs of every slice.
-#[inline]
 pub fn always_callable<T, P: FnMut(&T, &T) -> bool>()
     ensures { (xs : List T) (predicate : P) → P.IsAlwaysCallable predicate
         → MayAskAlong (by_predicate P.FnMut) xs (predicate_judge predicate) }
 {}
 
 /// A key function that may always be called may be asked about the neighbouring pairs of every slice.
-#[inline]
 pub fn always_callable_key<T, F: FnMut(&T) -> K, K: PartialEq + Drop>()
     ensures { (xs : List T) (func : F) → F.IsAlwaysCallable func
         → MayAskAlong (by_key F.FnMut K.eq) xs (key_judge func) }
 {}
 
 /// A predicate that may always be called may be asked about every two different places of every slice, in both orders.
-#[inline]
 pub fn always_callable_apart<T, P: FnMut(&T, &T) -> bool>()
     ensures { (xs : List T) (predicate : P) → P.IsAlwaysCallable predicate
         → MayAskApart (by_predicate P.FnMut) xs (predicate_judge predicate) }
 {}
 
 /// A key function that may always be called may be asked about every two different places of every slice, in both orders.
-#[inline]
 pub fn always_callable_key_apart<T, F: FnMut(&T) -> K, K: PartialEq + Drop>()
     ensures { (xs : List T) (func : F) → F.IsAlwaysCallable func
         → MayAskApart (by_key F.FnMut K.eq) xs (key_judge func) }
@@ -58,7 +52,6 @@ pub fn always_callable_key_apart<T, F: FnMut(&T) -> K, K: PartialEq + Drop>()
 
 /// A key function that may be called on each element of a slice, which is what the searches ask of theirs, may be asked about
 /// its neighbouring pairs, and about every two different places, in both orders; and it may be called on each element of a part.
-#[inline]
 pub fn callable_on_elements<T, F: FnMut(&T) -> K, K: PartialEq + Drop>()
     ensures along { (xs : List T) (func : F) → MayCall F.FnMut xs func
         → MayAskAlong (by_key F.FnMut K.eq) xs (key_judge func) }
@@ -70,7 +63,6 @@ pub fn callable_on_elements<T, F: FnMut(&T) -> K, K: PartialEq + Drop>()
 
 /// A key function that computes a key of each element of a slice: the judge by key answers whether those keys are equal, of
 /// neighbouring pairs and of every two different places; and it computes the key of each element of a part.
-#[inline]
 pub fn computes_on_elements<T, F: FnMut(&T) -> K, K: PartialEq + Drop>()
     ensures along { (xs : List T) (key : T → K) (func : F) → Computes F.FnMut xs key func
         → AnswersAlong (by_key F.FnMut K.eq) xs (λ x y. K.eq (key x) (key y)) (key_judge func) }
@@ -82,13 +74,11 @@ pub fn computes_on_elements<T, F: FnMut(&T) -> K, K: PartialEq + Drop>()
 
 /// An `Fn` stays as it is when it is called: where it may be called on each element now, it may be called so in every state
 /// that its answers can lead to. It takes a reference to one, which names its type.
-#[inline]
 pub fn callable_now<T, F: Fn(&T) -> K, K>(_f: &F)
     ensures { (xs : List T) (f : F) → ((x : T) → Contains xs x → TakesAt F.FnMut f x) → MayCall F.FnMut xs f }
 {}
 
 /// The same of a predicate, on each neighbouring pair, and on every two different places in both orders.
-#[inline]
 pub fn callable_now_on_pairs<T, P: Fn(&T, &T) -> bool>(_p: &P)
     ensures along { (xs : List T) (p : P) → ((q : T × T) → AreNeighbours xs q → TakesAtTwo P.FnMut p q.0 q.1)
         → MayCallOnPairs P.FnMut (AreNeighbours xs) p }
@@ -98,7 +88,6 @@ pub fn callable_now_on_pairs<T, P: Fn(&T, &T) -> bool>(_p: &P)
 
 /// A predicate that may be called on each neighbouring pair of a slice, the left element first, or on every two different places,
 /// in both orders, may be asked about them. So may one that may be called on them in each of its states.
-#[inline]
 pub fn callable_on_pairs<T, P: FnMut(&T, &T) -> bool>()
     ensures along { (xs : List T) (predicate : P) → MayCallOnPairs P.FnMut (AreNeighbours xs) predicate
         → MayAskAlong (by_predicate P.FnMut) xs (predicate_judge predicate) }
@@ -111,21 +100,18 @@ pub fn callable_on_pairs<T, P: FnMut(&T, &T) -> bool>()
 {}
 
 /// A predicate of characters that may always be called may be asked about the neighbouring characters of every text.
-#[inline]
 pub fn always_callable_chars<P: FnMut(char, char) -> bool>()
     ensures { (cs : List ℕ) (predicate : P) → P.IsAlwaysCallable predicate
         → MayAskAlong (by_char_predicate P.FnMut) cs (char_predicate_judge predicate) }
 {}
 
 /// A key function of characters that may always be called may be asked about the neighbouring characters of every text.
-#[inline]
 pub fn always_callable_char_key<F: FnMut(char) -> K, K: PartialEq + Drop>()
     ensures { (cs : List ℕ) (func : F) → F.IsAlwaysCallable func
         → MayAskAlong (by_char_key F.FnMut K.eq) cs (char_key_judge func) }
 {}
 
 /// Equality may be asked about every slice, answers what `==` says, and counts: in every state of its judge.
-#[inline]
 pub fn equality_judges<T: PartialEq>()
     ensures callable { (xs : List T) (j : EqualityJudge) → MayAskAlong (by_equality T.eq) xs j }
     ensures settled { (xs : List T) (j : EqualityJudge) → AnswersAlong (by_equality T.eq) xs T.eq j }
@@ -136,20 +122,17 @@ pub fn equality_judges<T: PartialEq>()
 {}
 
 /// A comparator or a key function that may always be called may be called on the elements of every slice.
-#[inline]
 pub fn always_callable_on_elements<T, F: FnMut(&T) -> K, K>()
     ensures { (xs : List T) (f : F) → F.IsAlwaysCallable f → MayCall F.FnMut xs f }
 {}
 
 /// A comparator or a key function that computes its answer from its argument alone does so on the elements of every slice. It
 /// takes a reference to one, which names its type: the law is over all of its states.
-#[inline]
 pub fn always_computes<T, F: FnMut(&T) -> K, K>(_f: &F)
     ensures { (xs : List T) (answer : T → K) (f : F) → ComputesKey F.FnMut answer f → Computes F.FnMut xs answer f }
 {}
 
 /// A list that ascends by a key is grouped for equality of that key, and one that ascends for equality of its elements.
-#[inline]
 pub fn ascending_is_grouped<T, K: Ord>()
     ensures by_key { (key : T → K) (xs : List T) → NeverDescends K.cmp (map key xs)
         → IsGrouped (λ x y. K.eq (key x) (key y)) xs }
@@ -157,14 +140,12 @@ pub fn ascending_is_grouped<T, K: Ord>()
 {}
 
 /// A part of a grouped list is grouped.
-#[inline]
 pub fn parts_are_grouped<T>()
     ensures { (p : T → T → Bool) (before part after : List T) → IsGrouped p (before ++ (part ++ after))
         → IsGrouped p part }
 {}
 
 /// The number of binary digits of m is the least d with m below the d-th power of two.
-#[inline]
 pub fn digits_is_least()
     ensures above { (m : ℕ) → m < 2 ^ digits m }
     ensures least { (m d : ℕ) → m < 2 ^ d → digits m ≤ d }

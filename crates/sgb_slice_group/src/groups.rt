@@ -5,7 +5,7 @@ ghost use Rattle.std.specs.Iterator.SizeHint.{IsWithinCount};
 ghost use Rattle.sgb_search.specs.declared.end.End.{End};
 ghost use Rattle.sgb_search.specs.declared.end.End.TheVariants.{Front, Back};
 ghost use Rattle.sgb_search.specs.declared.judge.Judge.{Ghosts};
-ghost use Rattle.sgb_search.specs.Calls.{CallAt, IsCallableBy, ComputesBy, Groups, groups_left};
+ghost use Rattle.sgb_search.specs.Calls.{CallAt, IsCallableBy, ComputesBy, Groups, groups_to_come};
 ghost use Rattle.sgb_search.specs.Judges.{MayAskAll, IsRunOf, AsksWithin};
 ghost use Rattle.sgb_search.specs.Split.{TakesPiece};
 
@@ -182,7 +182,7 @@ impl<'a, T, J: Judge<T> + Drop, C: GroupEnd> Iterator for SliceGroups<'a, T, J, 
 
     ghost next_gives = { Gives (C.asks T J J.Judge) Front };
 
-    ghost remaining = { λ s. groups_left (shown s) };
+    ghost remaining = { λ s. groups_to_come (shown s) };
 
     /// The first group of the remainder, or `None` where nothing remains.
     #[inline]
@@ -196,8 +196,8 @@ impl<'a, T, J: Judge<T> + Drop, C: GroupEnd> Iterator for SliceGroups<'a, T, J, 
         ensures value { result
             ≡ (if nat_eq (length (shown self.now).remainder) 0 then (0, Some 0) else
             (1, Some (length (shown self.now).remainder))) }
-        ensures lower { IsWithinCount result.0 (groups_left (shown self.now)) }
-        ensures upper { IfSome result.1 (UpTo (groups_left (shown self.now))) }
+        ensures lower { IsWithinCount result.0 (groups_to_come (shown self.now)) }
+        ensures upper { IfSome result.1 (UpTo (groups_to_come (shown self.now))) }
     {
         let len = self.remainder_len();
         if len == 0 {

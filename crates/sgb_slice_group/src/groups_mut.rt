@@ -3,7 +3,7 @@ ghost use Rattle.std.specs.Prelude.{◌≡◌, ℕ, Bool, [], ◌∷◌, ◌++�
 ghost use Rattle.std.specs.Iterator.{UpTo};
 ghost use Rattle.std.specs.Iterator.SizeHint.{IsWithinCount};
 ghost use Rattle.sgb_search.specs.declared.end.End.TheVariants.{Front, Back};
-ghost use Rattle.sgb_loans.specs.GroupsMut.{GroupsMut, NothingOut, groups_mut_left};
+ghost use Rattle.sgb_loans.specs.GroupsMut.{GroupsMut, NothingOut, groups_mut_to_come};
 
 use crate::groups::GroupEnd;
 use crate::linear_group::Linear;
@@ -201,7 +201,7 @@ impl<'a, T, J: Judge<T> + Drop, C: GroupEnd> Iterator for SliceGroupsMut<'a, T, 
 
     ghost next_gives = { GivesMut (C.asks T J J.Judge) Front };
 
-    ghost remaining = { groups_mut_left };
+    ghost remaining = { groups_mut_to_come };
 
     /// The first group of the remainder, or `None` where nothing remains.
     #[inline]
@@ -213,8 +213,8 @@ impl<'a, T, J: Judge<T> + Drop, C: GroupEnd> Iterator for SliceGroupsMut<'a, T, 
     #[inline]
     fn size_hint(&self) -> (usize, Option<usize>)
         ensures value { result ≡ (if nat_eq (length self.now.remainder) 0 then (0, Some 0) else (1, Some (length self.now.remainder))) }
-        ensures lower { IsWithinCount result.0 (groups_mut_left self.now) }
-        ensures upper { IfSome result.1 (UpTo (groups_mut_left self.now)) }
+        ensures lower { IsWithinCount result.0 (groups_mut_to_come self.now) }
+        ensures upper { IfSome result.1 (UpTo (groups_mut_to_come self.now)) }
     {
         let len = self.slice.len();
         if len == 0 {

@@ -17,7 +17,6 @@ use sgb_slice_group::searching::GroupSearch;
 
 /// The families agree: linear, binary and exponential groups, any two, that are settled for one test, of equal remainders, give
 /// equal groups to equal lists of calls, by whatever judges. It follows from what `walk` and `chains_answer` say of each.
-#[inline]
 pub fn families_agree<T, I: Judge<T>, B: GroupEnd, J: Judge<T>, C: GroupEnd>(
     _one: &SliceGroups<'_, T, I, B>,
     _other: &SliceGroups<'_, T, J, C>,
@@ -32,7 +31,6 @@ pub fn families_agree<T, I: Judge<T>, B: GroupEnd, J: Judge<T>, C: GroupEnd>(
 {}
 
 /// The same of any two for writing.
-#[inline]
 pub fn families_agree_mut<T, I: Judge<T>, B: GroupEnd, J: Judge<T>, C: GroupEnd>(
     _one: &SliceGroupsMut<'_, T, I, B>,
     _other: &SliceGroupsMut<'_, T, J, C>,
@@ -47,7 +45,6 @@ pub fn families_agree_mut<T, I: Judge<T>, B: GroupEnd, J: Judge<T>, C: GroupEnd>
 
 /// The same of one for reading and one for writing: a group for writing holds, when it is handed out, what a group for reading
 /// holds.
-#[inline]
 pub fn reading_and_writing_agree<T, I: Judge<T>, B: GroupEnd, J: Judge<T>, C: GroupEnd>(
     _reading: &SliceGroups<'_, T, I, B>,
     _writing: &SliceGroupsMut<'_, T, J, C>,
@@ -62,7 +59,6 @@ pub fn reading_and_writing_agree<T, I: Judge<T>, B: GroupEnd, J: Judge<T>, C: Gr
 
 /// On any slice, grouped or not: a call of binary or exponential groups, whose judge answers by its arguments alone, gives a
 /// group that ends at a local boundary, where the remainder reads from the call's end, and leaves such a judge.
-#[inline]
 pub fn groups_end_locally<T, J: Judge<T>, S: GroupSearch>(_groups: &SearchGroups<'_, T, J, S>)
     ensures ends { (p : T → T → Bool) (e : End) (s t : SliceGroups T J (Search S)) (group : Bor (List T))
         → ComputesApart J.Judge (shown s) p
@@ -74,7 +70,6 @@ pub fn groups_end_locally<T, J: Judge<T>, S: GroupSearch>(_groups: &SearchGroups
 {}
 
 /// The same of those for writing.
-#[inline]
 pub fn groups_end_locally_mut<T, J: Judge<T>, S: GroupSearch>(
     _groups: &SearchGroupsMut<'_, T, J, S>,
 )

@@ -57,7 +57,6 @@ use sgb_slice_group::groups_mut::LinearGroupsMut;
 
 /// One call on a queue that is settled for a test: it gives the outermost piece of the split of what remained, or `None`
 /// where there is no piece; the other pieces are the split of what remains; and the queue is settled again.
-#[inline]
 pub fn calls_take_pieces<Q: GroupQueue>(_queue: &Q)
     ensures front { (p : Q.Element → Q.Element → Bool) (q t : Q) (group : Option Q.Item)
         → Q.gives Front q group t → Q.is_settled q p → option_map Q.shows group ≡ first (split p (Q.remainder q)) }
@@ -76,7 +75,6 @@ pub fn calls_take_pieces<Q: GroupQueue>(_queue: &Q)
 
 /// Where a call may be made, one may be made after it, whatever it gave, also `None`: so the condition of `new` is all that is
 /// ever asked.
-#[inline]
 pub fn calls_may_go_on<Q: GroupQueue>(_queue: &Q)
     ensures call { (e : End) (q t : Q) (group : Option Q.Item) → Q.gives e q group t → Q.can_pop q → Q.can_pop t }
     ensures calls { (q t : Q) (ends : List End) (out : List (Option Q.Item)) → IsChain Q.gives q ends out t
@@ -84,7 +82,6 @@ pub fn calls_may_go_on<Q: GroupQueue>(_queue: &Q)
 {}
 
 /// A list of calls on a queue, made one by one, as a loop of a caller makes them: what `walk` promises of its calls.
-#[inline]
 pub fn chains_answer<Q: GroupQueue>(_queue: &Q)
     ensures none { (q : Q) → IsChain Q.gives q [] [] q }
     ensures more { (q r t : Q) (ends : List End) (out : List (Option Q.Item)) (e : End) (group : Option Q.Item)
@@ -107,7 +104,6 @@ pub fn chains_answer<Q: GroupQueue>(_queue: &Q)
 /// What a loop or an adapter sees of a settled queue: the pieces of the split in order, and from the back or under `rev()`
 /// in reverse. What `next` and `next_back` of this library's types give is `gives Front` and `gives Back`. The lemmas of the
 /// standard library that take it stand in `Rattle.std.proofs.lemmas.Iterator.Consumers`, as `count_from_yields_List`.
-#[inline]
 pub fn sees_pieces<Q: GroupQueue>(_queue: &Q)
     ensures pieces { (p : Q.Element → Q.Element → Bool) (e : End) (q : Q) → Q.is_settled q p
         → YieldsList (Q.gives e) Q.shows q (from e (split p (Q.remainder q))) }
@@ -117,7 +113,6 @@ pub fn sees_pieces<Q: GroupQueue>(_queue: &Q)
 
 /// The groups that calls at one end give, joined in their order, are what goes off that end, whatever the judge answers: all of
 /// it, where the calls go on until `None`.
-#[inline]
 pub fn groups_join<Q: GroupQueue>(_queue: &Q)
     ensures part { (e : End) (q t : Q) (groups : List Q.Item) → Yields (Q.gives e) q groups t
         → put_at e (concat (from e (map Q.shows groups))) (Q.remainder t) ≡ Q.remainder q }
@@ -127,7 +122,6 @@ pub fn groups_join<Q: GroupQueue>(_queue: &Q)
 
 /// Front and back agree: the groups from the back until nothing remains are, in reverse, those from the front, for every
 /// test that the queue is settled for, also one that is not symmetric.
-#[inline]
 pub fn ends_agree<Q: GroupQueue>(_queue: &Q)
     ensures { (p : Q.Element → Q.Element → Bool) (q s t : Q) (fronts backs : List Q.Item) → Q.is_settled q p
         → Yields (Q.gives Front) q fronts s → Q.remainder s ≡ [] → Yields (Q.gives Back) q backs t
@@ -136,7 +130,6 @@ pub fn ends_agree<Q: GroupQueue>(_queue: &Q)
 
 /// How many groups come, whatever the judge answers: no more than elements go, at least one before nothing remains of a
 /// nonempty remainder, and as many calls as there are elements leave nothing.
-#[inline]
 pub fn groups_still_come<Q: GroupQueue>(_queue: &Q)
     ensures most { (q t : Q) (ends : List End) (out : List (Option Q.Item)) → IsChain Q.gives q ends out t
         → count_by is_some out + length (Q.remainder t) ≤ length (Q.remainder q) }
@@ -148,7 +141,6 @@ pub fn groups_still_come<Q: GroupQueue>(_queue: &Q)
 
 /// A list of calls of linear groups asks about each neighbouring pair that goes once, however the ends are mixed, and
 /// about no other: so until nothing remains of n > 0 elements it asks exactly n - 1 questions.
-#[inline]
 pub fn each_pair_asked_once<T, J: Judge<T>>(_groups: &LinearGroups<'_, T, J>)
     ensures pairs { (s t : SliceGroups T J Linear) (ends : List End) (out : List (Option (Bor (List T))))
         → IsChain (Gives (LinearQuestions J.Judge)) s ends out t → AsksEachOnce J.Judge (shown s) (shown t) }
@@ -158,7 +150,6 @@ pub fn each_pair_asked_once<T, J: Judge<T>>(_groups: &LinearGroups<'_, T, J>)
 {}
 
 /// The same of linear groups for writing.
-#[inline]
 pub fn each_pair_asked_once_mut<T, J: Judge<T>>(_groups: &LinearGroupsMut<'_, T, J>)
     ensures pairs { (s t : GroupsMut T J) (ends : List End) (out : List (Option (MutBor (List T))))
         → IsChain (GivesMut (LinearQuestions J.Judge)) s ends out t → AsksEachOnce J.Judge (seen s) (seen t) }
@@ -169,7 +160,6 @@ pub fn each_pair_asked_once_mut<T, J: Judge<T>>(_groups: &LinearGroupsMut<'_, T,
 
 /// The bytes of the groups of a text, joined, are what goes: of a list of calls at both ends, and of calls at one end, until nothing
 /// remains or not. What `groups_join` and `walk` say of characters, this says of bytes.
-#[inline]
 pub fn texts_join<J: Judge<char>>(_groups: &LinearStrGroups<'_, J>)
     ensures calls { (s t : LinearStrGroups J) (ends : List End) (out : List (Option (Bor (List ℕ))))
         → IsChain (GivesText J.Judge) s ends out t
@@ -183,7 +173,6 @@ pub fn texts_join<J: Judge<char>>(_groups: &LinearStrGroups<'_, J>)
 {}
 
 /// The same of the bytes of a text for writing. Each group of a list of calls is UTF-8, as it was when it was handed out.
-#[inline]
 pub fn texts_join_mut<J: Judge<char>>(_groups: &LinearStrGroupsMut<'_, J>)
     ensures utf8 { (s t : TextGroupsMut J) (ends : List End) (out : List (Option (MutBor (List ℕ))))
         → IsChain (GivesTextMut J.Judge) s ends out t
@@ -201,7 +190,6 @@ pub fn texts_join_mut<J: Judge<char>>(_groups: &LinearStrGroupsMut<'_, J>)
 
 /// A list of calls on a text asks about each pair of neighbouring characters that goes once, however the ends are mixed, and
 /// about no other.
-#[inline]
 pub fn each_char_pair_asked_once<J: Judge<char>>(_groups: &LinearStrGroups<'_, J>)
     ensures pairs { (s t : LinearStrGroups J) (ends : List End) (out : List (Option (Bor (List ℕ))))
         → IsChain (GivesText J.Judge) s ends out t
@@ -212,7 +200,6 @@ pub fn each_char_pair_asked_once<J: Judge<char>>(_groups: &LinearStrGroups<'_, J
 {}
 
 /// The same of the bytes of a text for writing.
-#[inline]
 pub fn each_char_pair_asked_once_mut<J: Judge<char>>(_groups: &LinearStrGroupsMut<'_, J>)
     ensures pairs { (s t : TextGroupsMut J) (ends : List End) (out : List (Option (MutBor (List ℕ))))
         → IsChain (GivesTextMut J.Judge) s ends out t
@@ -224,7 +211,6 @@ pub fn each_char_pair_asked_once_mut<J: Judge<char>>(_groups: &LinearStrGroupsMu
 
 /// No plan of questions has a smaller worst case than halving: each that answers every length from 1 up to n rightly asks
 /// at least `digits(n - 1)` questions at one of them. A plan compares the first element with others, and nothing else.
-#[inline]
 pub fn right_plans_ask()
     ensures { (plan : Plan) (n : ℕ) → 0 < n → IsRight plan 1 n
         → (l : ℕ) × (1 ≤ l) × (l ≤ n) × (digits (n - 1) ≤ (run plan l).1) }
@@ -232,7 +218,6 @@ pub fn right_plans_ask()
 
 /// A plan that halves the lengths from 1 up to n answers each of them rightly, and asks at most `digits(n - 1)` questions at
 /// each.
-#[inline]
 pub fn halving_plans_ask()
     ensures right { (plan : Plan) (n : ℕ) → IsHalvingPlan 1 n plan → IsRight plan 1 n }
     ensures most { (plan : Plan) (n l : ℕ) → IsHalvingPlan 1 n plan → 1 ≤ l → l ≤ n → (run plan l).1 ≤ digits (n - 1) }

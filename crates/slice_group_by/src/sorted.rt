@@ -22,7 +22,6 @@ pub fn is_sorted_for_groups<T: Ord>(slice: &[T]) -> bool
 }
 
 /// What sorting leaves never descends: what `sort` ensures, and, by a key that its function computes, what `sort_by_key` does.
-#[inline]
 pub fn sorts_ascend<T, K: Ord>()
     ensures by_itself { (xs : List K) → IsSorted K.cmp xs → NeverDescends K.cmp xs }
     ensures by_key { (key : T → K) (xs : List T) → IsSortedByKey key K.cmp xs → NeverDescends K.cmp (map key xs) }
