@@ -1,5 +1,4 @@
 use Rattle.std.proofs.Common.{List, ℕ, Some, arith}
-use Rattle.sgb_search.specs.declared.end.End.TheVariants.{Front, Back}
 use Rattle.sgb_linear_str_group.proofs.Cuts.{front_cut, back_cut}
 use Rattle.sgb_linear_str_group.proofs.Queue.{keeps}
 use Rattle.sgb_linear_str_group.specs.Texts.{TextGroups}
