@@ -13,8 +13,10 @@ unfolding encode_utf8
 lead c r = by (ltb c 128) (ltb c 2048) (ltb c 65536) _ _ _ refl
   where
     by : (x y z : Bool) (second third fourth : List ℕ) → ltb c 128 ≡ x
-        → 128 ≤ get_or (cond x (c ∷ []) (cond y ((192 + c / 64) ∷ second) (cond z ((224 + c / 4096) ∷ third) ((240 + c / 262144) ∷ fourth))) ++ r) 0 0
-        → 192 ≤ get_or (cond x (c ∷ []) (cond y ((192 + c / 64) ∷ second) (cond z ((224 + c / 4096) ∷ third) ((240 + c / 262144) ∷ fourth))) ++ r) 0 0
+        → 128 ≤ get_or
+        (cond x (c ∷ []) (cond y ((192 + c / 64) ∷ second) (cond z ((224 + c / 4096) ∷ third) ((240 + c / 262144) ∷ fourth))) ++ r) 0 0
+        → 192 ≤ get_or
+        (cond x (c ∷ []) (cond y ((192 + c / 64) ∷ second) (cond z ((224 + c / 4096) ∷ third) ((240 + c / 262144) ∷ fourth))) ++ r) 0 0
     by true y z second third fourth e h = let l : c < 128 = ltb→lt c 128 (subst T (sym e) tt) in absurd (omega arith)
     by false true z second third fourth e h = omega arith
     by false false true second third fourth e h = omega arith
@@ -24,13 +26,15 @@ lead c r = by (ltb c 128) (ltb c 2048) (ltb c 65536) _ _ _ refl
 utf8_rest : (text front rest : List ℕ) → IsUtf8 text → text ≡ front ++ rest → IsUtf8 front → IsUtf8 rest
 utf8_rest text front rest u e v =
     let cut : take (length front) text ≡ front = ap (take (length front)) e ∙ take-append_seam front rest in
-    let b = IsCharBoundary-from_take text (length front) u (omega (arith, ap length e, length-append front rest)) (subst IsUtf8 (sym cut) v) in
+    let b =
+    IsCharBoundary-from_take text (length front) u (omega (arith, ap length e, length-append front rest)) (subst IsUtf8 (sym cut) v) in
     subst IsUtf8 (ap (drop (length front)) e ∙ drop-append_seam front rest) (IsUtf8-drop text (length front) u b)
 
 module _ (text : List ℕ) (u : IsUtf8 text) where
   -- a text is what stands before a place between characters, and what stands after it
   pub chars_parts : (place : ℕ) → IsCharBoundary text place → chars text ≡ chars (take place text) ++ chars (drop place text)
-  chars_parts place b = ap chars (sym (take-append-drop place text)) ∙ chars-append (take place text) (drop place text) (IsUtf8-take text place u b)
+  chars_parts place b =
+      ap chars (sym (take-append-drop place text)) ∙ chars-append (take place text) (drop place text) (IsUtf8-take text place u b)
 
   -- from a place between characters over the character c
   module _ (place c : ℕ) (rest : List ℕ) (b : IsCharBoundary text place) (e : drop place text ≡ encode_utf8 c ++ rest) where
@@ -49,7 +53,9 @@ module _ (text : List ℕ) (u : IsUtf8 text) where
     whole = sym (take-append-drop place text) ∙ ap (λ l. l ++ drop place text) e ∙ append_assoc rest (encode_utf8 c) (drop place text)
 
     first_byte : get_or text (length rest) 0 ≡ get_or (encode_utf8 c ++ drop place text) 0 0
-    first_byte = ap (λ (n : ℕ). get_or text n 0) {x = length rest} {y = length rest + 0} (omega arith) ∙ ap (λ l. get_or l (length rest + 0) 0) whole ∙ get_or-append-add rest (encode_utf8 c ++ drop place text) 0 0
+    first_byte =
+        ap (λ (n : ℕ). get_or text n 0) {x = length rest} {y = length rest + 0} (omega arith) ∙ ap (λ l. get_or l (length rest + 0) 0) whole
+        ∙ get_or-append-add rest (encode_utf8 c ++ drop place text) 0 0
 
     pub boundary_before : IsCharBoundary text (length rest)
     boundary_before = (

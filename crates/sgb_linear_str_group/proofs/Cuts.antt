@@ -1,5 +1,5 @@
 -- A group cut off a text between characters.
-use Rattle.std.proofs.Common.{◌≡◌, ℕ, ◌+◌, ◌<◌, List, [], ◌∷◌, ◌++◌, length, take, drop, refl, sym, ap, ◌∙◌, subst, arith, length-append}
+use Rattle.std.proofs.Common.{◌≡◌, ℕ, ◌+◌, ◌<◌, List, [], ◌∷◌, ◌++◌, length, take, drop, sym, ap, ◌∙◌, subst, arith, length-append}
 use Rattle.std.specs.Str.{chars, IsUtf8, IsCharBoundary, encode_utf8_all}
 use Rattle.std.proofs.lemmas.Str.{chars-append, encodes-chars, IsUtf8-take, IsUtf8-drop}
 use Rattle.std.proofs.lemmas.List.{length-take-le, take-append-drop}
@@ -20,7 +20,8 @@ has_character text u l = by (chars text) (encodes-chars text u)
     by (c ∷ cs) e = omega arith
 
 -- text is front and then rest, cut at the place n
-module _ {J : Type 0} (g : Ghosts J ℕ) (text front rest : List ℕ) (cut : text ≡ front ++ rest) (u : IsUtf8 text) (n : ℕ) (len : length front ≡ n) (b : IsCharBoundary text n) where
+module _ {J : Type 0} (g : Ghosts J ℕ) (text front rest : List ℕ) (cut : text ≡ front ++ rest) (u : IsUtf8 text) (n : ℕ)
+    (len : length front ≡ n) (b : IsCharBoundary text n) where
   take_is : take n text ≡ front
   take_is = ap (λ (m : ℕ). take m text) (sym len) ∙ ap (take (length front)) cut ∙ take-append_seam front rest
 
@@ -68,7 +69,8 @@ module _ {J : Type 0} (g : Ghosts J ℕ) (text front rest : List ℕ) (cut : tex
         }
 
 -- the remainder xs of a writing iterator, read as the text r, and cut in two as zs
-module _ {J : Type 0} (g : Ghosts J ℕ) (xs : List ℕ) (j : J) (s : TextGroups J) (view : record { text = xs; judge = j } ≡ s) (r zs : List ℕ) (read : r ≡ zs) (same : zs ≡ xs) where
+module _ {J : Type 0} (g : Ghosts J ℕ) (xs : List ℕ) (j : J) (s : TextGroups J) (view : record { text = xs; judge = j } ≡ s) (r zs : List ℕ)
+    (read : r ≡ zs) (same : zs ≡ xs) where
   is_whole : record { text = r; judge = j } ≡ s
   is_whole = ap (λ l. record { text = l; judge = j }) (read ∙ same) ∙ view
 
@@ -83,10 +85,12 @@ module _ {J : Type 0} (g : Ghosts J ℕ) (xs : List ℕ) (j : J) (s : TextGroups
     utf8_rest = back_utf8 g r front rest (read ∙ cut) u n len b
 
     module _ (k : J) where
-      pub front_whole : 0 < n → IsRun g.may_ask g.answers j (questions Front (chars r) (length (chars (take n r)))) k → IsTextAt g Front s front (record { text = rest; judge = k })
+      pub front_whole : 0 < n → IsRun g.may_ask g.answers j (questions Front (chars r) (length (chars (take n r)))) k
+          → IsTextAt g Front s front (record { text = rest; judge = k })
       front_whole l run = rw (← is_whole) (front_text g r front rest (read ∙ cut) u n len b j k l run)
 
-      pub back_whole : n < length r → IsRun g.may_ask g.answers j (questions Back (chars r) (length (chars (drop n r)))) k → IsTextAt g Back s rest (record { text = front; judge = k })
+      pub back_whole : n < length r → IsRun g.may_ask g.answers j (questions Back (chars r) (length (chars (drop n r)))) k
+          → IsTextAt g Back s rest (record { text = front; judge = k })
       back_whole l run = rw (← is_whole) (back_text g r front rest (read ∙ cut) u n len b j k l run)
 
 -- the remainder r is the part of xs between low and high, and is cut at its place n

@@ -56,7 +56,8 @@ module _ {J : Type 0} (g : Ghosts J ℕ) (e : End) where
     keeps = list.keeps g e (in_characters (seen s)) _ (in_characters (seen t)) here
 
     -- n questions were asked, and the pairs of characters that remain are due
-    pub asks : AsksWithin (λ s t n. IsRunOf g.may_ask g.answers n (seen s).judge (seen t).judge) (λ s. length (neighbours (chars (seen s).text))) true s t
+    pub asks : AsksWithin (λ s t n. IsRunOf g.may_ask g.answers n (seen s).judge (seen t).judge)
+        (λ s. length (neighbours (chars (seen s).text))) true s t
     asks = calls.asks_seen _ _ _ (λ q. in_characters (seen q)) s t
         (list.asks g e (in_characters (seen s)) (option_map chars (option_map bytes r)) (in_characters (seen t)) here)
 

@@ -40,7 +40,7 @@ fn part(string: &str, low: usize, high: usize) -> &str
 impl<'a, J> LinearStrGroups<'a, J> {
     // All groups of the text are still to come.
     #[inline]
-    pub(crate) fn over(string: &'a str, judge: J) -> Self
+    pub(crate) fn with_judge(string: &'a str, judge: J) -> Self
         ensures text { (shown_text result).text ≡ string.now }
         ensures judge { result.judge ≡ judge }
     {

@@ -14,7 +14,8 @@ pub(crate) fn first_len<J: Judge<char>>(text: &str, judge: &mut J) -> usize
     requires callable { MayAskAlong J.Judge (chars text.now) judge.old }
     ensures nonempty { 0 < result }
     ensures boundary { IsCharBoundary text.now result }
-    ensures asked { IsRun J.may_ask J.answers judge.old (questions Front (chars text.now) (length (chars (take result text.now)))) judge.new }
+    ensures asked { IsRun J.may_ask J.answers judge.old
+        (questions Front (chars text.now) (length (chars (take result text.now)))) judge.new }
 {
     let mut characters = text.char_indices();
     let Some((_, mut last)) = characters.next() else {

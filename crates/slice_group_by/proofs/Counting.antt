@@ -1,12 +1,15 @@
 -- How many questions calls ask, and what a run of questions does to a counter.
-use Rattle.std.proofs.Common.{◌≡◌, ℕ, ◌+◌, ◌*◌, ◌<◌, ◌≤◌, Bool, true, List, [], ◌∷◌, length, Option, Some, subst, ap, refl, arith, ◌∙◌}
+use Rattle.std.proofs.Common.{◌≡◌, ℕ, zero, suc, ◌+◌, ◌-◌, ◌*◌, ◌<◌, ◌≤◌, Bool, true, List, [], ◌∷◌, length, Option, Some, subst, ap, refl, arith, ◌∙◌}
 use Rattle.std.proofs.Math.Nat.{mul-le-mul_left}
 use Rattle.std.specs.Iterator.{Yields}
 use Rattle.std.specs.Iterator.Adapters.{rev_source, rev_steps, map_source}
 use Rattle.std.specs.declared.iter.Rev.{Rev}
 use Rattle.std.specs.declared.iter.Map.{Map}
 use Rattle.std.proofs.lemmas.Iterator.{maps}
+use Rattle.std.specs.Str.{chars, chars_after, continuation_len, lead_bits}
 use denote.Param.Members.{Mut}
+use Rattle.sgb_search.specs.Split.{neighbours}
+use Rattle.sgb_search.proofs.Pairs.{length-neighbours}
 use Rattle.sgb_search.specs.Judges.{IsRun, IsRunOf, AsksWithin}
 
 -- a property P n of the state, which each question takes from n to n + 1
@@ -64,6 +67,35 @@ module _ {S Q A : Type 0} (may : S → Q → Type 0) (gives : S → Q → A → 
       let k = counts_just a.number (judge s) (judge t) a.asks in
       let whole = times_due each a.number (due t) (due s) (a.all x) in
       (k.0, λ l. omega (arith, k.1 (omega (arith, l, whole)), whole))
+
+  -- of groups that ask about each pair of neighbours that goes
+  module _ {G T : Type 0} (judge : G → S) (left : G → List T) (s t : G)
+      (asked : AsksWithin (λ q r n. IsRunOf may gives n (judge q) (judge r)) (λ q. length (neighbours (left q))) true s t) where
+    pub counts_pairs : (name (judge t) ≡ name (judge s))
+        × (count (judge s) + each * (length (left s) - 1) < limit
+        → count (judge t) + each * (length (left t) - 1) ≡ count (judge s) + each * (length (left s) - 1))
+    counts_pairs =
+        rw (length-neighbours (left s), length-neighbours (left t)) at
+        (counts_just_due judge (λ q. length (neighbours (left q))) true s t asked refl)
+
+    pub counts_walk : count (judge s) ≡ 0 → left t ≡ []
+        → (name (judge t) ≡ name (judge s))
+        × (each * (length (left s) - 1) < limit → count (judge t) ≡ each * (length (left s) - 1))
+    counts_walk none end =
+        let gone : each * (length (left t) - 1) ≡ each * 0 = ap (λ xs. each * (length xs - 1)) end in
+        (counts_pairs.0, λ fits. omega (arith, counts_pairs.1 (omega (arith, none, fits)), none, gone))
+
+-- a text has no more characters than bytes
+length-chars_after : (n c : ℕ) (text : List ℕ) → length (chars_after n c text) ≤ 1 + length text
+length-chars_after zero c [] = omega arith
+length-chars_after zero c (b ∷ bs) = omega (arith, length-chars_after (continuation_len b) (lead_bits b) bs)
+length-chars_after (suc n) c [] = omega arith
+length-chars_after (suc n) c (b ∷ bs) = omega (arith, length-chars_after n (c * 64 + (b - 128)) bs)
+
+pub length-chars : (text : List ℕ) → length (chars text) ≤ length text
+unfolding chars
+length-chars [] = omega arith
+length-chars (b ∷ bs) = omega (arith, length-chars_after (continuation_len b) (lead_bits b) bs)
 
 -- calls at one end, from what one call asks
 module _ {Q I : Type 0} (steps : Q → Option I → Q → Type 0) (asked : Q → Q → ℕ → Type 0) (due : Q → ℕ) (exact : Bool)

@@ -29,7 +29,7 @@ ghost use Rattle.slice_group_by.specs.Walk.{Partition, IsChain};
 ghost use Rattle.slice_group_by.specs.Queue.{pops, after_pops};
 
 pub use crate::counts::{
-    calls_ask, linear_counts, mapped_calls_ask, questions_count, search_asks, text_questions_count,
+    Judged, calls_ask, linear_counts, mapped_calls_ask, questions_count, search_asks, text_counts,
 };
 pub use crate::families::{
     families_agree, families_agree_mut, groups_end_locally, groups_end_locally_mut,

@@ -37,12 +37,9 @@ pub use join::MergeJoin;
 pub use plans::{Plan, refute};
 pub use queue::{End, GroupQueue, walk};
 pub use ranks::rank_groups;
-pub use sgb_linear_str_group::linear_str_group::LinearStrGroup;
-pub use sgb_linear_str_group::linear_str_group_by::LinearStrGroupBy;
-pub use sgb_linear_str_group::linear_str_group_by_key::LinearStrGroupByKey;
-pub use sgb_linear_str_group::linear_str_group_by_key_mut::LinearStrGroupByKeyMut;
-pub use sgb_linear_str_group::linear_str_group_by_mut::LinearStrGroupByMut;
-pub use sgb_linear_str_group::linear_str_group_mut::LinearStrGroupMut;
+pub use sgb_linear_str_group::by_equality::{LinearStrGroup, LinearStrGroupMut};
+pub use sgb_linear_str_group::by_key::{LinearStrGroupByKey, LinearStrGroupByKeyMut};
+pub use sgb_linear_str_group::by_predicate::{LinearStrGroupBy, LinearStrGroupByMut};
 pub use sgb_search::search::{
     exponential_search, exponential_search_by, exponential_search_by_key,
 };

@@ -5,7 +5,8 @@ use Rattle.users.specs.Totals.{total, kept}
 
 -- the first of the groups ps, of which the others qs are left, goes to what is done
 pub one_more : (before value after : List (ℕ × ℕ)) (group : List (ℕ × ℕ)) (ps qs : List (List (ℕ × ℕ))) (whole : List (ℕ × ℕ))
-    → before ++ concat (map kept ps) ≡ whole → ps ≡ group ∷ qs → after ≡ before ++ value → value ≡ kept group → after ++ concat (map kept qs) ≡ whole
+    → before ++ concat (map kept ps) ≡ whole → ps ≡ group ∷ qs → after ≡ before ++ value → value ≡ kept group
+    → after ++ concat (map kept qs) ≡ whole
 one_more before value after group ps qs whole done cut noted is =
     ap (λ (l : List (ℕ × ℕ)). l ++ concat (map kept qs)) (noted ∙ ap (λ (l : List (ℕ × ℕ)). before ++ l) is)
     ∙ append_assoc before (kept group) (concat (map kept qs))

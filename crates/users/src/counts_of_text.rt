@@ -3,7 +3,7 @@ ghost use Rattle.std.specs.Prelude.{◌≡◌, ◌-◌, length};
 ghost use Rattle.std.specs.Str.{chars};
 
 use slice_group_by::LinearStrGroupBy;
-use slice_group_by::laws::{calls_ask, question_count, text_questions_count};
+use slice_group_by::laws::{calls_ask, text_counts};
 
 /// How many questions a walk over the groups of equal characters asks: one less than the text has characters, and none of
 /// an empty text.
@@ -16,8 +16,7 @@ pub fn questions_of_text(text: &str) -> usize
         a == b
     });
     calls_ask(&groups);
-    text_questions_count(&groups);
-    question_count::<char>();
+    text_counts(&groups);
     while let Some(_) = groups.next() {}
     count
 }

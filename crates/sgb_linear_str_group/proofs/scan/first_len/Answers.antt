@@ -9,7 +9,8 @@ loop-place-init g c =
     let all = c.char_indices-characters.ensures in
     let first = c.in-Some.ensures.steps in
     rw c.into_iter-place-iterator.ensures.into_iter_gives
-    (front_start g.J.Judge _ c.utf8.text _ _ _ _ c.requires.callable (sym all.rest ∙ first.1) (first.2 ∙ ap (λ n. n + length (encode_utf8 c.in-Some.last)) all.offset))
+    (front_start g.J.Judge _ c.utf8.text _ _ _ _ c.requires.callable (sym all.rest ∙ first.1)
+    (first.2 ∙ ap (λ n. n + length (encode_utf8 c.in-Some.last)) all.offset))
 
 pub ask-together-requires : goal.ask-together-requires
 ask-together-requires g c =

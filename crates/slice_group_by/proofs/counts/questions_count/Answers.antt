@@ -1,4 +1,3 @@
-use Rattle.sgb_slice_group.specs.Gives.{shown}
 use Rattle.slice_group_by.proofs.Counting.{counts_most, counts_just, counts_most_due, counts_just_due}
 use Rattle.slice_group_by.proofs.counts.questions_count.Goals as goal
 
@@ -10,10 +9,8 @@ returns-clause-just g c = counts_just g.J.Judge.may_ask g.J.Judge.answers
 
 pub returns-clause-most_due : goal.returns-clause-most_due
 returns-clause-most_due g c count name each step =
-    counts_most_due g.J.Judge.may_ask g.J.Judge.answers count name each step (λ s. s.judge)
-    (λ s. g.C.GroupEnd.due _ (shown s).remainder) g.C.GroupEnd.exact
+    counts_most_due g.J.Judge.may_ask g.J.Judge.answers count name each step g.S.Judged.judge
 
 pub returns-clause-just_due : goal.returns-clause-just_due
 returns-clause-just_due g c count name each limit step =
-    counts_just_due g.J.Judge.may_ask g.J.Judge.answers count name each limit step (λ s. s.judge)
-    (λ s. g.C.GroupEnd.due _ (shown s).remainder) g.C.GroupEnd.exact
+    counts_just_due g.J.Judge.may_ask g.J.Judge.answers count name each limit step g.S.Judged.judge

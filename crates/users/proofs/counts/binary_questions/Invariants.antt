@@ -6,5 +6,6 @@ use Rattle.users.proofs.counts.binary_questions.Given as goal
 abbrev pub invariant-loop : goal.invariant-loop
 invariant-loop l = record {
   name : l.groups.judge.predicate.0.ghost_name ≡ l.initial.groups.judge.predicate.0.ghost_name;
-  count : l.groups.judge.predicate.0.now + length (shown l.groups).remainder * digits (length (shown l.groups).remainder) ≤ length l.xs * digits (length l.xs);
+  count : l.groups.judge.predicate.0.now + length (shown l.groups).remainder * digits (length (shown l.groups).remainder)
+      ≤ length l.xs * digits (length l.xs);
 }

@@ -14,7 +14,8 @@ invariant-loop-group g l = record {
   root : l.groups.loans.root ≡ l.initial.groups.loans.root;
   cuts : l.groups.loans.cuts ≡ [];
   after : l.groups.loans.after ≡ [];
-  done : l.groups.loans.before ++ concat (map kept (split same_key l.groups.remainder)) ≡ concat (map kept (split same_key l.initial.groups.remainder));
+  done : l.groups.loans.before ++ concat (map kept (split same_key l.groups.remainder))
+      ≡ concat (map kept (split same_key l.initial.groups.remainder));
 }
 
 abbrev pub decreases-loop-group : goal.decreases-loop-group

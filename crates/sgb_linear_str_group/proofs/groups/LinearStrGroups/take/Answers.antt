@@ -1,5 +1,4 @@
 use Rattle.std.proofs.Common.{List, ℕ, Some, arith}
-use Rattle.sgb_search.specs.declared.end.End.TheVariants.{Front, Back}
 use Rattle.sgb_linear_str_group.proofs.Cuts.{front_cut, back_cut}
 use Rattle.sgb_linear_str_group.proofs.Queue.{keeps}
 use Rattle.sgb_linear_str_group.specs.Texts.{TextGroups}
@@ -9,10 +8,13 @@ pub returns-in-Front-clause-gives : goal.returns-in-Front-clause-gives
 returns-in-Front-clause-gives g c =
     let rest = c.rest-rest.ensures in
     let cut = c.first_len-len.ensures in
-    rw c.in-Front.is (front_cut g.J.Judge _ _ _ _ rest.value c.rest-rest.utf8 _ cut.boundary (omega arith) _ _ cut.nonempty cut.asked _ c.split_at.ensures.front)
+    rw c.in-Front.is
+    (front_cut g.J.Judge _ _ _ _ rest.value c.rest-rest.utf8 _ cut.boundary (omega arith) _ _ cut.nonempty cut.asked _
+    c.split_at.ensures.front)
 
 pub returns-in-Front-clause-callable : goal.returns-in-Front-clause-callable
-returns-in-Front-clause-callable g c = keeps g.J.Judge _ (λ (s : TextGroups _). s) (λ (x : List ℕ). x) _ (Some _) _ (returns-in-Front-clause-gives g c) c.requires
+returns-in-Front-clause-callable g c =
+    keeps g.J.Judge _ (λ (s : TextGroups _). s) (λ (x : List ℕ). x) _ (Some _) _ (returns-in-Front-clause-gives g c) c.requires
 
 pub returns-in-Back-clause-gives : goal.returns-in-Back-clause-gives
 returns-in-Back-clause-gives g c =
@@ -22,4 +24,5 @@ returns-in-Back-clause-gives g c =
     (omega (arith, cut.nonempty, cut.within)) cut.asked _ c.split_at-in-Back.ensures.back)
 
 pub returns-in-Back-clause-callable : goal.returns-in-Back-clause-callable
-returns-in-Back-clause-callable g c = keeps g.J.Judge _ (λ (s : TextGroups _). s) (λ (x : List ℕ). x) _ (Some _) _ (returns-in-Back-clause-gives g c) c.requires
+returns-in-Back-clause-callable g c =
+    keeps g.J.Judge _ (λ (s : TextGroups _). s) (λ (x : List ℕ). x) _ (Some _) _ (returns-in-Back-clause-gives g c) c.requires

@@ -1,5 +1,5 @@
 use Rattle.sgb_search.proofs.Closures.{char_key_settled}
-use Rattle.sgb_linear_str_group.proofs.linear_str_group_by_key_mut.LinearStrGroupsMut+CharKeyJudge+F+K.new.Goals as goal
+use Rattle.sgb_linear_str_group.proofs.by_key.LinearStrGroupsMut+CharKeyJudge+F+K.new.Goals as goal
 
 pub returns-clause-settled : goal.returns-clause-settled
 returns-clause-settled g c key h = rw c.over.ensures.judge (char_key_settled g.F.FnMut g.K.PartialEq.eq key _ _ h)

@@ -1,11 +1,24 @@
-//! Linear groups of equal characters, as bytes for writing.
+//! Linear groups of equal characters of a text: for reading and, as bytes, for writing.
 ghost use Rattle.std.specs.Prelude.{◌≡◌, nat_eq};
 ghost use Rattle.std.specs.Str.{IsUtf8};
 ghost use Rattle.sgb_search.specs.Judges.{by_equality};
+ghost use Rattle.sgb_linear_str_group.specs.Texts.{shown_text, IsCallableText, IsSettledText};
+ghost use Rattle.sgb_linear_str_group.specs.TextsMut.{seen_text};
 ghost use Rattle.sgb_loans.specs.GroupsMut.{NothingOut};
 
+use crate::groups::LinearStrGroups;
 use crate::groups_mut::LinearStrGroupsMut;
 use sgb_search::judge::EqualityJudge;
+
+/// An iterator over the groups of equal characters of a text, by `==` of neighbours.
+///
+/// ```
+/// let mut groups = LinearStrGroup::new("aaaabbbbb饰饰cccc");
+/// groups.next();      // Some("aaaa")
+/// groups.next_back(); // Some("cccc")
+/// groups.as_str();    // "bbbbb饰饰"
+/// ```
+pub type LinearStrGroup<'a> = LinearStrGroups<'a, EqualityJudge>;
 
 /// An iterator over the groups of equal characters of a text's bytes for writing, by `==` of neighbours.
 ///
@@ -18,15 +31,27 @@ use sgb_search::judge::EqualityJudge;
 /// ```
 pub type LinearStrGroupMut<'a> = LinearStrGroupsMut<'a, EqualityJudge>;
 
-impl<'a> LinearStrGroupsMut<'a, EqualityJudge> {
-    ghost use Rattle.sgb_linear_str_group.specs.Texts.{IsCallableText, IsSettledText};
-    ghost use Rattle.sgb_linear_str_group.specs.TextsMut.{seen_text};
+impl<'a> LinearStrGroups<'a, EqualityJudge> {
+    /// All groups of equal characters of the text, which are still to come. Nothing is asked yet.
+    #[inline]
+    #[tactic(auto, using(sgb_search::proofs::Equality::equality_settled))]
+    pub fn new(string: &'a str) -> Self
+        ensures text { (shown_text result).text ≡ string.now }
+        ensures asked { result.judge.questions.asked ≡ 0 }
+        ensures callable { IsCallableText (by_equality nat_eq) (shown_text result) }
+        ensures settled { IsSettledText (by_equality nat_eq) (shown_text result) nat_eq }
+    {
+        LinearStrGroups::with_judge(string, EqualityJudge::new())
+    }
+}
 
+impl<'a> LinearStrGroupsMut<'a, EqualityJudge> {
     /// All groups of equal characters of the bytes, which are still to come. Nothing is asked yet, and nothing is out.
     ///
     /// The bytes have to be UTF-8, which `std::str::from_utf8` tests. Those of a literal are known to be, and those copied from
     /// a `&str`; those of a `String` are, once it was looked at by `as_str`.
     #[inline]
+    #[tactic(auto, using(sgb_search::proofs::Equality::equality_settled))]
     pub fn new(bytes: &'a mut [u8]) -> Self
         requires { IsUtf8 bytes.old }
         ensures text { result.text ≡ bytes.old }

@@ -1,6 +1,0 @@
-use Rattle.std.specs.Prelude.{nat_eq}
-use Rattle.sgb_search.proofs.Equality.{equality_settled}
-use Rattle.sgb_linear_str_group.proofs.linear_str_group_mut.LinearStrGroupsMut+EqualityJudge.new.Goals as goal
-
-pub returns-clause-settled : goal.returns-clause-settled
-returns-clause-settled c = equality_settled nat_eq _ _

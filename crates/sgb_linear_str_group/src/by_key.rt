@@ -1,0 +1,99 @@
+//! Linear groups of a text by a key: for reading and, as bytes, for writing.
+ghost use Rattle.std.specs.Prelude.{◌≡◌, ℕ};
+ghost use Rattle.std.specs.Str.{IsUtf8};
+ghost use Rattle.sgb_search.specs.Judges.{by_char_key, char_key_judge, ComputesCharKey};
+ghost use Rattle.sgb_linear_str_group.specs.Texts.{shown_text, IsCallableText, IsSettledText};
+ghost use Rattle.sgb_linear_str_group.specs.TextsMut.{seen_text};
+ghost use Rattle.sgb_loans.specs.GroupsMut.{NothingOut};
+
+use crate::groups::LinearStrGroups;
+use crate::groups_mut::LinearStrGroupsMut;
+use sgb_search::judge::CharKeyJudge;
+use std::marker::PhantomData;
+
+/// An iterator over the groups of a text by a key: a question is a call of the key function on the left character, then one
+/// on the right, then `==` of the keys.
+///
+/// ```
+/// let mut groups = LinearStrGroupByKey::new("ab12é", |c| c.is_ascii_digit());
+/// groups.next();      // Some("ab")
+/// groups.next_back(); // Some("é")
+/// groups.next();      // Some("12")
+/// ```
+pub type LinearStrGroupByKey<'a, F, K> = LinearStrGroups<'a, CharKeyJudge<F, K>>;
+
+/// An iterator over the groups of a text's bytes by a key for writing: a question is a call of the key function on the left
+/// character, then one on the right, then `==` of the keys, of the characters as they are when the call is made.
+///
+/// ```
+/// let mut bytes = *b"ab12";
+/// let mut groups = LinearStrGroupByKeyMut::new(&mut bytes, |c| c.is_ascii_digit());
+/// if let Some(group) = groups.next() {
+///     group.make_ascii_uppercase(); // bytes is b"AB12"
+/// }
+/// ```
+pub type LinearStrGroupByKeyMut<'a, F, K> = LinearStrGroupsMut<'a, CharKeyJudge<F, K>>;
+
+impl<'a, K: PartialEq + Drop, F: FnMut(char) -> K> LinearStrGroups<'a, CharKeyJudge<F, K>> {
+    /// All groups of the text by the key, which are still to come. Nothing is asked yet.
+    ///
+    /// The key function has to be such that it may be called on the two characters of each neighbouring pair of the text, the
+    /// left one first, in every state that its calls can lead to; nothing is asked of it for a text of at most one
+    /// character. A closure whose body may run on all characters, in every state, meets this at once. A caller that is handed
+    /// the function takes `F.IsAlwaysCallable func` as a `requires`, calls `laws::always_callable_char_key`, and answers with
+    /// `c.always_callable_char_key.ensures _ _ c.requires`.
+    ///
+    /// The result is settled for equality of the keys that the function computes.
+    #[inline]
+    pub fn new(string: &'a str, func: F) -> Self
+        requires { IsCallableText (by_char_key F.FnMut K.eq)
+            (record { text = string.now; judge = char_key_judge func }) }
+        ensures text { (shown_text result).text ≡ string.now }
+        ensures judge { result.judge ≡ char_key_judge func }
+        ensures callable { IsCallableText (by_char_key F.FnMut K.eq) (shown_text result) }
+        ensures settled { (key : ℕ → K) → ComputesCharKey F.FnMut key func
+            → IsSettledText (by_char_key F.FnMut K.eq) (shown_text result) (λ x y. K.eq (key x) (key y)) }
+    {
+        LinearStrGroups::with_judge(
+            string,
+            CharKeyJudge {
+                func,
+                key: PhantomData,
+            },
+        )
+    }
+}
+
+impl<'a, K: PartialEq + Drop, F: FnMut(char) -> K> LinearStrGroupsMut<'a, CharKeyJudge<F, K>> {
+    /// All groups of the bytes by the key, which are still to come. Nothing is asked yet, and nothing is out.
+    ///
+    /// The bytes have to be UTF-8, which `std::str::from_utf8` tests. Those of a literal are known to be, and those copied from
+    /// a `&str`; those of a `String` are, once it was looked at by `as_str`. It requires of
+    /// the key function what `LinearStrGroupByKey::new` requires, of the characters as they are now.
+    #[inline]
+    pub fn new(bytes: &'a mut [u8], func: F) -> Self
+        requires utf8 { IsUtf8 bytes.old }
+        requires callable { IsCallableText (by_char_key F.FnMut K.eq)
+            (record { text = bytes.old; judge = char_key_judge func }) }
+        ensures text { result.text ≡ bytes.old }
+        ensures judge { result.judge ≡ char_key_judge func }
+        ensures callable { IsCallableText (by_char_key F.FnMut K.eq) (seen_text result) }
+        ensures settled { (key : ℕ → K) → ComputesCharKey F.FnMut key func
+            → IsSettledText (by_char_key F.FnMut K.eq) (seen_text result) (λ x y. K.eq (key x) (key y)) }
+        ensures loans { NothingOut bytes.entry.ghost_name result.loans }
+    {
+        LinearStrGroupsMut::over(
+            bytes,
+            CharKeyJudge {
+                func,
+                key: PhantomData,
+            },
+        )
+    }
+}
+
+// The loans and the key's type take no bytes.
+const _: () = prove!(
+    size_of::<LinearStrGroupByKeyMut<'static, (u64, u8), [u8; 9]>>()
+        == size_of::<(&mut [u8], (u64, u8))>()
+);

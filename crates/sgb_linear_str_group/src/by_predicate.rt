@@ -1,0 +1,86 @@
+//! Linear groups of a text by a predicate: for reading and, as bytes, for writing.
+ghost use Rattle.std.specs.Prelude.{◌≡◌, ℕ, Bool};
+ghost use Rattle.std.specs.Str.{IsUtf8};
+ghost use Rattle.sgb_search.specs.Judges.{by_char_predicate, char_predicate_judge, ComputesOnChars};
+ghost use Rattle.sgb_linear_str_group.specs.Texts.{shown_text, IsCallableText, IsSettledText};
+ghost use Rattle.sgb_linear_str_group.specs.TextsMut.{seen_text};
+ghost use Rattle.sgb_loans.specs.GroupsMut.{NothingOut};
+
+use crate::groups::LinearStrGroups;
+use crate::groups_mut::LinearStrGroupsMut;
+use sgb_search::judge::CharPredicateJudge;
+
+/// An iterator over the groups of a text by a predicate, which is asked about neighbouring characters, the left one first
+/// from both ends.
+///
+/// ```
+/// let mut groups = LinearStrGroupBy::new("abcab", |a, b| a < b);
+/// groups.next_back(); // Some("ab")
+/// groups.next_back(); // Some("abc")
+/// groups.next_back(); // None
+/// ```
+pub type LinearStrGroupBy<'a, P> = LinearStrGroups<'a, CharPredicateJudge<P>>;
+
+/// An iterator over the groups of a text's bytes by a predicate for writing, which is asked about neighbouring characters,
+/// the left one first from both ends, as they are when the call is made.
+///
+/// ```
+/// let mut bytes = *b"abcab";
+/// let mut groups = LinearStrGroupByMut::new(&mut bytes, |a, b| a < b);
+/// if let Some(group) = groups.next_back() {
+///     group.fill(b'-'); // bytes is b"abc--"
+/// }
+/// ```
+pub type LinearStrGroupByMut<'a, P> = LinearStrGroupsMut<'a, CharPredicateJudge<P>>;
+
+impl<'a, P: FnMut(char, char) -> bool> LinearStrGroups<'a, CharPredicateJudge<P>> {
+    /// All groups of the text by the predicate, which are still to come. Nothing is asked yet.
+    ///
+    /// The predicate has to be such that it may be called on each pair of neighbouring characters of the text, the left one
+    /// first, in every state that its answers can lead to; nothing is asked of it for a text of at most one character. A
+    /// closure whose body may run on all characters, in every state, meets this at once. A caller that is handed the closure takes
+    /// `P.IsAlwaysCallable predicate` as a `requires`, and calls `laws::always_callable_chars`.
+    ///
+    /// The result is settled for each test that the predicate computes.
+    #[inline]
+    #[tactic(auto, using(sgb_search::proofs::Closures::char_predicate_settled))]
+    pub fn new(string: &'a str, predicate: P) -> Self
+        requires { IsCallableText (by_char_predicate P.FnMut)
+            (record { text = string.now; judge = char_predicate_judge predicate }) }
+        ensures text { (shown_text result).text ≡ string.now }
+        ensures judge { result.judge ≡ char_predicate_judge predicate }
+        ensures callable { IsCallableText (by_char_predicate P.FnMut) (shown_text result) }
+        ensures settled { (p : ℕ → ℕ → Bool) → ComputesOnChars P.FnMut p predicate
+            → IsSettledText (by_char_predicate P.FnMut) (shown_text result) p }
+    {
+        LinearStrGroups::with_judge(string, CharPredicateJudge { predicate })
+    }
+}
+
+impl<'a, P: FnMut(char, char) -> bool> LinearStrGroupsMut<'a, CharPredicateJudge<P>> {
+    /// All groups of the bytes by the predicate, which are still to come. Nothing is asked yet, and nothing is out.
+    ///
+    /// The bytes have to be UTF-8, which `std::str::from_utf8` tests. Those of a literal are known to be, and those copied from
+    /// a `&str`; those of a `String` are, once it was looked at by `as_str`. It requires of
+    /// the predicate what `LinearStrGroupBy::new` requires, of the characters as they are now.
+    #[inline]
+    #[tactic(auto, using(sgb_search::proofs::Closures::char_predicate_settled))]
+    pub fn new(bytes: &'a mut [u8], predicate: P) -> Self
+        requires utf8 { IsUtf8 bytes.old }
+        requires callable { IsCallableText (by_char_predicate P.FnMut)
+            (record { text = bytes.old; judge = char_predicate_judge predicate }) }
+        ensures text { result.text ≡ bytes.old }
+        ensures judge { result.judge ≡ char_predicate_judge predicate }
+        ensures callable { IsCallableText (by_char_predicate P.FnMut) (seen_text result) }
+        ensures settled { (p : ℕ → ℕ → Bool) → ComputesOnChars P.FnMut p predicate
+            → IsSettledText (by_char_predicate P.FnMut) (seen_text result) p }
+        ensures loans { NothingOut bytes.entry.ghost_name result.loans }
+    {
+        LinearStrGroupsMut::over(bytes, CharPredicateJudge { predicate })
+    }
+}
+
+// The loans take no bytes.
+const _: () = prove!(
+    size_of::<LinearStrGroupByMut<'static, (u64, u8)>>() == size_of::<(&mut [u8], (u64, u8))>()
+);
