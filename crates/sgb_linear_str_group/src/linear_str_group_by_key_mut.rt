@@ -2,7 +2,7 @@
 ghost use Rattle.std.specs.Prelude.{◌≡◌, ℕ};
 ghost use Rattle.std.specs.Str.{IsUtf8};
 ghost use Rattle.sgb_search.specs.Judges.{by_char_key, char_key_judge, ComputesCharKey};
-ghost use Rattle.sgb_loans.specs.GroupsMut.{NothingOut};
+ghost use Rattle.sgb_loans.specs.Loans.{NothingOut};
 
 use crate::groups_mut::LinearStrGroupsMut;
 use sgb_search::judge::CharKeyJudge;

@@ -39,7 +39,7 @@ use Rattle.std.proofs.cell.Inside.{one}
 use Rattle.std.proofs.option.Made.{none_of}
 use Rattle.std.proofs.raw_atomic.Walks.{proved_at, leaves}
 use Rattle.std.specs.contracts.ops.FnOnce.call_once as call_once
-use Rattle.sgb_loans.specs.Links.{ended_as}
+use Rattle.sgb_loans.specs.Loans.{ended_as}
 use Rattle.sgb_loans.proofs.loans.Ended.TheLaws as ended_laws
 use Rattle.sgb_loans.specs.contracts.loans.Ended as end
 use Rattle.sgb_loans.specs.contracts.settle.settled as f
