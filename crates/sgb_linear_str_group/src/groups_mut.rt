@@ -76,7 +76,7 @@ fn group_len<J: Judge<char>>(end: &End, text: &str, judge: &mut J) -> usize
 impl<'a, J> LinearStrGroupsMut<'a, J> {
     // All groups of the bytes are still to come.
     #[inline]
-    pub(crate) fn over(bytes: &'a mut [u8], judge: J) -> Self
+    pub(crate) fn with_judge(bytes: &'a mut [u8], judge: J) -> Self
         requires { IsUtf8 bytes.old }
         ensures text { result.text ≡ bytes.old }
         ensures judge { result.judge ≡ judge }

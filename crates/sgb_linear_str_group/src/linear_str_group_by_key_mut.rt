@@ -39,7 +39,7 @@ impl<'a, K: PartialEq + Drop, F: FnMut(char) -> K> LinearStrGroupsMut<'a, CharKe
         ensures settled { (key : ℕ → K) → ComputesCharKey F.FnMut key func → IsSettledText (by_char_key F.FnMut K.eq) (seen_text result) (λ x y. K.eq (key x) (key y)) }
         ensures loans { NothingOut bytes.entry.ghost_name result.loans }
     {
-        LinearStrGroupsMut::over(
+        LinearStrGroupsMut::with_judge(
             bytes,
             CharKeyJudge {
                 func,

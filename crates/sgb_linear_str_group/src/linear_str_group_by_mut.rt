@@ -38,7 +38,7 @@ impl<'a, P: FnMut(char, char) -> bool> LinearStrGroupsMut<'a, CharPredicateJudge
         ensures settled { (p : ℕ → ℕ → Bool) → ComputesOnChars P.FnMut p predicate → IsSettledText (by_char_predicate P.FnMut) (seen_text result) p }
         ensures loans { NothingOut bytes.entry.ghost_name result.loans }
     {
-        LinearStrGroupsMut::over(bytes, CharPredicateJudge { predicate })
+        LinearStrGroupsMut::with_judge(bytes, CharPredicateJudge { predicate })
     }
 }
 

@@ -35,7 +35,7 @@ impl<'a> LinearStrGroupsMut<'a, EqualityJudge> {
         ensures settled { IsSettledText (by_equality nat_eq) (seen_text result) nat_eq }
         ensures loans { NothingOut bytes.entry.ghost_name result.loans }
     {
-        LinearStrGroupsMut::over(bytes, EqualityJudge::new())
+        LinearStrGroupsMut::with_judge(bytes, EqualityJudge::new())
     }
 }
 

@@ -2,4 +2,4 @@ use Rattle.sgb_search.proofs.Closures.{char_predicate_settled}
 use Rattle.sgb_linear_str_group.proofs.linear_str_group_by_mut.LinearStrGroupsMut+CharPredicateJudge+P.new.Goals as goal
 
 pub returns-clause-settled : goal.returns-clause-settled
-returns-clause-settled g c p h = rw c.over.ensures.judge (char_predicate_settled g.P.FnMut p _ _ h)
+returns-clause-settled g c p h = rw c.with_judge.ensures.judge (char_predicate_settled g.P.FnMut p _ _ h)
