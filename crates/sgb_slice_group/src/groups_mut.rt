@@ -172,13 +172,8 @@ impl<'a, T, J: Drop, C> SliceGroupsMut<'a, T, J, C> {
         ensures name { result.name ≡ self.entry.loans.root }
         ensures value { result.value ≡ self.entry.loans.before ++ (self.entry.remainder ++ self.entry.loans.after) }
     {
-        let SliceGroupsMut {
-            slice,
-            judge: _,
-            loans,
-            group_end: _,
-        } = self;
-        loans.close(Ended::of(slice))
+        let (rest, loans) = self.into_parts();
+        loans.close(Ended::of(rest))
     }
 }
 
