@@ -5,7 +5,7 @@ use Rattle.std.specs.Borrow.{MutBor}
 use Rattle.std.specs.Iterator.{Count}
 use Rattle.sgb_search.specs.declared.judge.Judge.{Ghosts}
 use Rattle.sgb_loans.specs.declared.loans.Loans.{Loans}
-use Rattle.sgb_loans.specs.GroupsMut.{HandsOut}
+use Rattle.sgb_loans.specs.Loans.{HandsOut}
 use Rattle.sgb_search.specs.declared.end.End.{End}
 use Rattle.sgb_linear_str_group.specs.Texts.{TextGroups, text_groups_to_come, TextCallAt}
 

@@ -4,7 +4,7 @@ ghost use Rattle.std.specs.Str.{IsUtf8};
 ghost use Rattle.sgb_search.specs.Judges.{by_equality};
 ghost use Rattle.sgb_linear_str_group.specs.Texts.{shown_text, IsCallableText, IsSettledText};
 ghost use Rattle.sgb_linear_str_group.specs.TextsMut.{seen_text};
-ghost use Rattle.sgb_loans.specs.GroupsMut.{NothingOut};
+ghost use Rattle.sgb_loans.specs.Loans.{NothingOut};
 
 use crate::groups::LinearStrGroups;
 use crate::groups_mut::LinearStrGroupsMut;
@@ -60,7 +60,7 @@ impl<'a> LinearStrGroupsMut<'a, EqualityJudge> {
         ensures settled { IsSettledText (by_equality nat_eq) (seen_text result) nat_eq }
         ensures loans { NothingOut bytes.entry.ghost_name result.loans }
     {
-        LinearStrGroupsMut::over(bytes, EqualityJudge::new())
+        LinearStrGroupsMut::with_judge(bytes, EqualityJudge::new())
     }
 }
 

@@ -4,7 +4,7 @@ ghost use Rattle.std.specs.Str.{IsUtf8};
 ghost use Rattle.sgb_search.specs.Judges.{by_char_key, char_key_judge, ComputesCharKey};
 ghost use Rattle.sgb_linear_str_group.specs.Texts.{shown_text, IsCallableText, IsSettledText};
 ghost use Rattle.sgb_linear_str_group.specs.TextsMut.{seen_text};
-ghost use Rattle.sgb_loans.specs.GroupsMut.{NothingOut};
+ghost use Rattle.sgb_loans.specs.Loans.{NothingOut};
 
 use crate::groups::LinearStrGroups;
 use crate::groups_mut::LinearStrGroupsMut;
@@ -82,7 +82,7 @@ impl<'a, K: PartialEq + Drop, F: FnMut(char) -> K> LinearStrGroupsMut<'a, CharKe
             → IsSettledText (by_char_key F.FnMut K.eq) (seen_text result) (λ x y. K.eq (key x) (key y)) }
         ensures loans { NothingOut bytes.entry.ghost_name result.loans }
     {
-        LinearStrGroupsMut::over(
+        LinearStrGroupsMut::with_judge(
             bytes,
             CharKeyJudge {
                 func,

@@ -4,7 +4,7 @@ ghost use Rattle.std.specs.Str.{IsUtf8};
 ghost use Rattle.sgb_search.specs.Judges.{by_char_predicate, char_predicate_judge, ComputesOnChars};
 ghost use Rattle.sgb_linear_str_group.specs.Texts.{shown_text, IsCallableText, IsSettledText};
 ghost use Rattle.sgb_linear_str_group.specs.TextsMut.{seen_text};
-ghost use Rattle.sgb_loans.specs.GroupsMut.{NothingOut};
+ghost use Rattle.sgb_loans.specs.Loans.{NothingOut};
 
 use crate::groups::LinearStrGroups;
 use crate::groups_mut::LinearStrGroupsMut;
@@ -76,7 +76,7 @@ impl<'a, P: FnMut(char, char) -> bool> LinearStrGroupsMut<'a, CharPredicateJudge
             → IsSettledText (by_char_predicate P.FnMut) (seen_text result) p }
         ensures loans { NothingOut bytes.entry.ghost_name result.loans }
     {
-        LinearStrGroupsMut::over(bytes, CharPredicateJudge { predicate })
+        LinearStrGroupsMut::with_judge(bytes, CharPredicateJudge { predicate })
     }
 }
 

@@ -1,10 +1,13 @@
 //! Linear groups of a text's bytes for writing, over any judge of characters.
-ghost use Rattle.std.specs.Prelude.{◌≡◌, ℕ, Bool, [], ◌∷◌, ◌++◌, drop, length, nat_eq, IfSome};
+ghost use Rattle.std.specs.Prelude.{◌≡◌, ℕ, ◌<◌, ◌≤◌, Bool, List, [], ◌∷◌, ◌++◌, drop, length, nat_eq, IfSome};
 ghost use Rattle.std.specs.Iterator.{UpTo};
 ghost use Rattle.std.specs.Iterator.SizeHint.{IsWithinCount};
-ghost use Rattle.std.specs.Str.{IsUtf8};
+ghost use Rattle.std.specs.Str.{chars, IsUtf8};
 ghost use Rattle.sgb_search.specs.declared.end.End.TheVariants.{Front, Back};
-ghost use Rattle.sgb_loans.specs.GroupsMut.{NothingOut};
+ghost use Rattle.sgb_search.specs.Linear.{MayAskAlong};
+ghost use Rattle.sgb_search.specs.Split.{put_at};
+ghost use Rattle.sgb_loans.specs.Loans.{NothingOut};
+ghost use Rattle.sgb_linear_str_group.specs.Texts.{IsTextAt};
 ghost use Rattle.sgb_linear_str_group.specs.TextsMut.{TextGroupsMut, text_groups_mut_to_come};
 
 use crate::scan::{first_len, last_len};
@@ -54,10 +57,26 @@ fn text_of(bytes: &[u8]) -> &str
     unsafe { std::str::from_utf8_unchecked(bytes) }
 }
 
+// How many bytes the group at the end of the text has: where the text is cut in two so, the part there is the group.
+#[inline]
+fn group_len<J: Judge<char>>(end: &End, text: &str, judge: &mut J) -> usize
+    requires nonempty { 0 < length text.now }
+    requires callable { MayAskAlong J.Judge (chars text.now) judge.old }
+    ensures within { result ≤ length text.now }
+    ensures group { (group rest : List ℕ) → text.now ≡ put_at end.now group rest → length group ≡ result
+        → IsTextAt J.Judge end.now (record { text = text.now; judge = judge.old }) group
+        (record { text = rest; judge = judge.new }) }
+{
+    match end {
+        End::Front => first_len(text, judge),
+        End::Back => last_len(text, judge),
+    }
+}
+
 impl<'a, J> LinearStrGroupsMut<'a, J> {
     // All groups of the bytes are still to come.
     #[inline]
-    pub(crate) fn over(bytes: &'a mut [u8], judge: J) -> Self
+    pub(crate) fn with_judge(bytes: &'a mut [u8], judge: J) -> Self
         requires { IsUtf8 bytes.old }
         ensures text { result.text ≡ bytes.old }
         ensures judge { result.judge ≡ judge }
@@ -111,20 +130,10 @@ impl<'a, J: Judge<char>> LinearStrGroupsMut<'a, J> {
             return None;
         }
         let all = mem::take(&mut self.bytes);
-        match end {
-            End::Front => {
-                let len = first_len(text_of(all), &mut self.judge);
-                let (group, rest) = self.loans.cut_front(all, len);
-                self.bytes = rest;
-                Some(group)
-            }
-            End::Back => {
-                let start = all.len() - last_len(text_of(all), &mut self.judge);
-                let (rest, group) = self.loans.cut_back(all, start);
-                self.bytes = rest;
-                Some(group)
-            }
-        }
+        let len = group_len(end, text_of(all), &mut self.judge);
+        let (group, rest) = self.loans.cut(end, all, len);
+        self.bytes = rest;
+        Some(group)
     }
 }
 

@@ -18,13 +18,15 @@ use denote.FollowSlice.{heres_id}
 use denote.Shadow.{makes_shadow}
 use denote.Struct.Struct.{Struct}
 use denote.Struct.Owning.{shape}
-use Rattle.std.proofs.Common.{sym, rules, append_assoc, append-nil}
-use base.Logic.{wand, all_e, apply∗, sep}
+use Rattle.std.proofs.Common.{sym, ap, drop as drop_list, rules, append_assoc, append-nil}
+use base.Logic.{wand, all_e, apply∗, sep, id⊢}
 use base.Fml.{GName, fsep}
-use types.Kit.{◌⊛◌, use0, raw, move, join, use1, use2, use3, assume, each, fpick, fpack, fjoin, feq_i}
+use types.Kit.{◌⊛◌, use0, raw, move, split, join, use1, use2, use3, assume, each, fpick, fpack, fjoin, feq_i}
 use denote.Array.{Array}
 use denote.Follow.{follows_both, both_by}
-use Rattle.sgb_loans.specs.Links.{ended_as, within, cut_link, links, loan_owns}
+use Rattle.sgb_search.specs.Split.{put_at}
+use Rattle.sgb_loans.specs.declared.loans.Loans.{Loans}
+use Rattle.sgb_loans.specs.Loans.{ended_as, within, cut_link, links, loan_owns, noted, part_at, rest_at}
 use Rattle.sgb_loans.specs.contracts.loans.Ended as end
 use Rattle.sgb_loans.specs.contracts.loans.Loans as loans
 
@@ -63,43 +65,61 @@ module _ {M : Type 1} {𝓤 : Ura M} (𝓛 : Logic 𝓤) (R : RattleType) where
       use1 𝓛 (raw (Ends γ before after m xs)) (all_e 𝓤 (Ends γ before after m) xs) $ move ! (1 ∷ []) $ rewrite ! 0 (λ (k : GName). ‵ (ended_as R k xs)) (sym e) refl $
       by ! (apply∗ 𝓤 (sem 𝓛 (ended_as R m xs)) (sem 𝓛 (ended_as R γ (before ++ (xs ++ after)))))))
 
-  both : (γ γ₁ γ₂ : GName) (ys zs : List R.Denot)
-      → ent 𝓤 (sep 𝓤 (sep 𝓤 (sem 𝓛 (ended_as R γ₁ ys)) (sem 𝓛 (ended_as R γ₂ zs))) (sem 𝓛 (follows_both (Array R 0) (Array R 0) (Array R 0) γ γ₁ γ₂ ◌++◌))) (sem 𝓛 (ended_as R γ (ys ++ zs)))
+  abbrev Both : GName → GName → GName → (List R.Denot → List R.Denot → List R.Denot) → Fml
+  Both = follows_both (Array R 0) (Array R 0) (Array R 0)
+
+  both : (γ γ₁ γ₂ : GName) (F : List R.Denot → List R.Denot → List R.Denot) (ys zs : List R.Denot)
+      → ent 𝓤 (sep 𝓤 (sep 𝓤 (sem 𝓛 (ended_as R γ₁ ys)) (sem 𝓛 (ended_as R γ₂ zs))) (sem 𝓛 (Both γ γ₁ γ₂ F))) (sem 𝓛 (ended_as R γ (F ys zs)))
   unfolding both_by
-  both γ γ₁ γ₂ ys zs =
-      let P : List R.Denot × List R.Denot → SProp 𝓤 = λ w. wand 𝓤 (sep 𝓤 (sem 𝓛 (ended_as R γ₁ w.0)) (sem 𝓛 (ended_as R γ₂ w.1))) (sem 𝓛 (ended_as R γ (w.0 ++ w.1))) in
-      qed 𝓛 ((‵ (ended_as R γ₁ ys) ⊛ ‵ (ended_as R γ₂ zs)) ∷ ‵ (follows_both (Array R 0) (Array R 0) (Array R 0) γ γ₁ γ₂ ◌++◌) ∷ []) ∵ move ! (1 ∷ []) $
-      use1 𝓛 (raw (P (ys, zs))) (all_e 𝓤 P (ys, zs)) $ move ! (1 ∷ []) $ by ! (apply∗ 𝓤 (sep 𝓤 (sem 𝓛 (ended_as R γ₁ ys)) (sem 𝓛 (ended_as R γ₂ zs))) (sem 𝓛 (ended_as R γ (ys ++ zs))))
+  both γ γ₁ γ₂ F ys zs =
+      let P : List R.Denot × List R.Denot → SProp 𝓤 = λ w.
+      wand 𝓤 (sep 𝓤 (sem 𝓛 (ended_as R γ₁ w.0)) (sem 𝓛 (ended_as R γ₂ w.1))) (sem 𝓛 (ended_as R γ (F w.0 w.1))) in
+      qed 𝓛 ((‵ (ended_as R γ₁ ys) ⊛ ‵ (ended_as R γ₂ zs)) ∷ ‵ (Both γ γ₁ γ₂ F) ∷ []) ∵ move ! (1 ∷ []) $
+      use1 𝓛 (raw (P (ys, zs))) (all_e 𝓤 P (ys, zs)) $ move ! (1 ∷ []) $
+      by ! (apply∗ 𝓤 (sep 𝓤 (sem 𝓛 (ended_as R γ₁ ys)) (sem 𝓛 (ended_as R γ₂ zs))) (sem 𝓛 (ended_as R γ (F ys zs))))
 
-  within_more : (γ m g δ : GName) (before after xs : List R.Denot)
-      → ent 𝓤 (sep 𝓤 (sem 𝓛 (within R γ before after m)) (sep 𝓤 (sem 𝓛 (ended_as R g xs)) (sem 𝓛 (cut_link R m Front g δ)))) (sem 𝓛 (within R γ (before ++ xs) after δ))
-  within_more γ m g δ before after xs = qed 𝓛 (‵ (within R γ before after m) ∷ ‵ (ended_as R g xs) ∷ ‵ (cut_link R m Front g δ) ∷ []) ∵ each ! (Ends γ (before ++ xs) after δ) (λ w. assume ! (‵ (ended_as R δ w)) $
-      -- [δ ended; within; g ended; the cut]
-      move ! (2 ∷ 0 ∷ []) $ join ! $ move ! (0 ∷ 2 ∷ []) $ use2 𝓛 (‵ (ended_as R m (xs ++ w))) (both m g δ xs w) $ move ! (1 ∷ []) $
-      use1 𝓛 (raw (Ends γ before after m (xs ++ w))) (all_e 𝓤 (Ends γ before after m) (xs ++ w)) $ move ! (1 ∷ []) $
-      use2 𝓛 (‵ (ended_as R γ (before ++ ((xs ++ w) ++ after)))) (apply∗ 𝓤 (sem 𝓛 (ended_as R m (xs ++ w))) (sem 𝓛 (ended_as R γ (before ++ ((xs ++ w) ++ after))))) $
-      rewrite ! 0 (λ (l : List R.Denot). ‵ (ended_as R γ l)) (regroup before xs w after) refl $ done !)
+  -- a cut in two is a cut at either end
+  pub cut_at : (γ : GName) (e : End) (parts : MutBor (List R.Denot) × MutBor (List R.Denot))
+      → ent 𝓤 (sem 𝓛 (Both γ parts.0.ghost_name parts.1.ghost_name ◌++◌))
+      (sem 𝓛 (cut_link R γ e (part_at e parts).ghost_name (rest_at e parts).ghost_name))
+  unfolding both_by
+  cut_at γ Front parts = id⊢ 𝓤 _
+  cut_at γ Back parts =
+      let a = parts.0.ghost_name in let b = parts.1.ghost_name in
+      let P : List R.Denot × List R.Denot → SProp 𝓤 = λ w.
+      wand 𝓤 (sep 𝓤 (sem 𝓛 (ended_as R b w.0)) (sem 𝓛 (ended_as R a w.1))) (sem 𝓛 (ended_as R γ (w.1 ++ w.0))) in
+      qed 𝓛 (‵ (Both γ a b ◌++◌) ∷ []) ∵ each ! P (λ w. assume ! (‵ (ended_as R b w.0) ⊛ ‵ (ended_as R a w.1)) $ split ! $
+      move ! (1 ∷ 0 ∷ []) $ join ! $ use2 𝓛 (‵ (ended_as R γ (w.1 ++ w.0))) (both γ a b ◌++◌ w.1 w.0) $ done !)
 
-  within_less : (γ m g δ : GName) (before after xs : List R.Denot)
-      → ent 𝓤 (sep 𝓤 (sem 𝓛 (within R γ before after m)) (sep 𝓤 (sem 𝓛 (ended_as R g xs)) (sem 𝓛 (cut_link R m Back g δ)))) (sem 𝓛 (within R γ before (xs ++ after) δ))
-  within_less γ m g δ before after xs = qed 𝓛 (‵ (within R γ before after m) ∷ ‵ (ended_as R g xs) ∷ ‵ (cut_link R m Back g δ) ∷ []) ∵ each ! (Ends γ before (xs ++ after) δ) (λ w. assume ! (‵ (ended_as R δ w)) $
-      -- [δ ended; within; g ended; the cut]
-      move ! (0 ∷ 2 ∷ []) $ join ! $ move ! (0 ∷ 2 ∷ []) $ use2 𝓛 (‵ (ended_as R m (w ++ xs))) (both m δ g w xs) $ move ! (1 ∷ []) $
-      use1 𝓛 (raw (Ends γ before after m (w ++ xs))) (all_e 𝓤 (Ends γ before after m) (w ++ xs)) $ move ! (1 ∷ []) $
-      use2 𝓛 (‵ (ended_as R γ (before ++ ((w ++ xs) ++ after)))) (apply∗ 𝓤 (sem 𝓛 (ended_as R m (w ++ xs))) (sem 𝓛 (ended_as R γ (before ++ ((w ++ xs) ++ after))))) $
-      rewrite ! 0 (λ (l : List R.Denot). ‵ (ended_as R γ (before ++ l))) (append_assoc w xs after) refl $ done !)
+  -- the part g, which was cut off at the end e, ended as xs, and what stands before and after what is out takes it in
+  module _ (γ g : GName) (e : End) (before after xs before' after' : List R.Denot)
+      (same : (w : List R.Denot) → before ++ (put_at e xs w ++ after) ≡ before' ++ (w ++ after')) where
+    within_noted : (m δ : GName) → ent 𝓤 (sep 𝓤 (sem 𝓛 (within R γ before after m)) (sep 𝓤 (sem 𝓛 (ended_as R g xs)) (sem 𝓛 (cut_link R m e g δ))))
+        (sem 𝓛 (within R γ before' after' δ))
+    within_noted m δ = qed 𝓛 (‵ (within R γ before after m) ∷ ‵ (ended_as R g xs) ∷ ‵ (cut_link R m e g δ) ∷ []) ∵
+        each ! (Ends γ before' after' δ) (λ w. assume ! (‵ (ended_as R δ w)) $
+        -- [δ ended; within; g ended; the cut]
+        move ! (2 ∷ 0 ∷ []) $ join ! $ move ! (0 ∷ 2 ∷ []) $ use2 𝓛 (‵ (ended_as R m (put_at e xs w))) (both m g δ (put_at e) xs w) $ move ! (1 ∷ []) $
+        use1 𝓛 (raw (Ends γ before after m (put_at e xs w))) (all_e 𝓤 (Ends γ before after m) (put_at e xs w)) $ move ! (1 ∷ []) $
+        use2 𝓛 (‵ (ended_as R γ (before ++ (put_at e xs w ++ after))))
+        (apply∗ 𝓤 (sem 𝓛 (ended_as R m (put_at e xs w))) (sem 𝓛 (ended_as R γ (before ++ (put_at e xs w ++ after))))) $
+        rewrite ! 0 (λ (l : List R.Denot). ‵ (ended_as R γ l)) (same w) refl $ done !)
 
-  pub notes : (γ g δ : GName) (before after xs : List R.Denot) (cs : List (End × GName))
-      → ent 𝓤 (sep 𝓤 (sem 𝓛 (loan_owns R γ before after ((Front, g) ∷ cs) δ)) (sem 𝓛 (ended_as R g xs))) (sem 𝓛 (loan_owns R γ (before ++ xs) after cs δ))
-  notes γ g δ before after xs cs = qed 𝓛 (‵ (loan_owns R γ before after ((Front, g) ∷ cs) δ) ∷ ‵ (ended_as R g xs) ∷ []) ∵ fpick ! (λ m. fsplit ! $ move ! (1 ∷ []) $ fpick ! (λ k. fsplit ! $
-      move ! (2 ∷ 3 ∷ 0 ∷ []) $ use3 𝓛 (‵ (within R γ (before ++ xs) after k)) (within_more γ m g k before after xs) $ fjoin ! $
-      fpack ! GName (λ n. fsep (within R γ (before ++ xs) after n) (links R n cs δ)) k $ done !))
+    loans_noted : (cs : List (End × GName)) (δ : GName)
+        → ent 𝓤 (sep 𝓤 (sem 𝓛 (loan_owns R γ before after ((e, g) ∷ cs) δ)) (sem 𝓛 (ended_as R g xs))) (sem 𝓛 (loan_owns R γ before' after' cs δ))
+    loans_noted cs δ = qed 𝓛 (‵ (loan_owns R γ before after ((e, g) ∷ cs) δ) ∷ ‵ (ended_as R g xs) ∷ []) ∵
+        fpick ! (λ m. fsplit ! $ move ! (1 ∷ []) $ fpick ! (λ k. fsplit ! $
+        move ! (2 ∷ 3 ∷ 0 ∷ []) $ use3 𝓛 (‵ (within R γ before' after' k)) (within_noted m k) $ fjoin ! $
+        fpack ! GName (λ n. fsep (within R γ before' after' n) (links R n cs δ)) k $ done !))
 
-  pub notes_back : (γ g δ : GName) (before after xs : List R.Denot) (cs : List (End × GName))
-      → ent 𝓤 (sep 𝓤 (sem 𝓛 (loan_owns R γ before after ((Back, g) ∷ cs) δ)) (sem 𝓛 (ended_as R g xs))) (sem 𝓛 (loan_owns R γ before (xs ++ after) cs δ))
-  notes_back γ g δ before after xs cs = qed 𝓛 (‵ (loan_owns R γ before after ((Back, g) ∷ cs) δ) ∷ ‵ (ended_as R g xs) ∷ []) ∵ fpick ! (λ m. fsplit ! $ move ! (1 ∷ []) $ fpick ! (λ k. fsplit ! $
-      move ! (2 ∷ 3 ∷ 0 ∷ []) $ use3 𝓛 (‵ (within R γ before (xs ++ after) k)) (within_less γ m g k before after xs) $ fjoin ! $
-      fpack ! GName (λ n. fsep (within R γ before (xs ++ after) n) (links R n cs δ)) k $ done !))
+  abbrev pub owns_loans : Loans R.Denot → Fml
+  owns_loans l = loan_owns R l.root l.before l.after l.cuts l.rest
+
+  pub notes : (e : End) (g : GName) (xs : List R.Denot) (l : Loans R.Denot)
+      → ent 𝓤 (sep 𝓤 (sem 𝓛 (loan_owns R l.root l.before l.after ((e, g) ∷ drop_list 1 l.cuts) l.rest)) (sem 𝓛 (ended_as R g xs))) (sem 𝓛 (owns_loans (noted e xs l)))
+  notes Front g xs l = loans_noted l.root g Front l.before l.after xs (l.before ++ xs) l.after (λ w. regroup l.before xs w l.after) (drop_list 1 l.cuts) l.rest
+  notes Back g xs l = loans_noted l.root g Back l.before l.after xs l.before (xs ++ l.after)
+      (λ w. ap (λ (ys : List R.Denot). l.before ++ ys) (append_assoc w xs l.after)) (drop_list 1 l.cuts) l.rest
 
   more_links : (m g δ ε : GName) (end : End) (cs : List (End × GName))
       → ent 𝓤 (sep 𝓤 (sem 𝓛 (links R m cs δ)) (sem 𝓛 (cut_link R δ end g ε))) (sem 𝓛 (links R m (cs ++ (end, g) ∷ []) ε))

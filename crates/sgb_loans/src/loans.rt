@@ -4,8 +4,9 @@ ghost use Rattle.std.specs.Coded.{coded_list};
 ghost use Rattle.std.specs.Borrow.{sem, LendsBoth, Array};
 ghost use Rattle.sgb_search.specs.declared.end.End.{End};
 ghost use Rattle.sgb_search.specs.declared.end.End.TheVariants.{Front, Back};
-ghost use Rattle.sgb_loans.specs.Links.{ended_as, loan_owns};
+ghost use Rattle.sgb_search.specs.Split.{put_at};
 
+use sgb_search::end::End;
 use std::marker::{Model, PhantomData};
 
 /// A slice that was given up for good, and what it was then: the slice named `name` ended as `value`.
@@ -17,6 +18,8 @@ pub struct Ended<'a, T> {
 }
 
 impl<'a, T> Model for Ended<'a, T> {
+    ghost use Rattle.sgb_loans.specs.Loans.{ended_as};
+
     ghost also_owns = { λ l. ended_as T.row l.name l.value };
 }
 
@@ -58,10 +61,14 @@ pub struct Loans<T> {
 }
 
 impl<T> Model for Loans<T> {
+    ghost use Rattle.sgb_loans.specs.Loans.{loan_owns};
+
     ghost also_owns = { λ l. loan_owns T.row l.root l.before l.after l.cuts l.rest };
 }
 
 impl<T> Loans<T> {
+    ghost use Rattle.sgb_loans.specs.Loans.{HandsOut, noted, part_at, rest_at};
+
     /// No part of the slice is out yet. The slice itself comes back, to be cut.
     #[inline]
     pub fn open<'a>(slice: &'a mut [T]) -> (&'a mut [T], Loans<T>)
@@ -78,36 +85,52 @@ impl<T> Loans<T> {
         (slice, loans)
     }
 
-    /// Cuts the rest `all` in two at `mid`, of which the first is out then, and the second is the rest.
+    // Cuts the rest `all` in two at `mid`. The part at the end is out then, and the other is the rest. The end says only which
+    // of the two that is, and `cut` tells them apart: so the proof by hand of this function has no branch.
     #[inline]
-    pub fn cut_front<'a>(&mut self, all: &'a mut [T], mid: usize) -> (&'a mut [T], &'a mut [T])
+    fn cut_in_two<'a>(
+        &mut self,
+        end: &End,
+        all: &'a mut [T],
+        mid: usize,
+    ) -> (&'a mut [T], &'a mut [T])
         requires within { mid ≤ length all.old }
         requires rest { all.ghost_name ≡ self.old.rest }
-        ensures value { all.entry.now ≡ result.0.now ++ result.1.now }
-        ensures len { length result.0.now ≡ mid }
-        ensures root { self.new.root ≡ self.old.root }
-        ensures before { self.new.before ≡ self.old.before }
-        ensures after { self.new.after ≡ self.old.after }
-        ensures rest { self.new.rest ≡ result.1.ghost_name }
-        ensures cuts { self.new.cuts ≡ self.old.cuts ++ (Front, result.0.ghost_name) ∷ [] }
+        ensures parts { (all.entry.now ≡ result.0.now ++ result.1.now) × (length result.0.now ≡ mid) }
+        ensures rest { self.new.rest ≡ (rest_at end.now result).ghost_name }
+        ensures out { HandsOut end.now self.old (part_at end.now result).ghost_name self.new }
     {
         split(all, mid)
     }
 
-    /// Cuts the rest `all` in two at `mid`, of which the second is out then, and the first is the rest.
+    /// Cuts the part of `len` elements at the end off the rest `all`. The part comes first, and is out then. The second is the
+    /// rest.
     #[inline]
-    pub fn cut_back<'a>(&mut self, all: &'a mut [T], mid: usize) -> (&'a mut [T], &'a mut [T])
-        requires within { mid ≤ length all.old }
+    pub fn cut<'a>(&mut self, end: &End, all: &'a mut [T], len: usize) -> (&'a mut [T], &'a mut [T])
+        requires within { len ≤ length all.old }
         requires rest { all.ghost_name ≡ self.old.rest }
-        ensures value { all.entry.now ≡ result.0.now ++ result.1.now }
-        ensures len { length result.0.now ≡ mid }
-        ensures root { self.new.root ≡ self.old.root }
-        ensures before { self.new.before ≡ self.old.before }
-        ensures after { self.new.after ≡ self.old.after }
-        ensures rest { self.new.rest ≡ result.0.ghost_name }
-        ensures cuts { self.new.cuts ≡ self.old.cuts ++ (Back, result.1.ghost_name) ∷ [] }
+        ensures value { all.entry.now ≡ put_at end.now result.0.now result.1.now }
+        ensures len { length result.0.now ≡ len }
+        ensures rest { self.new.rest ≡ result.1.ghost_name }
+        ensures out { HandsOut end.now self.old result.0.ghost_name self.new }
     {
-        split(all, mid)
+        match end {
+            End::Front => self.cut_in_two(end, all, len),
+            End::Back => {
+                let start = all.len() - len;
+                let (rest, part) = self.cut_in_two(end, all, start);
+                (part, rest)
+            }
+        }
+    }
+
+    // Takes note of how the oldest part was left, which came off at the end: it is out no more.
+    #[inline]
+    fn note(&mut self, end: &End, part: Ended<'_, T>)
+        requires { self.old.cuts ≡ (end.now, part.name) ∷ drop 1 self.old.cuts }
+        ensures { self.new ≡ noted end.now part.entry.value self.old }
+    {
+        let Ended { marker: _ } = part;
     }
 
     /// Takes note of how the oldest part was left, which came off at the front: it is out no more.
@@ -120,7 +143,7 @@ impl<T> Loans<T> {
         ensures rest { self.new.rest ≡ self.old.rest }
         ensures cuts { self.new.cuts ≡ drop 1 self.old.cuts }
     {
-        let Ended { marker: _ } = part;
+        self.note(&End::Front, part)
     }
 
     /// Takes note of how the oldest part was left, which came off at the back: it is out no more.
@@ -133,7 +156,7 @@ impl<T> Loans<T> {
         ensures rest { self.new.rest ≡ self.old.rest }
         ensures cuts { self.new.cuts ≡ drop 1 self.old.cuts }
     {
-        let Ended { marker: _ } = part;
+        self.note(&End::Back, part)
     }
 
     /// No part is out, and the rest is given up: so the whole slice is known.

@@ -6,7 +6,7 @@ ghost use Rattle.sgb_loans.specs.declared.loans.Ended.{Ended as Token};
 use crate::loans::Ended;
 
 // The slice ends as the token of f's answer says, once the loan of the result is over, which is at once.
-fn settled<T, F: FnOnce(&mut [T]) -> Ended<'_, T>>(slice: &mut [T], f: F) -> Option<&mut T>
+fn resolved<T, F: FnOnce(&mut [T]) -> Ended<'_, T>>(slice: &mut [T], f: F) -> Option<&mut T>
     requires callable { F.pre f slice }
     requires names { (l : Token T) → F.post f slice l → l.name ≡ slice.ghost_name }
     ensures* ends { sem 𝓛 (LendsSo (Array T.row 0) T.row slice.entry result (λ _ _. ⊤) (λ n. (l : Token T) × F.post f slice.entry l × (n ≡ l.value))) }
@@ -28,7 +28,7 @@ pub fn settle<T, F: FnOnce(&mut [T]) -> Ended<'_, T>>(slice: &mut [T], f: F)
     requires names { (p : MutBor (List T)) (l : Token T) → p.now ≡ slice.old → F.post f p l → l.name ≡ p.ghost_name }
     ensures { (p : MutBor (List T)) × (l : Token T) × (p.now ≡ slice.old) × F.post f p l × (slice.new ≡ l.value) }
 {
-    if let Some(_) = settled(slice, f) {
+    if let Some(_) = resolved(slice, f) {
         unreachable!()
     }
 }

@@ -2,7 +2,7 @@
 use Rattle.std.proofs.Common.{◌≡◌, List, sym, subst}
 use Rattle.sgb_search.specs.declared.judge.Judge.{Ghosts}
 use Rattle.sgb_search.specs.Judges.{MayAskAll}
-use Rattle.sgb_loans.specs.GroupsMut.{GroupsMut}
+use Rattle.sgb_loans.specs.Loans.{GroupsMut}
 use Rattle.sgb_slice_group.specs.Gives.{IsCallableByMut}
 
 pub callable_taken : {T J : Type 0} (g : Ghosts J T) (allowed : List T → T × T → Type 0) (zs : List T) (v s : GroupsMut T J)

@@ -5,7 +5,7 @@ use Rattle.std.specs.Borrow.{Bor, MutBor}
 use Rattle.sgb_search.specs.declared.judge.Judge.{Ghosts}
 use Rattle.sgb_search.specs.Calls.{Groups, IsCallableBy, CallAt, IsGroupAt}
 use Rattle.sgb_search.specs.declared.end.End.{End}
-use Rattle.sgb_loans.specs.GroupsMut.{GroupsMut, HandsOut}
+use Rattle.sgb_loans.specs.Loans.{GroupsMut, HandsOut}
 use Rattle.sgb_slice_group.specs.declared.groups.SliceGroups.{SliceGroups}
 
 -- what contracts see of an iterator for reading: the elements that it has not handed out yet, which lie between its two places,

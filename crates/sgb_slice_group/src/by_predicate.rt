@@ -5,7 +5,7 @@ ghost use Rattle.sgb_search.specs.declared.judge.PredicateJudge.{PredicateJudge}
 ghost use Rattle.sgb_search.specs.Calls.{IsCallableBy, ComputesBy};
 ghost use Rattle.sgb_search.specs.Judges.{by_predicate, predicate_judge};
 ghost use Rattle.sgb_slice_group.specs.Gives.{shown, seen};
-ghost use Rattle.sgb_loans.specs.GroupsMut.{NothingOut};
+ghost use Rattle.sgb_loans.specs.Loans.{NothingOut};
 
 use crate::groups::{GroupEnd, SliceGroups};
 use crate::groups_mut::SliceGroupsMut;

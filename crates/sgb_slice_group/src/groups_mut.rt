@@ -3,7 +3,7 @@ ghost use Rattle.std.specs.Prelude.{◌≡◌, ℕ, Bool, [], ◌∷◌, ◌++�
 ghost use Rattle.std.specs.Iterator.{UpTo};
 ghost use Rattle.std.specs.Iterator.SizeHint.{IsWithinCount};
 ghost use Rattle.sgb_search.specs.declared.end.End.TheVariants.{Front, Back};
-ghost use Rattle.sgb_loans.specs.GroupsMut.{GroupsMut, NothingOut, groups_mut_to_come};
+ghost use Rattle.sgb_loans.specs.Loans.{GroupsMut, NothingOut, groups_mut_to_come};
 
 use crate::groups::GroupEnd;
 use crate::linear_group::Linear;
@@ -37,7 +37,7 @@ pub type SearchGroupsMut<'a, T, J, S> = SliceGroupsMut<'a, T, J, Search<S>>;
 
 impl<'a, T, J, C> Model for SliceGroupsMut<'a, T, J, C> {
     ghost use Rattle.std.specs.Prelude.{◌≡◌};
-    ghost use Rattle.sgb_loans.specs.GroupsMut.{GroupsMut};
+    ghost use Rattle.sgb_loans.specs.Loans.{GroupsMut};
 
     ghost Value = { GroupsMut T J };
 
@@ -103,19 +103,9 @@ impl<'a, T, J: Judge<T>, C: GroupEnd> SliceGroupsMut<'a, T, J, C> {
         }
         let all = mem::take(&mut self.slice);
         let len = C::group_len(end, all, &mut self.judge);
-        match end {
-            End::Front => {
-                let (group, rest) = self.loans.cut_front(all, len);
-                self.slice = rest;
-                Some(group)
-            }
-            End::Back => {
-                let start = all.len() - len;
-                let (rest, group) = self.loans.cut_back(all, start);
-                self.slice = rest;
-                Some(group)
-            }
-        }
+        let (group, rest) = self.loans.cut(end, all, len);
+        self.slice = rest;
+        Some(group)
     }
 }
 
@@ -182,13 +172,8 @@ impl<'a, T, J: Drop, C> SliceGroupsMut<'a, T, J, C> {
         ensures name { result.name ≡ self.entry.loans.root }
         ensures value { result.value ≡ self.entry.loans.before ++ (self.entry.remainder ++ self.entry.loans.after) }
     {
-        let SliceGroupsMut {
-            slice,
-            judge: _,
-            loans,
-            group_end: _,
-        } = self;
-        loans.close(Ended::of(slice))
+        let (rest, loans) = self.into_parts();
+        loans.close(Ended::of(rest))
     }
 }
 
@@ -241,7 +226,7 @@ impl<'a, T, J: Judge<T> + Drop, C: GroupEnd> DoubleEndedIterator for SliceGroups
 impl<'a, T, J: Judge<T> + Drop, C: GroupEnd> FusedIterator for SliceGroupsMut<'a, T, J, C> {}
 
 impl<'a, T, J: Judge<T> + Drop, C: GroupEnd> SliceGroupsMut<'a, T, J, C> {
-    ghost use Rattle.sgb_loans.specs.GroupsMut.{GroupsMut};
+    ghost use Rattle.sgb_loans.specs.Loans.{GroupsMut};
     ghost use Rattle.sgb_slice_group.specs.Gives.{IsCallableByMut, GivesMut};
 
     /// The last group of the remainder, or `None` where nothing remains: what `next_back` gives, by its questions. The

@@ -12,7 +12,7 @@ use Rattle.sgb_search.specs.Linear.{AsksEachOnce, LinearQuestions}
 use Rattle.sgb_slice_group.proofs.Cuts.{call}
 use Rattle.sgb_slice_group.specs.declared.groups.SliceGroups.{SliceGroups}
 use Rattle.sgb_slice_group.specs.Gives.{shown, seen, Gives, GivesMut}
-use Rattle.sgb_loans.specs.GroupsMut.{GroupsMut}
+use Rattle.sgb_loans.specs.Loans.{GroupsMut}
 use Rattle.sgb_search.proofs.LinearPairs.{asks_none, asks_more, count_asked, asks_once}
 use Rattle.sgb_search.specs.declared.end.End.{End}
 use Rattle.slice_group_by.specs.Walk.{IsChain}

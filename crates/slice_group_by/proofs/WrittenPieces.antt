@@ -11,7 +11,7 @@ use Rattle.sgb_search.specs.Searching.{SearchCost, IsSettledApart, SearchQuestio
 use Rattle.sgb_search.specs.Linear.{IsSettled, LinearQuestions}
 use Rattle.sgb_search.proofs.LinearQueue as linear
 use Rattle.sgb_search.proofs.SearchQueue as searched
-use Rattle.sgb_loans.specs.GroupsMut.{GroupsMut}
+use Rattle.sgb_loans.specs.Loans.{GroupsMut}
 use Rattle.sgb_slice_group.specs.Gives.{seen, GivesMut}
 use Rattle.slice_group_by.proofs.Chains.{piece_and_others}
 

@@ -12,6 +12,5 @@ pub use Rattle.sgb_search.specs.Search
 pub use Rattle.sgb_slice_group.specs.Gives
 pub use Rattle.sgb_linear_str_group.specs.Texts
 pub use Rattle.sgb_linear_str_group.specs.TextsMut
-pub use Rattle.sgb_loans.specs.GroupsMut
-pub use Rattle.sgb_loans.specs.Links
+pub use Rattle.sgb_loans.specs.Loans
 pub use Rattle.sgb_search.specs.declared.end.End

@@ -6,7 +6,7 @@ ghost use Rattle.sgb_search.specs.Searching.{IsLocalEnd, ComputesApart, SearchQu
 ghost use Rattle.sgb_slice_group.specs.declared.searching.Search.{Search};
 ghost use Rattle.sgb_slice_group.specs.declared.groups.SliceGroups.{SliceGroups};
 ghost use Rattle.sgb_slice_group.specs.Gives.{shown, seen, Gives, GivesMut};
-ghost use Rattle.sgb_loans.specs.GroupsMut.{GroupsMut};
+ghost use Rattle.sgb_loans.specs.Loans.{GroupsMut};
 ghost use Rattle.sgb_search.specs.declared.end.End.{End};
 ghost use Rattle.slice_group_by.specs.Walk.{IsChain};
 

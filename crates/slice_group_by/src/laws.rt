@@ -19,7 +19,7 @@ ghost use Rattle.sgb_search.specs.Linear.{AsksEachOnce, LinearQuestions};
 ghost use Rattle.sgb_slice_group.specs.declared.linear_group.Linear.{Linear};
 ghost use Rattle.sgb_slice_group.specs.declared.groups.SliceGroups.{SliceGroups};
 ghost use Rattle.sgb_slice_group.specs.Gives.{shown, seen, Gives, GivesMut};
-ghost use Rattle.sgb_loans.specs.GroupsMut.{GroupsMut};
+ghost use Rattle.sgb_loans.specs.Loans.{GroupsMut};
 ghost use Rattle.sgb_linear_str_group.specs.Texts.{shown_text, in_characters, GivesText};
 ghost use Rattle.sgb_linear_str_group.specs.TextsMut.{TextGroupsMut, seen_text, GivesTextMut};
 ghost use Rattle.sgb_search.specs.Searching.{digits};

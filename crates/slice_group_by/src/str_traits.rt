@@ -4,7 +4,7 @@ ghost use Rattle.std.specs.Str.{IsUtf8};
 ghost use Rattle.sgb_search.specs.Judges.{by_char_predicate, char_predicate_judge, ComputesOnChars, by_char_key, char_key_judge, ComputesCharKey, by_equality};
 ghost use Rattle.sgb_linear_str_group.specs.Texts.{shown_text, IsCallableText, IsSettledText};
 ghost use Rattle.sgb_linear_str_group.specs.TextsMut.{seen_text};
-ghost use Rattle.sgb_loans.specs.GroupsMut.{NothingOut};
+ghost use Rattle.sgb_loans.specs.Loans.{NothingOut};
 
 use crate::{
     LinearStrGroup, LinearStrGroupBy, LinearStrGroupByKey, LinearStrGroupByKeyMut,

@@ -6,7 +6,7 @@ ghost use Rattle.sgb_search.specs.Split.{IsGrouped};
 ghost use Rattle.sgb_search.specs.Linear.{IsCallable, IsSettled};
 ghost use Rattle.sgb_search.specs.Searching.{IsCallableApart, ComputesApart, IsSettledApart};
 ghost use Rattle.sgb_slice_group.specs.Gives.{seen};
-ghost use Rattle.sgb_loans.specs.GroupsMut.{NothingOut};
+ghost use Rattle.sgb_loans.specs.Loans.{NothingOut};
 
 use crate::{
     BinaryGroupByKeyMut, BinaryGroupByMut, BinaryGroupMut, ExponentialGroupByKeyMut,

@@ -21,7 +21,7 @@ use denote.Param.{param, layouts}
 use denote.Triple.Walked.{Stays, walk_of, stay_dropped, Goes-spent_slice}
 use Rattle.std.proofs.raw_atomic.Walks.{proved_at, leaves}
 use Rattle.sgb_loans.proofs.Tokens.{token, EndedData, ended_made, gives_up}
-use Rattle.sgb_loans.specs.Links.{ended_as}
+use Rattle.sgb_loans.specs.Loans.{ended_as}
 use Rattle.sgb_loans.specs.contracts.loans.Ended.of.{ended, clauses}
 use Rattle.sgb_loans.specs.contracts.loans.Ended.of.Key.{name as #self}
 use Rattle.sgb_loans.proofs.loans.Ended.of.Statement.{statement}

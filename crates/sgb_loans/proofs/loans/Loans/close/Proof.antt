@@ -1,6 +1,5 @@
 -- The remainder is given up too, so all that the slice ends as is known.
 use Rattle.sgb_search.specs.declared.end.End.{End}
-use Rattle.sgb_search.specs.declared.end.End.TheVariants.{Front, Back}
 use Rattle.std.proofs.Common.{◌≡◌, List, [], ◌∷◌, ◌++◌, refl, sym, subst}
 use mir.Syntax.{a_type}
 use mir.Val.{Val}
@@ -27,7 +26,7 @@ use Rattle.std.proofs.raw_atomic.Walks.{proved_at, leaves}
 use Rattle.sgb_loans.proofs.Tokens.{token, EndedData, ended_made, closes}
 use Rattle.sgb_loans.proofs.loans.Ended.TheLaws as ended_laws
 use Rattle.sgb_loans.proofs.loans.Loans.TheLaws as loans_laws
-use Rattle.sgb_loans.specs.Links.{ended_as, loan_owns}
+use Rattle.sgb_loans.specs.Loans.{ended_as, loan_owns}
 use Rattle.sgb_loans.specs.contracts.loans.Ended as end
 use Rattle.sgb_loans.specs.contracts.loans.Loans as loans
 use Rattle.sgb_loans.specs.contracts.loans.Loans.close.{ended, clauses}

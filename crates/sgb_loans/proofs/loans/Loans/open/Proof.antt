@@ -24,7 +24,7 @@ use denote.Param.{param, layouts}
 use denote.Triple.Walked.{Stays, walk_of, stay_dropped, Goes-spent_slice}
 use Rattle.std.proofs.raw_atomic.Walks.{proved_at, leaves}
 use Rattle.sgb_loans.proofs.Tokens.{token, LoansData, loans_made, begins}
-use Rattle.sgb_loans.specs.Links.{loan_owns}
+use Rattle.sgb_loans.specs.Loans.{loan_owns}
 use Rattle.sgb_loans.specs.declared.loans.Loans.{Loans}
 use Rattle.sgb_loans.specs.contracts.loans.Loans as loans
 use Rattle.sgb_loans.specs.contracts.loans.Loans.open.{ended, clauses}

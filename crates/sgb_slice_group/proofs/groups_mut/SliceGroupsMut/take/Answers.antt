@@ -9,16 +9,8 @@ group_len-len-requires-clause-callable g c =
     callable_taken g.J.Judge (g.C.GroupEnd.allowed _) _ _ _ (ap (λ (b : MutBor (List g.row.T.Denot)). b.now) c.take-all.ensures.value)
     c.self.view_is c.requires
 
-pub returns-in-Front-clause-gives : goal.returns-in-Front-clause-gives
-returns-in-Front-clause-gives g c = rw c.in-Front.is (grind (arith, common_steps))
+pub returns-clause-gives : goal.returns-clause-gives
+returns-clause-gives g c = grind (arith, common_steps)
 
-pub returns-in-Front-clause-callable : goal.returns-in-Front-clause-callable
-returns-in-Front-clause-callable g c =
-    g.C.GroupEnd.keeps _ _ g.J.Judge _ _ (Some c.cut_front-group.result.0.now) _ (returns-in-Front-clause-gives g c).0 c.requires
-
-pub returns-in-Back-clause-gives : goal.returns-in-Back-clause-gives
-returns-in-Back-clause-gives g c = rw c.in-Back.is (grind (arith, common_steps))
-
-pub returns-in-Back-clause-callable : goal.returns-in-Back-clause-callable
-returns-in-Back-clause-callable g c =
-    g.C.GroupEnd.keeps _ _ g.J.Judge _ _ (Some c.cut_back-rest.result.1.now) _ (returns-in-Back-clause-gives g c).0 c.requires
+pub returns-clause-callable : goal.returns-clause-callable
+returns-clause-callable g c = g.C.GroupEnd.keeps _ _ g.J.Judge _ _ (Some c.cut-group.result.0.now) _ (returns-clause-gives g c).0 c.requires

@@ -39,18 +39,18 @@ use Rattle.std.proofs.cell.Inside.{one}
 use Rattle.std.proofs.option.Made.{none_of}
 use Rattle.std.proofs.raw_atomic.Walks.{proved_at, leaves}
 use Rattle.std.specs.contracts.ops.FnOnce.call_once as call_once
-use Rattle.sgb_loans.specs.Links.{ended_as}
+use Rattle.sgb_loans.specs.Loans.{ended_as}
 use Rattle.sgb_loans.proofs.loans.Ended.TheLaws as ended_laws
 use Rattle.sgb_loans.specs.contracts.loans.Ended as end
-use Rattle.sgb_loans.specs.contracts.settle.settled as f
-use Rattle.sgb_loans.specs.contracts.settle.settled.F-FnOnce as Called
-use Rattle.sgb_loans.specs.contracts.settle.settled.Key.{name as #self}
-use Rattle.sgb_loans.proofs.settle.settled.Statement.{statement}
-use Rattle.sgb_loans.proofs.settle.settled.Code as code
+use Rattle.sgb_loans.specs.contracts.settle.resolved as f
+use Rattle.sgb_loans.specs.contracts.settle.resolved.F-FnOnce as Called
+use Rattle.sgb_loans.specs.contracts.settle.resolved.Key.{name as #self}
+use Rattle.sgb_loans.proofs.settle.resolved.Statement.{statement}
+use Rattle.sgb_loans.proofs.settle.resolved.Code as code
 
-pub settled_spec : {M : Type 1} → statement M
+pub resolved_spec : {M : Type 1} → statement M
 unfolding follows_by such_by
-settled_spec 𝓤 𝓛 𝓜 𝓡 wired T F LT LF g d d' met _ =
+resolved_spec 𝓤 𝓛 𝓜 𝓡 wired T F LT LF g d d' met _ =
     let H = 𝓛.H in let 𝓣 = tables 𝓤 H 𝓜 𝓡 𝓡.env in let R : RattleType = param 0 T in let X : RattleType = param 1 F in let LR = param_laws 0 T LT in
     let En = f.ended T F g d d' in let c = f.clauses T F g d d' 𝓛 𝓜.mem 𝓡.returns in let E = Called.ended T F in
     let inst = bounded (a_type ∷ a_type ∷ []) (T, (F, tt)) (dcons d (dcons d' dnil)) in let fn = inst_fn inst code.function in

@@ -1,0 +1,71 @@
+-- What contracts see of the parts of a slice that are out, and what the slice ends as while they are written.
+use Rattle.std.specs.Prelude.{◌≡◌, List, [], ◌∷◌, ◌++◌, length, drop}
+use Rattle.std.specs.Borrow.{GName, Fml, RattleType, Array, follows_both, fsep}
+use Rattle.std.specs.Iterator.{Count, at_most}
+use Rattle.sgb_search.specs.declared.end.End.{End}
+use Rattle.sgb_search.specs.declared.end.End.TheVariants.{Front, Back}
+use Rattle.sgb_search.specs.Split.{put_at}
+use Rattle.sgb_loans.specs.declared.loans.Loans.{Loans}
+use base.Fml.{fex, feq, fres, fall, fwand}
+
+-- what an iterator over groups for writing shows: the elements that it has not handed out yet, its judge, and the parts of the input
+-- that are out
+pub record GroupsMut (T J : Type 0) : Type 0 where
+  pub remainder : List T
+  pub judge : J
+  pub loans : Loans T
+
+-- no more groups come than elements remain
+abbrev pub groups_mut_to_come : {T J : Type 0} → GroupsMut T J → Count
+groups_mut_to_come s = at_most (length s.remainder)
+
+-- the part named g came off at the end e, and is out with those that were out before; the rest has a new name
+pub record HandsOut {T : Type 0} (e : End) (l : Loans T) (g : GName) (m : Loans T) : Type 0 where
+  pub root : m.root ≡ l.root
+  pub before : m.before ≡ l.before
+  pub after : m.after ≡ l.after
+  pub cuts : m.cuts ≡ l.cuts ++ (e, g) ∷ []
+
+-- of the two parts of a slice, the one at the end, and the other
+abbrev pub part_at : {X : Type 0} → End → X × X → X
+part_at Front parts = parts.0
+part_at Back parts = parts.1
+
+abbrev pub rest_at : {X : Type 0} → End → X × X → X
+rest_at Front parts = parts.1
+rest_at Back parts = parts.0
+
+-- nothing of the slice named n is out
+pub record NothingOut {T : Type 0} (n : GName) (l : Loans T) : Type 0 where
+  pub root : l.root ≡ n
+  pub rest : l.rest ≡ n
+  pub before : l.before ≡ []
+  pub after : l.after ≡ []
+  pub cuts : l.cuts ≡ []
+
+-- the oldest part, which came off at the end, ended as xs, and is out no more
+abbrev pub noted : {T : Type 0} → End → List T → Loans T → Loans T
+noted Front xs l = record l { before = l.before ++ xs; cuts = drop 1 l.cuts }
+noted Back xs l = record l { after = xs ++ l.after; cuts = drop 1 l.cuts }
+
+module _ (T : RattleType) where
+  -- the slice named γ is given up for good, and ended as xs
+  abbrev pub ended_as : GName → List T.Denot → Fml
+  ended_as γ xs = fres γ ((Array T 0).coded.code xs)
+
+  -- whoever learns that the slice named m ended as w learns that the one named γ ended as before ++ w ++ after
+  abbrev pub within : GName → List T.Denot → List T.Denot → GName → Fml
+  within γ before after m = fall (List T.Denot) (λ w. fwand (ended_as m w) (ended_as γ (before ++ (w ++ after))))
+
+  -- a cut at the end of the remainder: the part g came off γ, and δ remained
+  abbrev pub cut_link : GName → End → GName → GName → Fml
+  cut_link γ e g δ = follows_both (Array T 0) (Array T 0) (Array T 0) γ g δ (put_at e)
+
+  -- the cuts that lead from γ to δ, the oldest first
+  abbrev pub links : GName → List (End × GName) → GName → Fml
+  links γ [] δ = feq GName γ δ
+  links γ (c ∷ cs) δ = fex GName (λ m. fsep (cut_link γ c.0 c.1 m) (links m cs δ))
+
+  -- the slice named γ ends as before, what the parts of cs and δ end as in their places, and after
+  abbrev pub loan_owns : GName → List T.Denot → List T.Denot → List (End × GName) → GName → Fml
+  loan_owns γ before after cs δ = fex GName (λ m. fsep (within γ before after m) (links m cs δ))
