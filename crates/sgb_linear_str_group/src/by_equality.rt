@@ -63,6 +63,3 @@ impl<'a> LinearStrGroupsMut<'a, EqualityJudge> {
         LinearStrGroupsMut::with_judge(bytes, EqualityJudge::new())
     }
 }
-
-// The loans take no bytes, and neither does the judge.
-const _: () = prove!(size_of::<LinearStrGroupMut<'static>>() == size_of::<&mut [u8]>());

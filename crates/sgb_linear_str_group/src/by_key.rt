@@ -91,9 +91,3 @@ impl<'a, K: PartialEq + Drop, F: FnMut(char) -> K> LinearStrGroupsMut<'a, CharKe
         )
     }
 }
-
-// The loans and the key's type take no bytes.
-const _: () = prove!(
-    size_of::<LinearStrGroupByKeyMut<'static, (u64, u8), [u8; 9]>>()
-        == size_of::<(&mut [u8], (u64, u8))>()
-);

@@ -79,8 +79,3 @@ impl<'a, P: FnMut(char, char) -> bool> LinearStrGroupsMut<'a, CharPredicateJudge
         LinearStrGroupsMut::with_judge(bytes, CharPredicateJudge { predicate })
     }
 }
-
-// The loans take no bytes.
-const _: () = prove!(
-    size_of::<LinearStrGroupByMut<'static, (u64, u8)>>() == size_of::<(&mut [u8], (u64, u8))>()
-);

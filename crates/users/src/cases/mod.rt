@@ -16,6 +16,7 @@ mod linear_mut;
 mod loops;
 mod methods;
 mod searches;
+mod sizes;
 mod strs_mut;
 mod texts;
 mod tokens;
