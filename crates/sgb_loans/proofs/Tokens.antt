@@ -43,7 +43,8 @@ module _ {M : Type 1} {𝓤 : Ura M} (𝓛 : Logic 𝓤) (R : RattleType) where
   EndedData a = (Struct (shape (end.the_type a R))).own_val (tt, tt) (token ∷ [])
 
   pub ended_made : (a : NamedLft) → ent 𝓤 (emp 𝓤) (sem 𝓛 (EndedData a))
-  ended_made a = makes_shadow 𝓛 (EndedData a) (λ vss. (tt, ((λ uss. (tt, tt)), tt))) ((vstruct vnil ∷ [], tt), (refl, ((tt, (refl, tt)), tt)))
+  ended_made a = makes_shadow 𝓛 (EndedData a) (λ vss. (tt, ((λ uss. (tt, tt)), tt)))
+      ((vstruct vnil ∷ [], tt), (refl, ((tt, (refl, tt)), tt)))
 
   abbrev pub LoansData : Fml
   LoansData = (Struct (shape (loans.the_type R))).own_val (tt, tt) (token ∷ [])
@@ -54,22 +55,26 @@ module _ {M : Type 1} {𝓤 : Ura M} (𝓛 : Logic 𝓤) (R : RattleType) where
   pub gives_up : (ℓ : Lifetime) (κ : Lft) (r : MutBor (List R.Denot)) (vs : List Val)
       → ent 𝓤 (sem 𝓛 ((MutSlice ℓ κ R).own_val r vs)) (H.⇛ (sem 𝓛 (ended_as R r.ghost_name r.now)))
   gives_up ℓ κ r vs = qed 𝓛 (‵ ((MutSlice ℓ κ R).own_val r vs) ∷ []) ∵ updating ! $ fsplit3 ! $ fsplit ! $ feq_l ! (λ e. drop ! $
-      rewrite ! 0 (λ (l : List R.Denot). ‵ (fobs r.ghost_name ((coded_list R.coded).code l))) (heres_id R r.now) refl $ name_done ! tt $ now ! $ keep ! (0 ∷ []) $ done !)
+      rewrite ! 0 (λ (l : List R.Denot). ‵ (fobs r.ghost_name ((coded_list R.coded).code l))) (heres_id R r.now) refl $ name_done ! tt $
+      now ! $ keep ! (0 ∷ []) $ done !)
 
   abbrev Ends : GName → List R.Denot → List R.Denot → GName → List R.Denot → SProp 𝓤
   Ends γ before after m w = wand 𝓤 (sem 𝓛 (ended_as R m w)) (sem 𝓛 (ended_as R γ (before ++ (w ++ after))))
 
   pub closes : (γ δ : GName) (before after xs : List R.Denot)
       → ent 𝓤 (sep 𝓤 (sem 𝓛 (loan_owns R γ before after [] δ)) (sem 𝓛 (ended_as R δ xs))) (sem 𝓛 (ended_as R γ (before ++ (xs ++ after))))
-  closes γ δ before after xs = qed 𝓛 (‵ (loan_owns R γ before after [] δ) ∷ ‵ (ended_as R δ xs) ∷ []) ∵ fpick ! (λ m. fsplit ! $ move ! (1 ∷ []) $ feq_l ! (λ e.
-      use1 𝓛 (raw (Ends γ before after m xs)) (all_e 𝓤 (Ends γ before after m) xs) $ move ! (1 ∷ []) $ rewrite ! 0 (λ (k : GName). ‵ (ended_as R k xs)) (sym e) refl $
+  closes γ δ before after xs = qed 𝓛 (‵ (loan_owns R γ before after [] δ) ∷ ‵ (ended_as R δ xs) ∷ []) ∵
+      fpick ! (λ m. fsplit ! $ move ! (1 ∷ []) $ feq_l ! (λ e.
+      use1 𝓛 (raw (Ends γ before after m xs)) (all_e 𝓤 (Ends γ before after m) xs) $ move ! (1 ∷ []) $
+      rewrite ! 0 (λ (k : GName). ‵ (ended_as R k xs)) (sym e) refl $
       by ! (apply∗ 𝓤 (sem 𝓛 (ended_as R m xs)) (sem 𝓛 (ended_as R γ (before ++ (xs ++ after)))))))
 
   abbrev Both : GName → GName → GName → (List R.Denot → List R.Denot → List R.Denot) → Fml
   Both = follows_both (Array R 0) (Array R 0) (Array R 0)
 
   both : (γ γ₁ γ₂ : GName) (F : List R.Denot → List R.Denot → List R.Denot) (ys zs : List R.Denot)
-      → ent 𝓤 (sep 𝓤 (sep 𝓤 (sem 𝓛 (ended_as R γ₁ ys)) (sem 𝓛 (ended_as R γ₂ zs))) (sem 𝓛 (Both γ γ₁ γ₂ F))) (sem 𝓛 (ended_as R γ (F ys zs)))
+      → ent 𝓤 (sep 𝓤 (sep 𝓤 (sem 𝓛 (ended_as R γ₁ ys)) (sem 𝓛 (ended_as R γ₂ zs))) (sem 𝓛 (Both γ γ₁ γ₂ F)))
+      (sem 𝓛 (ended_as R γ (F ys zs)))
   unfolding both_by
   both γ γ₁ γ₂ F ys zs =
       let P : List R.Denot × List R.Denot → SProp 𝓤 = λ w.
@@ -94,19 +99,22 @@ module _ {M : Type 1} {𝓤 : Ura M} (𝓛 : Logic 𝓤) (R : RattleType) where
   -- the part g, which was cut off at the end e, ended as xs, and what stands before and after what is out takes it in
   module _ (γ g : GName) (e : End) (before after xs before' after' : List R.Denot)
       (same : (w : List R.Denot) → before ++ (put_at e xs w ++ after) ≡ before' ++ (w ++ after')) where
-    within_noted : (m δ : GName) → ent 𝓤 (sep 𝓤 (sem 𝓛 (within R γ before after m)) (sep 𝓤 (sem 𝓛 (ended_as R g xs)) (sem 𝓛 (cut_link R m e g δ))))
+    within_noted : (m δ : GName)
+        → ent 𝓤 (sep 𝓤 (sem 𝓛 (within R γ before after m)) (sep 𝓤 (sem 𝓛 (ended_as R g xs)) (sem 𝓛 (cut_link R m e g δ))))
         (sem 𝓛 (within R γ before' after' δ))
     within_noted m δ = qed 𝓛 (‵ (within R γ before after m) ∷ ‵ (ended_as R g xs) ∷ ‵ (cut_link R m e g δ) ∷ []) ∵
         each ! (Ends γ before' after' δ) (λ w. assume ! (‵ (ended_as R δ w)) $
         -- [δ ended; within; g ended; the cut]
-        move ! (2 ∷ 0 ∷ []) $ join ! $ move ! (0 ∷ 2 ∷ []) $ use2 𝓛 (‵ (ended_as R m (put_at e xs w))) (both m g δ (put_at e) xs w) $ move ! (1 ∷ []) $
+        move ! (2 ∷ 0 ∷ []) $ join ! $ move ! (0 ∷ 2 ∷ []) $ use2 𝓛 (‵ (ended_as R m (put_at e xs w))) (both m g δ (put_at e) xs w) $
+        move ! (1 ∷ []) $
         use1 𝓛 (raw (Ends γ before after m (put_at e xs w))) (all_e 𝓤 (Ends γ before after m) (put_at e xs w)) $ move ! (1 ∷ []) $
         use2 𝓛 (‵ (ended_as R γ (before ++ (put_at e xs w ++ after))))
         (apply∗ 𝓤 (sem 𝓛 (ended_as R m (put_at e xs w))) (sem 𝓛 (ended_as R γ (before ++ (put_at e xs w ++ after))))) $
         rewrite ! 0 (λ (l : List R.Denot). ‵ (ended_as R γ l)) (same w) refl $ done !)
 
     loans_noted : (cs : List (End × GName)) (δ : GName)
-        → ent 𝓤 (sep 𝓤 (sem 𝓛 (loan_owns R γ before after ((e, g) ∷ cs) δ)) (sem 𝓛 (ended_as R g xs))) (sem 𝓛 (loan_owns R γ before' after' cs δ))
+        → ent 𝓤 (sep 𝓤 (sem 𝓛 (loan_owns R γ before after ((e, g) ∷ cs) δ)) (sem 𝓛 (ended_as R g xs)))
+        (sem 𝓛 (loan_owns R γ before' after' cs δ))
     loans_noted cs δ = qed 𝓛 (‵ (loan_owns R γ before after ((e, g) ∷ cs) δ) ∷ ‵ (ended_as R g xs) ∷ []) ∵
         fpick ! (λ m. fsplit ! $ move ! (1 ∷ []) $ fpick ! (λ k. fsplit ! $
         move ! (2 ∷ 3 ∷ 0 ∷ []) $ use3 𝓛 (‵ (within R γ before' after' k)) (within_noted m k) $ fjoin ! $
@@ -116,27 +124,35 @@ module _ {M : Type 1} {𝓤 : Ura M} (𝓛 : Logic 𝓤) (R : RattleType) where
   owns_loans l = loan_owns R l.root l.before l.after l.cuts l.rest
 
   pub notes : (e : End) (g : GName) (xs : List R.Denot) (l : Loans R.Denot)
-      → ent 𝓤 (sep 𝓤 (sem 𝓛 (loan_owns R l.root l.before l.after ((e, g) ∷ drop_list 1 l.cuts) l.rest)) (sem 𝓛 (ended_as R g xs))) (sem 𝓛 (owns_loans (noted e xs l)))
-  notes Front g xs l = loans_noted l.root g Front l.before l.after xs (l.before ++ xs) l.after (λ w. regroup l.before xs w l.after) (drop_list 1 l.cuts) l.rest
+      → ent 𝓤 (sep 𝓤 (sem 𝓛 (loan_owns R l.root l.before l.after ((e, g) ∷ drop_list 1 l.cuts) l.rest)) (sem 𝓛 (ended_as R g xs)))
+      (sem 𝓛 (owns_loans (noted e xs l)))
+  notes Front g xs l = loans_noted l.root g Front l.before l.after xs (l.before ++ xs) l.after (λ w. regroup l.before xs w l.after)
+      (drop_list 1 l.cuts) l.rest
   notes Back g xs l = loans_noted l.root g Back l.before l.after xs l.before (xs ++ l.after)
       (λ w. ap (λ (ys : List R.Denot). l.before ++ ys) (append_assoc w xs l.after)) (drop_list 1 l.cuts) l.rest
 
   more_links : (m g δ ε : GName) (end : End) (cs : List (End × GName))
       → ent 𝓤 (sep 𝓤 (sem 𝓛 (links R m cs δ)) (sem 𝓛 (cut_link R δ end g ε))) (sem 𝓛 (links R m (cs ++ (end, g) ∷ []) ε))
-  more_links m g δ ε end [] = qed 𝓛 (‵ (links R m [] δ) ∷ ‵ (cut_link R δ end g ε) ∷ []) ∵ feq_l ! (λ e. rewrite ! 0 (λ (j : GName). ‵ (cut_link R j end g ε)) (sym e) refl $
+  more_links m g δ ε end [] = qed 𝓛 (‵ (links R m [] δ) ∷ ‵ (cut_link R δ end g ε) ∷ []) ∵
+      feq_l ! (λ e. rewrite ! 0 (λ (j : GName). ‵ (cut_link R j end g ε)) (sym e) refl $
       feq_i ! GName ε ε refl $ move ! (1 ∷ 0 ∷ []) $ fjoin ! $ fpack ! GName (λ n. fsep (cut_link R m end g n) (links R n [] ε)) ε $ done !)
-  more_links m g δ ε end (c ∷ cs) = qed 𝓛 (‵ (links R m (c ∷ cs) δ) ∷ ‵ (cut_link R δ end g ε) ∷ []) ∵ fpick ! (λ n. fsplit ! $ move ! (1 ∷ 2 ∷ []) $
+  more_links m g δ ε end (c ∷ cs) = qed 𝓛 (‵ (links R m (c ∷ cs) δ) ∷ ‵ (cut_link R δ end g ε) ∷ []) ∵
+      fpick ! (λ n. fsplit ! $ move ! (1 ∷ 2 ∷ []) $
       use2 𝓛 (‵ (links R n (cs ++ (end, g) ∷ []) ε)) (more_links n g δ ε end cs) $ move ! (1 ∷ 0 ∷ []) $ fjoin ! $
       fpack ! GName (λ k. fsep (cut_link R m c.0 c.1 k) (links R k (cs ++ (end, g) ∷ []) ε)) n $ done !)
 
   pub cuts : (γ g δ ε : GName) (before after : List R.Denot) (end : End) (cs : List (End × GName))
-      → ent 𝓤 (sep 𝓤 (sem 𝓛 (loan_owns R γ before after cs δ)) (sem 𝓛 (cut_link R δ end g ε))) (sem 𝓛 (loan_owns R γ before after (cs ++ (end, g) ∷ []) ε))
-  cuts γ g δ ε before after end cs = qed 𝓛 (‵ (loan_owns R γ before after cs δ) ∷ ‵ (cut_link R δ end g ε) ∷ []) ∵ fpick ! (λ m. fsplit ! $ move ! (1 ∷ 2 ∷ []) $
+      → ent 𝓤 (sep 𝓤 (sem 𝓛 (loan_owns R γ before after cs δ)) (sem 𝓛 (cut_link R δ end g ε)))
+      (sem 𝓛 (loan_owns R γ before after (cs ++ (end, g) ∷ []) ε))
+  cuts γ g δ ε before after end cs = qed 𝓛 (‵ (loan_owns R γ before after cs δ) ∷ ‵ (cut_link R δ end g ε) ∷ []) ∵
+      fpick ! (λ m. fsplit ! $ move ! (1 ∷ 2 ∷ []) $
       use2 𝓛 (‵ (links R m (cs ++ (end, g) ∷ []) ε)) (more_links m g δ ε end cs) $ move ! (1 ∷ 0 ∷ []) $ fjoin ! $
       fpack ! GName (λ n. fsep (within R γ before after n) (links R n (cs ++ (end, g) ∷ []) ε)) m $ done !)
 
   begin : (γ : GName) → ent 𝓤 (emp 𝓤) (sem 𝓛 (within R γ [] [] γ))
-  begin γ = qed 𝓛 [] ∵ each ! (Ends γ [] [] γ) (λ w. assume ! (‵ (ended_as R γ w)) $ rewrite ! 0 (λ (l : List R.Denot). ‵ (ended_as R γ l)) (sym (append-nil w)) refl $ done !)
+  begin γ = qed 𝓛 [] ∵
+      each ! (Ends γ [] [] γ)
+      (λ w. assume ! (‵ (ended_as R γ w)) $ rewrite ! 0 (λ (l : List R.Denot). ‵ (ended_as R γ l)) (sym (append-nil w)) refl $ done !)
 
   pub begins : (γ : GName) → ent 𝓤 (emp 𝓤) (sem 𝓛 (loan_owns R γ [] [] [] γ))
   begins γ = qed 𝓛 [] ∵ use0 𝓛 (‵ (within R γ [] [] γ)) (begin γ) $ feq_i ! GName γ γ refl $ move ! (1 ∷ 0 ∷ []) $ fjoin ! $
