@@ -116,7 +116,7 @@ cut_in_two_spec 𝓤 𝓛 𝓜 𝓡 wired T L =
     move ! (8 ∷ []) $ use1 𝓛 (‵ (cut_link R all.ghost_name e part rest)) (cut_at 𝓛 R all.ghost_name e y) $
     move ! (2 ∷ 0 ∷ []) $ rewrite ! 1 (λ (j : GName). ‵ (cut_link R j e part rest)) same refl $
     use2 𝓛 (‵ (loan_owns R l.root l.before l.after (l.cuts ++ (e, part) ∷ []) rest))
-    (cuts 𝓛 R l.root part l.rest rest l.before l.after e l.cuts) $
+    (cuts 𝓛 R l.root part l.rest rest e l.before l.after l.cuts) $
     let l' = record l { cuts = l.cuts ++ (e, part) ∷ []; rest = rest } in
     move ! (1 ∷ 0 ∷ []) $ fjoin ! $ move ! (1 ∷ 0 ∷ []) $ closes ! tt S l' us b o $ fjoin ! $
     feq_i ! (List Val) z.0.4.0 (vptr b o ∷ []) are.0.0 $ fjoin ! $ nothing ! $ nothing ! $ fjoin ! $ nothing ! $ fjoin ! $ nothing ! $

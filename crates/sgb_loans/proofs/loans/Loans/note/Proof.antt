@@ -23,7 +23,7 @@ use denote.Param.Laws.{param_laws}
 use denote.Triple.Walked.{Stays, walk_of, stay_dropped, Goes-dropped, stay_ref, Goes-ref}
 use Rattle.std.proofs.cell.Inside.{one}
 use Rattle.std.proofs.raw_atomic.Walks.{proved_at, leaves}
-use Rattle.sgb_loans.proofs.Tokens.{owns_loans, notes}
+use Rattle.sgb_loans.proofs.Tokens.{notes}
 use Rattle.sgb_loans.proofs.loans.Ended.TheLaws as ended_laws
 use Rattle.sgb_loans.specs.Loans.{loan_owns, noted}
 use Rattle.sgb_loans.specs.contracts.loans.Ended as end
@@ -62,7 +62,8 @@ note_spec 𝓤 𝓛 𝓜 𝓡 wired T L =
     enter ! 𝓣.C 𝓣.Λ fn Vs Post $ alloc_all ! (λ k. pass_all ! refl ((tt, tt), ((tt, tt), (v.2, tt))) $
     fsplit ! $ opens ! tt S b o (λ us. move ! (1 ∷ []) $ fsplit ! $
     move ! (1 ∷ 6 ∷ []) $ rewrite ! 0 (λ (cs : List (End × GName)). ‵ (loan_owns R l.root l.before l.after cs l.rest)) oldest refl $
-    use2 𝓛 (‵ (owns_loans 𝓛 R l')) (notes 𝓛 R e p.name p.value l) $
+    use2 𝓛 (‵ (loan_owns R l'.root l'.before l'.after l'.cuts l'.rest))
+    (notes 𝓛 R e p.name p.value l.root l.before l.after (drop 1 l.cuts) l.rest) $
     move ! (1 ∷ 0 ∷ []) $ fjoin ! $ move ! (1 ∷ 0 ∷ []) $ closes ! tt S l' us b o $ fjoin ! $
     feq_i ! (List Val) z.0.4.0 (vptr b o ∷ []) are.0.0 $ fjoin ! $ nothing ! $ nothing ! $ fjoin ! $ nothing ! $ fjoin ! $
     move ! (1 ∷ 0 ∷ []) $ fjoin ! $ move ! (1 ∷ 2 ∷ []) $ join ! $
