@@ -1,12 +1,12 @@
 -- What contracts see of the parts of a slice that are out, and what the slice ends as while they are written.
 use Rattle.std.specs.Prelude.{◌≡◌, List, [], ◌∷◌, ◌++◌, length, drop}
-use Rattle.std.specs.Borrow.{GName, Fml, RattleType, Array, follows_both, fsep}
+use Rattle.std.specs.Borrow.{GName, Fml, RattleType, Array, follows_both}
 use Rattle.std.specs.Iterator.{Count, at_most}
 use Rattle.sgb_search.specs.declared.end.End.{End}
 use Rattle.sgb_search.specs.declared.end.End.TheVariants.{Front, Back}
 use Rattle.sgb_search.specs.Split.{put_at}
 use Rattle.sgb_loans.specs.declared.loans.Loans.{Loans}
-use base.Fml.{fex, feq, fres, fall, fwand}
+use base.Fml.{fres, fall, fwand}
 
 -- what an iterator over groups for writing shows: the elements that it has not handed out yet, its judge, and the parts of the input
 -- that are out
@@ -43,29 +43,31 @@ pub record NothingOut {T : Type 0} (n : GName) (l : Loans T) : Type 0 where
   pub after : l.after ≡ []
   pub cuts : l.cuts ≡ []
 
+-- what stands before and after what is out, once the oldest part, which came off at the end, ended as xs
+abbrev pub before_with : {X : Type 0} → End → List X → List X → List X
+before_with Front before xs = before ++ xs
+before_with Back before xs = before
+
+abbrev pub after_with : {X : Type 0} → End → List X → List X → List X
+after_with Front xs after = after
+after_with Back xs after = xs ++ after
+
 -- the oldest part, which came off at the end, ended as xs, and is out no more
 abbrev pub noted : {T : Type 0} → End → List T → Loans T → Loans T
-noted Front xs l = record l { before = l.before ++ xs; cuts = drop 1 l.cuts }
-noted Back xs l = record l { after = xs ++ l.after; cuts = drop 1 l.cuts }
+noted e xs l = record l { before = before_with e l.before xs; after = after_with e xs l.after; cuts = drop 1 l.cuts }
 
 module _ (T : RattleType) where
   -- the slice named γ is given up for good, and ended as xs
   abbrev pub ended_as : GName → List T.Denot → Fml
   ended_as γ xs = fres γ ((Array T 0).coded.code xs)
 
-  -- whoever learns that the slice named m ended as w learns that the one named γ ended as before ++ w ++ after
-  abbrev pub within : GName → List T.Denot → List T.Denot → GName → Fml
-  within γ before after m = fall (List T.Denot) (λ w. fwand (ended_as m w) (ended_as γ (before ++ (w ++ after))))
+  -- the slice named γ ends as before, what the parts of cs and the slice named δ end as in their places, and after: whoever
+  -- learns what each of them ended as, the oldest part first, learns that
+  abbrev pub loan_owns : GName → List T.Denot → List T.Denot → List (End × GName) → GName → Fml
+  loan_owns γ before after [] δ = fall (List T.Denot) (λ w. fwand (ended_as δ w) (ended_as γ (before ++ (w ++ after))))
+  loan_owns γ before after (c ∷ cs) δ =
+      fall (List T.Denot) (λ xs. fwand (ended_as c.1 xs) (loan_owns γ (before_with c.0 before xs) (after_with c.0 xs after) cs δ))
 
-  -- a cut at the end of the remainder: the part g came off γ, and δ remained
+  -- a cut at the end of the slice named γ: the part g came off it, and δ remained
   abbrev pub cut_link : GName → End → GName → GName → Fml
   cut_link γ e g δ = follows_both (Array T 0) (Array T 0) (Array T 0) γ g δ (put_at e)
-
-  -- the cuts that lead from γ to δ, the oldest first
-  abbrev pub links : GName → List (End × GName) → GName → Fml
-  links γ [] δ = feq GName γ δ
-  links γ (c ∷ cs) δ = fex GName (λ m. fsep (cut_link γ c.0 c.1 m) (links m cs δ))
-
-  -- the slice named γ ends as before, what the parts of cs and δ end as in their places, and after
-  abbrev pub loan_owns : GName → List T.Denot → List T.Denot → List (End × GName) → GName → Fml
-  loan_owns γ before after cs δ = fex GName (λ m. fsep (within γ before after m) (links m cs δ))

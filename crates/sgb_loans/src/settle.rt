@@ -9,7 +9,8 @@ use crate::loans::Ended;
 fn resolved<T, F: FnOnce(&mut [T]) -> Ended<'_, T>>(slice: &mut [T], f: F) -> Option<&mut T>
     requires callable { F.pre f slice }
     requires names { (l : Token T) → F.post f slice l → l.name ≡ slice.ghost_name }
-    ensures* ends { sem 𝓛 (LendsSo (Array T.row 0) T.row slice.entry result (λ _ _. ⊤) (λ n. (l : Token T) × F.post f slice.entry l × (n ≡ l.value))) }
+    ensures* ends { sem 𝓛 (LendsSo (Array T.row 0) T.row slice.entry result (λ _ _. ⊤)
+        (λ n. (l : Token T) × F.post f slice.entry l × (n ≡ l.value))) }
     ensures none { result ≡ None }
 {
     let _left = f(slice);

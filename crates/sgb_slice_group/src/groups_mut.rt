@@ -197,7 +197,8 @@ impl<'a, T, J: Judge<T> + Drop, C: GroupEnd> Iterator for SliceGroupsMut<'a, T, 
     /// No groups where nothing remains, and else at least one and at most as many as elements remain.
     #[inline]
     fn size_hint(&self) -> (usize, Option<usize>)
-        ensures value { result ≡ (if nat_eq (length self.now.remainder) 0 then (0, Some 0) else (1, Some (length self.now.remainder))) }
+        ensures value { result ≡ (if nat_eq (length self.now.remainder) 0 then (0, Some 0)
+            else (1, Some (length self.now.remainder))) }
         ensures lower { IsWithinCount result.0 (groups_mut_to_come self.now) }
         ensures upper { IfSome result.1 (UpTo (groups_mut_to_come self.now)) }
     {

@@ -51,10 +51,13 @@ cut_in_two_spec 𝓤 𝓛 𝓜 𝓡 wired T L =
     let H = 𝓛.H in let 𝓣 = tables 𝓤 H 𝓜 𝓡 𝓡.env in let R : RattleType = param 0 T in let LR = param_laws 0 T L in
     let En = ended T in let c = clauses T 𝓛 𝓜.mem 𝓡.returns in let S : RattleType = loans.the_row R in
     let inst = layouts (a_type ∷ []) (T, tt) in let fn = inst_fn inst code.function in
-    let met = callee.met 𝓤 𝓛 𝓜 𝓡 (code.calls-sgb_loans::loans::split 𝓡.env wired) T L in let G = triple_of 𝓛 (g.signature T) (g.spec T 𝓛 𝓜.mem 𝓡.returns) in
+    let met = callee.met 𝓤 𝓛 𝓜 𝓡 (code.calls-sgb_loans::loans::split 𝓡.env wired) T L in
+    let G = triple_of 𝓛 (g.signature T) (g.spec T 𝓛 𝓜.mem 𝓡.returns) in
     let at_end = shr_ref_to (1 ∷ []) tt (plain (λ _. ends.the_row)) in let slice = mut_slice_of (2 ∷ []) tt (plain (λ _. R)) in
-    let hs : Stays En.signature.params En.kept =
-    (stay_ref (0 ∷ []) tt (plain (λ _. S)), (stay_dropped at_end yes, (stay_dropped slice no, (stay_dropped (plain (λ _. usize)) yes, tt)))) in
+    let hs : Stays En.signature.params En.kept = (
+      stay_ref (0 ∷ []) tt (plain (λ _. S)),
+      (stay_dropped at_end yes, (stay_dropped slice no, (stay_dropped (plain (λ _. usize)) yes, tt))),
+    ) in
     proved_at 𝓛 En hs c 𝓜 𝓡 (
       Goes-ref 𝓛 4 0 tt (plain (λ _. S)),
       (
@@ -69,13 +72,17 @@ cut_in_two_spec 𝓤 𝓛 𝓜 𝓡 wired T L =
     let all = z.0.3.1.1.0 in let mid : ℕ = z.0.3.1.1.1.0 in let are' = are.1.1 in let fm = are'.1.0.1 in let fn' = are'.0.0.1.0 in
     let Vs : List Val = vptr b o ∷ vptr p.ref_ptr.0 p.ref_ptr.1 ∷ slice_val all.ref_ptr (length all.now) ∷ vint w64 mid ∷ [] in
     let Within : Type 0 = mid ≤ length all.now in let Lives : Type 0 = κT ⊑ T.lives in
-    let ℓ = named_lft 4 2 tt κs in let one_law = of_field (mut_slice_field ℓ R tt) (mut_slice_laws ℓ R tt) refl (mut_slice_shared ℓ R tt (row_shared R LR)) in
+    let ℓ = named_lft 4 2 tt κs in
+    let one_law = of_field (mut_slice_field ℓ R tt) (mut_slice_laws ℓ R tt) refl (mut_slice_shared ℓ R tt (row_shared R LR)) in
     let two_laws = tuple_laws ((mut_slice_field ℓ R tt).row ∷ (mut_slice_field ℓ R tt).row ∷ []) (one_law, (one_law, tt)) in
     let Out : RattleType = type_at (g.signature T).result (κ, (κT, tt)) in
-    let z' : G.Ghost = (((κ, (κT, tt)), (qs.1.1.0, (qs.1.1.1.0, tt)), (z.0.2.1.0, tt), (all, (mid, tt)), (mut_slice_vals all, (vint w64 mid ∷ [], tt))), tt) in
+    let z' : G.Ghost =
+    (((κ, (κT, tt)), (qs.1.1.0, (qs.1.1.1.0, tt)), (z.0.2.1.0, tt), (all, (mid, tt)), (mut_slice_vals all, (vint w64 mid ∷ [], tt))), tt) in
     qed 𝓛 (((‵ (flft κs.0 qs.0) ⊛ ‵ (fsep (flft κs.1.0 qs.1.0) (fsep (flft κ qs.1.1.0) (fsep (flft κT qs.1.1.1.0) ftrue))))
-    ⊛ ‵ (owns (types_at En.signature.params κs) z.0.3 z.0.4)) ∷ raw (fact 𝓤 Lives) ∷ raw (fact 𝓤 Within) ∷ raw (fact 𝓤 (all.ghost_name ≡ l.rest)) ∷ []) ∵
-    move ! (1 ∷ []) $ heard ! Lives (λ lives. move ! (1 ∷ []) $ heard ! Within (λ within. move ! (1 ∷ []) $ heard ! (all.ghost_name ≡ l.rest) (λ same.
+    ⊛ ‵ (owns (types_at En.signature.params κs) z.0.3 z.0.4)) ∷ raw (fact 𝓤 Lives) ∷ raw (fact 𝓤 Within)
+    ∷ raw (fact 𝓤 (all.ghost_name ≡ l.rest)) ∷ []) ∵
+    move ! (1 ∷ []) $
+    heard ! Lives (λ lives. move ! (1 ∷ []) $ heard ! Within (λ within. move ! (1 ∷ []) $ heard ! (all.ghost_name ≡ l.rest) (λ same.
     split ! $ split ! $ move ! (2 ∷ []) $ fsplit3 ! $ fsplit ! $ keep ! (3 ∷ 1 ∷ 4 ∷ 5 ∷ []) $ fsplit ! $ keep ! (4 ∷ 2 ∷ 0 ∷ 3 ∷ []) $
     fsplit3 ! $ keep ! (1 ∷ 2 ∷ 3 ∷ 4 ∷ 5 ∷ 0 ∷ []) $
     -- [the token of all; the other; the loans' borrow; all; the loans' token; the token of the end]
@@ -87,8 +94,10 @@ cut_in_two_spec 𝓤 𝓛 𝓜 𝓡 wired T L =
     sets ! (agg ! (and_then ! (get ! refl) (and_then ! (get_in ! (fld ! refl (stop !)) (sub ! 1 refl (whole !))) (no_more !))))
     refl (tt, (tt, (record { fits = fn' }, tt))) $
     rewrite ! 3 (λ (us : List Val). ‵ ((MutSlice (named 2) κ R).own_val all us)) are'.0.0.0 refl $
-    join ! $ nothing ! $ owned ! usize _ (uint_Makes 𝓛 w64) mid (vint w64 mid ∷ []) (refl, fm) $ fjoin ! $ move ! (3 ∷ 0 ∷ []) $ fjoin ! $ move ! (1 ∷ 0 ∷ []) $ join ! $
-    use0 𝓛 (raw (fact 𝓤 Within)) (fact_i 𝓤 Within (emp 𝓤) within) $ use0 𝓛 (raw (fact 𝓤 Lives)) (fact_i 𝓤 Lives (emp 𝓤) lives) $ join ! $ move ! (1 ∷ 0 ∷ []) $
+    join ! $ nothing ! $ owned ! usize _ (uint_Makes 𝓛 w64) mid (vint w64 mid ∷ []) (refl, fm) $ fjoin ! $ move ! (3 ∷ 0 ∷ []) $ fjoin ! $
+    move ! (1 ∷ 0 ∷ []) $ join ! $
+    use0 𝓛 (raw (fact 𝓤 Within)) (fact_i 𝓤 Within (emp 𝓤) within) $ use0 𝓛 (raw (fact 𝓤 Lives)) (fact_i 𝓤 Lives (emp 𝓤) lives) $ join ! $
+    move ! (1 ∷ 0 ∷ []) $
     use2 𝓛 (raw (G.pre z')) (id⊢ 𝓤 _) $
     calls_at ! (framed 𝓤 H 𝓜 𝓣) G met z' (and_then ! (get ! refl) (and_then ! (get ! refl) (no_more !))) (λ v.
     use1 𝓛 (later (some (λ (y : Out.Denot). ((‵ (flft κ qs.1.1.0) ⊛ ‵ (fsep (flft κT qs.1.1.1.0) ftrue)) ⊛ ‵ (Out.own_val y (v ∷ [])))
@@ -96,18 +105,22 @@ cut_in_two_spec 𝓤 𝓛 𝓜 𝓡 wired T L =
     ⊛ (‵ (follows_both (Array R 0) (Array R 0) (Array R 0) all.ghost_name y.0.ghost_name y.1.ghost_name ◌++◌)
     ⊛ raw (fact 𝓤 ((all.now ≡ y.0.now ++ y.1.now) × (length y.0.now ≡ mid)))))))) (id⊢ 𝓤 _) $
     await ! tt $ pick ! (λ y. split ! $ move ! (1 ∷ []) $ pick ! (λ ws. split ! $ drop ! $ split ! $ move ! (1 ∷ []) $
-    let Parts : Type 0 = (all.now ≡ y.0.now ++ y.1.now) × (length y.0.now ≡ mid) in let part = (part_at e y).ghost_name in let rest = (rest_at e y).ghost_name in
+    let Parts : Type 0 = (all.now ≡ y.0.now ++ y.1.now) × (length y.0.now ≡ mid) in let part = (part_at e y).ghost_name in
+    let rest = (rest_at e y).ghost_name in
     heard ! Parts (λ parts.
-    move ! (1 ∷ []) $ split ! $ move ! (1 ∷ []) $ peeks ! Out (Is Out) (shows 𝓛 Out) y (v ∷ []) (λ told. let good = ((two_laws.lawful 𝓛).typed y (v ∷ []) told).0 in
+    move ! (1 ∷ []) $ split ! $ move ! (1 ∷ []) $
+    peeks ! Out (Is Out) (shows 𝓛 Out) y (v ∷ []) (λ told. let good = ((two_laws.lawful 𝓛).typed y (v ∷ []) told).0 in
     -- [the parts; the tokens of all; the link; the loans' borrow and its token; the token of the end]
     lands_as ! refl refl good $
     move ! (3 ∷ 4 ∷ []) $ fsplit ! $ opens ! tt S b o (λ us. move ! (1 ∷ []) $ fsplit ! $
     move ! (8 ∷ []) $ use1 𝓛 (‵ (cut_link R all.ghost_name e part rest)) (cut_at 𝓛 R all.ghost_name e y) $
     move ! (2 ∷ 0 ∷ []) $ rewrite ! 1 (λ (j : GName). ‵ (cut_link R j e part rest)) same refl $
-    use2 𝓛 (‵ (loan_owns R l.root l.before l.after (l.cuts ++ (e, part) ∷ []) rest)) (cuts 𝓛 R l.root part l.rest rest l.before l.after e l.cuts) $
+    use2 𝓛 (‵ (loan_owns R l.root l.before l.after (l.cuts ++ (e, part) ∷ []) rest))
+    (cuts 𝓛 R l.root part l.rest rest e l.before l.after l.cuts) $
     let l' = record l { cuts = l.cuts ++ (e, part) ∷ []; rest = rest } in
     move ! (1 ∷ 0 ∷ []) $ fjoin ! $ move ! (1 ∷ 0 ∷ []) $ closes ! tt S l' us b o $ fjoin ! $
-    feq_i ! (List Val) z.0.4.0 (vptr b o ∷ []) are.0.0 $ fjoin ! $ nothing ! $ nothing ! $ fjoin ! $ nothing ! $ fjoin ! $ nothing ! $ fjoin ! $ move ! (1 ∷ 0 ∷ []) $ fjoin ! $
+    feq_i ! (List Val) z.0.4.0 (vptr b o ∷ []) are.0.0 $ fjoin ! $ nothing ! $ nothing ! $ fjoin ! $ nothing ! $ fjoin ! $ nothing ! $
+    fjoin ! $ move ! (1 ∷ 0 ∷ []) $ fjoin ! $
     -- [what is left of the parameters; the loans' token; the parts; the tokens of all; the token of the end]
     move ! (3 ∷ []) $ split ! $ fjoin ! $ move ! (4 ∷ 0 ∷ []) $ fjoin ! $ move ! (2 ∷ 0 ∷ []) $ join ! $
     let out : HandsOut e l part l' = record { root = refl; before = refl; after = refl; cuts = refl } in
