@@ -121,7 +121,8 @@ pub yields_rev : {S A : Type 0} (steps : S → Option A → S → Type 0) (s : R
 yields_rev steps s [] t y = ap rev_source y
 yields_rev steps s (x ∷ xs) t y = (rev_source y.0, y.1, yields_rev steps y.0 xs t y.2)
 
-pub yields_map : {S A F R : Type 0} (steps : S → Option A → S → Type 0) (g : Mut F (A × Unit {0}) R) (s : Map S F) (ys : List R) (t : Map S F)
+pub yields_map : {S A F R : Type 0} (steps : S → Option A → S → Type 0) (g : Mut F (A × Unit {0}) R) (s : Map S F) (ys : List R)
+    (t : Map S F)
     → Yields (maps steps g) s ys t → (xs : List A) × Yields steps (map_source s) xs (map_source t)
 yields_map steps g s [] t y = ([], ap map_source y)
 yields_map steps g s (r ∷ rs) t y = let k = yields_map steps g y.0 rs t y.2 in (y.1.0 ∷ k.0, (map_source y.0, y.1.1, k.1))
