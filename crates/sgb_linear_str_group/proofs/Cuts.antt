@@ -68,7 +68,7 @@ module _ {J : Type 0} (g : Ghosts J ℕ) (text front rest : List ℕ) (cut : tex
           rest_utf8 = front_utf8;
         }
 
--- the remainder xs of a writing iterator, read as the text r, and cut in two as zs
+-- the remainder xs of a writing iterator, read as the text r
 module _ {J : Type 0} (g : Ghosts J ℕ) (xs : List ℕ) (j : J) (s : TextGroups J) (view : record { text = xs; judge = j } ≡ s) (r zs : List ℕ)
     (read : r ≡ zs) (same : zs ≡ xs) where
   is_whole : record { text = r; judge = j } ≡ s
@@ -76,22 +76,6 @@ module _ {J : Type 0} (g : Ghosts J ℕ) (xs : List ℕ) (j : J) (s : TextGroups
 
   pub callable_whole : IsCallableText g s → MayAskAlong g (chars r) j
   callable_whole may = subst (λ (v : TextGroups J). IsCallableText g v) (sym is_whole) may
-
-  module _ (u : IsUtf8 r) (n : ℕ) (b : IsCharBoundary r n) (front rest : List ℕ) (cut : zs ≡ front ++ rest) (len : length front ≡ n) where
-    pub utf8_front : IsUtf8 front
-    utf8_front = front_utf8 g r front rest (read ∙ cut) u n len b
-
-    pub utf8_rest : IsUtf8 rest
-    utf8_rest = back_utf8 g r front rest (read ∙ cut) u n len b
-
-    module _ (k : J) where
-      pub front_whole : 0 < n → IsRun g.may_ask g.answers j (questions Front (chars r) (length (chars (take n r)))) k
-          → IsTextAt g Front s front (record { text = rest; judge = k })
-      front_whole l run = rw (← is_whole) (front_text g r front rest (read ∙ cut) u n len b j k l run)
-
-      pub back_whole : n < length r → IsRun g.may_ask g.answers j (questions Back (chars r) (length (chars (drop n r)))) k
-          → IsTextAt g Back s rest (record { text = front; judge = k })
-      back_whole l run = rw (← is_whole) (back_text g r front rest (read ∙ cut) u n len b j k l run)
 
 -- the remainder r is the part of xs between low and high, and is cut at its place n
 module _ {J : Type 0} (g : Ghosts J ℕ) (xs : List ℕ) (low high : ℕ) (r : List ℕ) (same : r ≡ text_between xs low high)

@@ -12,43 +12,57 @@ use std::fmt;
 pub trait DebugNames<J> {
     /// The type for reading; `Mut` is put after it for writing.
     const TYPE: &'static str;
+
     const FIELD: &'static str;
+
     const FIELD_MUT: &'static str;
 }
 
 impl<P> DebugNames<PredicateJudge<P>> for Linear {
     const TYPE: &'static str = "LinearGroupBy";
+
     const FIELD: &'static str = "slice";
+
     const FIELD_MUT: &'static str = "slice";
 }
 
 impl<F, K> DebugNames<KeyJudge<F, K>> for Linear {
     const TYPE: &'static str = "LinearGroupByKey";
+
     const FIELD: &'static str = "remainder";
+
     const FIELD_MUT: &'static str = "remainder";
 }
 
 impl<P> DebugNames<PredicateJudge<P>> for Search<Binary> {
     const TYPE: &'static str = "BinaryGroupBy";
+
     const FIELD: &'static str = "remainder";
+
     const FIELD_MUT: &'static str = "remainder";
 }
 
 impl<F, K> DebugNames<KeyJudge<F, K>> for Search<Binary> {
     const TYPE: &'static str = "BinaryGroupByKey";
+
     const FIELD: &'static str = "remainder";
+
     const FIELD_MUT: &'static str = "remainder";
 }
 
 impl<P> DebugNames<PredicateJudge<P>> for Search<Exponential> {
     const TYPE: &'static str = "ExponentialGroupBy";
+
     const FIELD: &'static str = "remainder";
+
     const FIELD_MUT: &'static str = "remaining";
 }
 
 impl<F, K> DebugNames<KeyJudge<F, K>> for Search<Exponential> {
     const TYPE: &'static str = "ExponentialGroupByKey";
+
     const FIELD: &'static str = "remainder";
+
     const FIELD_MUT: &'static str = "remaining";
 }
 
@@ -60,6 +74,12 @@ impl<'a, T: fmt::Debug, J, C: DebugNames<J>> fmt::Debug for SliceGroups<'a, T, J
 
 impl<'a, T: fmt::Debug, J, C: DebugNames<J>> fmt::Debug for SliceGroupsMut<'a, T, J, C> {
     fn fmt<W: fmt::Write>(&self, f: &mut fmt::Formatter<W>) -> fmt::Result {
-        write!(f, "{}Mut {{ {}: {:?} }}", C::TYPE, C::FIELD_MUT, self.remainder())
+        write!(
+            f,
+            "{}Mut {{ {}: {:?} }}",
+            C::TYPE,
+            C::FIELD_MUT,
+            self.remainder()
+        )
     }
 }

@@ -19,13 +19,17 @@ pub record Narrowed (plan : Plan) (n low high : ℕ) (current : Plan) (k : ℕ) 
 module _ (q : ℕ) (p : _) (more : Plan) (r : _) (less : Plan) (current : Plan) (is : current ≡ Ask' q p more r less) where
   runs_more : (l : ℕ) → q < l → ((run current l).0 ≡ (run more l).0) × ((run current l).1 ≡ (run more l).1 + 1)
   runs_more l h =
-      rw is (ap (λ (b : Bool). cond b (run more l).0 (run less l).0) (lt-ltb q l h),
-      ap (λ (b : Bool). cond b (run more l).1 (run less l).1 + 1) (lt-ltb q l h))
+      rw is (
+        ap (λ (b : Bool). cond b (run more l).0 (run less l).0) (lt-ltb q l h),
+        ap (λ (b : Bool). cond b (run more l).1 (run less l).1 + 1) (lt-ltb q l h),
+      )
 
   runs_less : (l : ℕ) → l ≤ q → ((run current l).0 ≡ (run less l).0) × ((run current l).1 ≡ (run less l).1 + 1)
   runs_less l h =
-      rw is (ap (λ (b : Bool). cond b (run more l).0 (run less l).0) (le-ltb q l h),
-      ap (λ (b : Bool). cond b (run more l).1 (run less l).1 + 1) (le-ltb q l h))
+      rw is (
+        ap (λ (b : Bool). cond b (run more l).0 (run less l).0) (le-ltb q l h),
+        ap (λ (b : Bool). cond b (run more l).1 (run less l).1 + 1) (le-ltb q l h),
+      )
 
   module _ (plan : Plan) (n low high k : ℕ) (w : Narrowed plan n low high current k) (next : Plan) where
     pub to_more : next ≡ more → (low' : ℕ) → low ≤ low' → low' ≤ high → q < low' → high - low ≤ 2 * (high - low') + 1
@@ -146,12 +150,12 @@ pub halving_right : (plan : Plan) (low high : ℕ) → IsHalvingPlan low high pl
 halving_right (Answer a) low high h l x y = (omega (arith, h), omega arith)
 halving_right (Ask' q p more r less) low high h l x y =
     elim (cases_lt q l) as (λ _. ((run (Ask' q p more r less) l).0 ≡ l) × ((run (Ask' q p more r less) l).1 ≤ digits (high - low))) [
-  | inl a ↦
-      let same = runs_more q p more r less (Ask' q p more r less) refl l a in
-      let i = halving_right more (q + 1) high h.2 l (omega arith) y in
-      (same.0 ∙ i.0, omega (arith, same.1, i.1, digits_half (high - low) (high - (q + 1)) (omega (arith, h.0)) (omega (arith, h.0, h.1))))
-  | inr a ↦
-      let same = runs_less q p more r less (Ask' q p more r less) refl l a in
-      let i = halving_right less low q h.3 l x a in
-      (same.0 ∙ i.0, omega (arith, same.1, i.1, digits_half (high - low) (q - low) (omega (arith, h.0)) (omega (arith, h.0, h.1))))
-]
+      | inl a ↦
+          let same = runs_more q p more r less (Ask' q p more r less) refl l a in
+          let i = halving_right more (q + 1) high h.2 l (omega arith) y in
+          (same.0 ∙ i.0, omega (arith, same.1, i.1, digits_half (high - low) (high - (q + 1)) (omega (arith, h.0)) (omega (arith, h.0, h.1))))
+      | inr a ↦
+          let same = runs_less q p more r less (Ask' q p more r less) refl l a in
+          let i = halving_right less low q h.3 l x a in
+          (same.0 ∙ i.0, omega (arith, same.1, i.1, digits_half (high - low) (q - low) (omega (arith, h.0)) (omega (arith, h.0, h.1))))
+    ]

@@ -119,10 +119,18 @@ module _ {Q I : Type 0} (gives : End → Q → Option I → Q → Type 0) where
       pub chain_settled : (q : Q) (es : List End) (os : List (Option I)) (r : Q) → IsChain gives q es os r → settled q p
           → settled r p × ((ps : List (List A)) × AnswersAsQueue p (remainder q) es (map (option_map shows) os) (remainder r) ps)
       chain_settled q es os r c h =
-          let a = chain_answers q es os r c h in
-          (a.stays, (split p (remainder q),
-          record { is_split = split_is p (remainder q); only = split_only p (remainder q); gave = a.answers;
-          rest = subst (IsSplit p (remainder r)) a.rest (split_is p (remainder r)) }))
+          let a = chain_answers q es os r c h in (
+            a.stays,
+            (
+              split p (remainder q),
+              record {
+                is_split = split_is p (remainder q);
+                only = split_only p (remainder q);
+                gave = a.answers;
+                rest = subst (IsSplit p (remainder r)) a.rest (split_is p (remainder r));
+              },
+            ),
+          )
 
   module _ (asked : Q → Q → ℕ → Type 0) (due : Q → ℕ) (exact : Bool) (none : (q : Q) → asked q q 0)
       (more : (q r t : Q) (k m : ℕ) → asked q r k → asked r t m → asked q t (k + m))

@@ -24,7 +24,7 @@ module _ {T : Type 0} where
 
   pub queues_agree : {Q I R K : Type 0} (p : T → T → Bool)
       (gives : End → Q → Option I → Q → Type 0) (remainder : Q → List T) (shows : I → List T) (settled : Q → (T → T → Bool) → Type 0)
-          → TakesPieces gives remainder shows settled
+      → TakesPieces gives remainder shows settled
       → (gives' : End → R → Option K → R → Type 0) (remainder' : R → List T) (shows' : K → List T) (settled' : R → (T → T → Bool) → Type 0)
       → TakesPieces gives' remainder' shows' settled'
       → (q q' : Q) (r r' : R) (ends : List End) (out : List (Option I)) (other : List (Option K)) → settled q p → settled' r p

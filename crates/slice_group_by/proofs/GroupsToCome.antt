@@ -28,8 +28,12 @@ module _ {Q I A : Type 0} (gives : End → Q → Option I → Q → Type 0) (rem
   at_most_length q t (e ∷ es) (None ∷ os) c =
       omega (arith, count-cons None os, ap length (part e q None c.0 c.1).1, at_most_length c.0 t es os c.2)
   at_most_length q t (e ∷ es) (Some x ∷ os) c =
-      omega (arith, count-cons (Some x) os, part_length e (remainder q) (shows x) (remainder c.0) (part e q (Some x) c.0 c.1),
-      at_most_length c.0 t es os c.2)
+      omega (
+        arith,
+        count-cons (Some x) os,
+        part_length e (remainder q) (shows x) (remainder c.0) (part e q (Some x) c.0 c.1),
+        at_most_length c.0 t es os c.2,
+      )
 
   pub at_least_one : (q t : Q) (es : List End) (os : List (Option I)) → IsChain gives q es os t → remainder q ≢ [] → remainder t ≡ []
       → 0 < count_by is_some os

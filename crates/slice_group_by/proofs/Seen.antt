@@ -53,9 +53,10 @@ module _ {Q I A : Type 0} (gives : End → Q → Option I → Q → Type 0) (rem
   yields_pieces e q (y ∷ ps) h s = (
     λ t g. none_some (sym (item_first e y ps) ∙ ap (item_at e) (sym s) ∙ sym (taken e q None t g h).0),
     λ x t g.
-        let k = taken e q (Some x) t g h in
-        (same_some (k.0 ∙ ap (item_at e) s ∙ item_first e y ps),
-        yields_pieces e t ps (piece e q (Some x) t p g h).1 (k.1 ∙ ap (without e) s ∙ without_item e y ps)),
+        let k = taken e q (Some x) t g h in (
+          same_some (k.0 ∙ ap (item_at e) s ∙ item_first e y ps),
+          yields_pieces e t ps (piece e q (Some x) t p g h).1 (k.1 ∙ ap (without e) s ∙ without_item e y ps),
+        ),
   )
 
   -- the groups so far, and what is left

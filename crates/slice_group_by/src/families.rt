@@ -24,7 +24,7 @@ pub fn families_agree<T, I: Judge<T>, B: GroupEnd, J: Judge<T>, C: GroupEnd>(
     ensures { (p : T → T → Bool) (q q' : SliceGroups T I B) (r r' : SliceGroups T J C) (ends : List End)
         (out other : List (Option (Bor (List T))))
         → B.settled T I I.Judge (shown q) p → C.settled T J J.Judge (shown r) p
-            → (shown q).remainder ≡ (shown r).remainder
+        → (shown q).remainder ≡ (shown r).remainder
         → IsChain (Gives (B.asks T I I.Judge)) q ends out q'
         → IsChain (Gives (C.asks T J J.Judge)) r ends other r'
         → map (option_map (λ group. group.now)) out ≡ map (option_map (λ group. group.now)) other }
@@ -63,7 +63,7 @@ pub fn groups_end_locally<T, J: Judge<T>, S: GroupSearch>(_groups: &SearchGroups
     ensures ends { (p : T → T → Bool) (e : End) (s t : SliceGroups T J (Search S)) (group : Bor (List T))
         → ComputesApart J.Judge (shown s) p
         → Gives (SearchQuestions J.Judge S.cost) e s (Some group) t
-            → IsLocalEnd (from e (shown s).remainder) p (length group.now) }
+        → IsLocalEnd (from e (shown s).remainder) p (length group.now) }
     ensures computes { (p : T → T → Bool) (e : End) (s t : SliceGroups T J (Search S)) (group : Bor (List T))
         → ComputesApart J.Judge (shown s) p
         → Gives (SearchQuestions J.Judge S.cost) e s (Some group) t → ComputesApart J.Judge (shown t) p }
@@ -76,7 +76,7 @@ pub fn groups_end_locally_mut<T, J: Judge<T>, S: GroupSearch>(
     ensures ends { (p : T → T → Bool) (e : End) (s t : GroupsMut T J) (group : MutBor (List T))
         → ComputesApart J.Judge (seen s) p
         → GivesMut (SearchQuestions J.Judge S.cost) e s (Some group) t
-            → IsLocalEnd (from e s.remainder) p (length group.now) }
+        → IsLocalEnd (from e s.remainder) p (length group.now) }
     ensures computes { (p : T → T → Bool) (e : End) (s t : GroupsMut T J) (group : MutBor (List T))
         → ComputesApart J.Judge (seen s) p
         → GivesMut (SearchQuestions J.Judge S.cost) e s (Some group) t → ComputesApart J.Judge (seen t) p }

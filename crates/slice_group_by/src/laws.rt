@@ -86,15 +86,15 @@ pub fn chains_answer<Q: GroupQueue>(_queue: &Q)
     ensures none { (q : Q) → IsChain Q.gives q [] [] q }
     ensures more { (q r t : Q) (ends : List End) (out : List (Option Q.Item)) (e : End) (group : Option Q.Item)
         → IsChain Q.gives q ends out r → Q.gives e r group t
-            → IsChain Q.gives q (ends ++ e ∷ []) (out ++ group ∷ []) t }
+        → IsChain Q.gives q (ends ++ e ∷ []) (out ++ group ∷ []) t }
     ensures partition { (q t : Q) (ends : List End) (out : List (Option Q.Item))
         → IsChain Q.gives q ends out t → Partition ends (map (option_map Q.shows) out) (Q.remainder t) (Q.remainder q) }
     ensures pieces { (p : Q.Element → Q.Element → Bool) (q t : Q) (ends : List End) (out : List (Option Q.Item))
         → IsChain Q.gives q ends out t → Q.is_settled q p
-            → map (option_map Q.shows) out ≡ pops (split p (Q.remainder q)) ends }
+        → map (option_map Q.shows) out ≡ pops (split p (Q.remainder q)) ends }
     ensures left { (p : Q.Element → Q.Element → Bool) (q t : Q) (ends : List End) (out : List (Option Q.Item))
         → IsChain Q.gives q ends out t → Q.is_settled q p
-            → split p (Q.remainder t) ≡ after_pops (split p (Q.remainder q)) ends }
+        → split p (Q.remainder t) ≡ after_pops (split p (Q.remainder q)) ends }
     ensures settled { (p : Q.Element → Q.Element → Bool) (q t : Q) (ends : List End) (out : List (Option Q.Item))
         → IsChain Q.gives q ends out t → Q.is_settled q p → Q.is_settled t p }
     ensures questions { (q t : Q) (ends : List End) (out : List (Option Q.Item))
@@ -163,7 +163,7 @@ pub fn each_pair_asked_once_mut<T, J: Judge<T>>(_groups: &LinearGroupsMut<'_, T,
 pub fn texts_join<J: Judge<char>>(_groups: &LinearStrGroups<'_, J>)
     ensures calls { (s t : LinearStrGroups J) (ends : List End) (out : List (Option (Bor (List ℕ))))
         → IsChain (GivesText J.Judge) s ends out t
-            → Partition ends (map (option_map (λ group. group.now)) out) (shown_text t).text (shown_text s).text }
+        → Partition ends (map (option_map (λ group. group.now)) out) (shown_text t).text (shown_text s).text }
     ensures part { (e : End) (s t : LinearStrGroups J) (groups : List (Bor (List ℕ)))
         → Yields (GivesText J.Judge e) s groups t
         → put_at e (concat (from e (map (λ group. group.now) groups))) (shown_text t).text ≡ (shown_text s).text }
@@ -179,7 +179,7 @@ pub fn texts_join_mut<J: Judge<char>>(_groups: &LinearStrGroupsMut<'_, J>)
         → AllByRecursion (λ o. IfSome o (λ group. IsUtf8 group.now)) out }
     ensures calls { (s t : TextGroupsMut J) (ends : List End) (out : List (Option (MutBor (List ℕ))))
         → IsChain (GivesTextMut J.Judge) s ends out t
-            → Partition ends (map (option_map (λ group. group.now)) out) t.text s.text }
+        → Partition ends (map (option_map (λ group. group.now)) out) t.text s.text }
     ensures part { (e : End) (s t : TextGroupsMut J) (groups : List (MutBor (List ℕ)))
         → Yields (GivesTextMut J.Judge e) s groups t
         → put_at e (concat (from e (map (λ group. group.now) groups))) t.text ≡ s.text }
@@ -193,7 +193,7 @@ pub fn texts_join_mut<J: Judge<char>>(_groups: &LinearStrGroupsMut<'_, J>)
 pub fn each_char_pair_asked_once<J: Judge<char>>(_groups: &LinearStrGroups<'_, J>)
     ensures pairs { (s t : LinearStrGroups J) (ends : List End) (out : List (Option (Bor (List ℕ))))
         → IsChain (GivesText J.Judge) s ends out t
-            → AsksEachOnce J.Judge (in_characters (shown_text s)) (in_characters (shown_text t)) }
+        → AsksEachOnce J.Judge (in_characters (shown_text s)) (in_characters (shown_text t)) }
     ensures whole { (s t : LinearStrGroups J) (ends : List End) (out : List (Option (Bor (List ℕ))))
         → IsChain (GivesText J.Judge) s ends out t → (shown_text t).text ≡ []
         → IsRunOf J.may_ask J.answers (length (chars (shown_text s).text) - 1) s.judge t.judge }
@@ -203,7 +203,7 @@ pub fn each_char_pair_asked_once<J: Judge<char>>(_groups: &LinearStrGroups<'_, J
 pub fn each_char_pair_asked_once_mut<J: Judge<char>>(_groups: &LinearStrGroupsMut<'_, J>)
     ensures pairs { (s t : TextGroupsMut J) (ends : List End) (out : List (Option (MutBor (List ℕ))))
         → IsChain (GivesTextMut J.Judge) s ends out t
-            → AsksEachOnce J.Judge (in_characters (seen_text s)) (in_characters (seen_text t)) }
+        → AsksEachOnce J.Judge (in_characters (seen_text s)) (in_characters (seen_text t)) }
     ensures whole { (s t : TextGroupsMut J) (ends : List End) (out : List (Option (MutBor (List ℕ))))
         → IsChain (GivesTextMut J.Judge) s ends out t → t.text ≡ []
         → IsRunOf J.may_ask J.answers (length (chars s.text) - 1) s.judge t.judge }

@@ -121,7 +121,7 @@ pub fn walk<Q: GroupQueue>(queue: &mut Q, ends: &[End], out: &mut [Option<Q::Ite
         (p : Q.Element → Q.Element → Bool) → Q.is_settled queue.old p
         → Q.is_settled queue.new p
         × ((ps : List (List Q.Element))
-            × AnswersAsQueue p (Q.remainder queue.old) ends.now groups (Q.remainder queue.new) ps) }
+        × AnswersAsQueue p (Q.remainder queue.old) ends.now groups (Q.remainder queue.new) ps) }
     ensures pieces { (p : Q.Element → Q.Element → Bool) → Q.is_settled queue.old p
         → map (option_map Q.shows) out.new ≡ pops (split p (Q.remainder queue.old)) ends.now }
     ensures left { (p : Q.Element → Q.Element → Bool) → Q.is_settled queue.old p

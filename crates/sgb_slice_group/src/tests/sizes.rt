@@ -1,6 +1,8 @@
 //! The loans, the key's type and the way to find a group take no bytes, and neither does the judge of equality.
 use crate::binary_group::{BinaryGroupByKeyMut, BinaryGroupByMut, BinaryGroupMut};
-use crate::exponential_group::{ExponentialGroupByKeyMut, ExponentialGroupByMut, ExponentialGroupMut};
+use crate::exponential_group::{
+    ExponentialGroupByKeyMut, ExponentialGroupByMut, ExponentialGroupMut,
+};
 use crate::linear_group::{LinearGroupByKeyMut, LinearGroupByMut, LinearGroupMut};
 use sgb_search::judge::EqualityJudge;
 

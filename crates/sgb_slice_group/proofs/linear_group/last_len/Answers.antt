@@ -15,9 +15,9 @@ returns-then-not-together-clause-asked g c =
     let xs = c.args.slice.now in
     let i = c.loop-start.invariant in
     let near = are_neighbours xs c.loop-start.start _ _ (omega arith)
-        (omega arith) c.index-slice-start.is c.index-slice-start-in-loop-start.is in
+    (omega arith) c.index-slice-start.is c.index-slice-start-in-loop-start.is in
     let here = back_pair xs c.loop-start.start _ _ (omega arith)
-        (omega arith) c.index-slice-start.is c.index-slice-start-in-loop-start.is in
+    (omega arith) c.index-slice-start.is c.index-slice-start-in-loop-start.is in
     refused_next _ _ (reverse (neighbours xs)) _ _ _ _ _ i.accepted here (may_now _ _ _ _ _ i.callable near) c.if-not-together.ensures
     (length xs - c.loop-start.start) (omega arith)
 
@@ -26,9 +26,9 @@ loop-start-preserved g c =
     let xs = c.args.slice.now in
     let i = c.loop-start.invariant in
     let near = are_neighbours xs c.loop-start.start _ _ (omega arith)
-        (omega arith) c.index-slice-start.is c.index-slice-start-in-loop-start.is in
+    (omega arith) c.index-slice-start.is c.index-slice-start-in-loop-start.is in
     let here = back_pair xs c.loop-start.start _ _ (omega arith)
-        (omega arith) c.index-slice-start.is c.index-slice-start-in-loop-start.is in
+    (omega arith) c.index-slice-start.is c.index-slice-start-in-loop-start.is in
     record {
       before = omega arith;
       callable = may_next _ _ _ _ _ _ _ i.callable near c.if-not-together.ensures;

@@ -16,6 +16,11 @@ returns g c = by c.next-first.result c.next-first.ensures.steps
     by None h = omega (arith, c.new-groups.ensures.asked, ap (λ s. s.judge.questions.asked) h.1)
     by (Some x) h =
         let counts = c.equality_judges.ensures.counts c.new-groups.result.judge c.next-first.new.self.judge (length h.asked.questions)
-            (h.asked.questions, h.asked.run, refl) in
-        omega (arith, counts, c.new-groups.ensures.asked, h.asked.most.call,
-        ap (λ xs. digits (length xs - 1)) c.new-groups.ensures.remainder)
+        (h.asked.questions, h.asked.run, refl) in
+        omega (
+          arith,
+          counts,
+          c.new-groups.ensures.asked,
+          h.asked.most.call,
+          ap (λ xs. digits (length xs - 1)) c.new-groups.ensures.remainder,
+        )
