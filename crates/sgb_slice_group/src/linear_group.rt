@@ -144,13 +144,14 @@ fn last_len<T, J: Judge<T>>(slice: &[T], judge: &mut J) -> usize
     ensures within { result ≤ length slice.now }
     ensures asked { IsRun J.may_ask J.answers judge.old (questions Back slice.now result) judge.new }
 {
-    let mut start = slice.len() - 1;
-    while start > 0 {
+    let mut len = 1;
+    while len < slice.len() {
+        let start = slice.len() - len;
         let together = judge.ask(&slice[start - 1], &slice[start]);
         if !together {
-            return slice.len() - start;
+            return len;
         }
-        start -= 1;
+        len += 1;
     }
-    slice.len()
+    len
 }

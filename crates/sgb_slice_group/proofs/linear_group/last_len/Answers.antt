@@ -6,31 +6,32 @@ use Rattle.sgb_slice_group.proofs.linear_group.last_len.Goals as goal
 
 pub ask-together-requires : goal.ask-together-requires
 ask-together-requires g c =
-    may_now _ _ _ _ _ c.loop-start.invariant.callable
-    (are_neighbours c.args.slice.now c.loop-start.start _ _ (omega arith)
-    (omega arith) c.index-slice-start.is c.index-slice-start-in-loop-start.is)
+    may_now _ _ _ _ _ c.loop-len.invariant.callable
+    (are_neighbours c.args.slice.now (length c.args.slice.now - c.loop-len.len) _ _ (omega arith)
+    (omega arith) c.index-slice-start.is c.index-slice-start-in-loop-len.is)
 
 pub returns-then-not-together-clause-asked : goal.returns-then-not-together-clause-asked
 returns-then-not-together-clause-asked g c =
     let xs = c.args.slice.now in
-    let i = c.loop-start.invariant in
-    let near = are_neighbours xs c.loop-start.start _ _ (omega arith)
-    (omega arith) c.index-slice-start.is c.index-slice-start-in-loop-start.is in
-    let here = back_pair xs c.loop-start.start _ _ (omega arith)
-    (omega arith) c.index-slice-start.is c.index-slice-start-in-loop-start.is in
+    let i = c.loop-len.invariant in
+    let near = are_neighbours xs (length xs - c.loop-len.len) _ _ (omega arith)
+    (omega arith) c.index-slice-start.is c.index-slice-start-in-loop-len.is in
+    let here = back_pair xs (length xs - c.loop-len.len) _ _ (omega arith)
+    (omega arith) c.index-slice-start.is c.index-slice-start-in-loop-len.is in
     refused_next _ _ (reverse (neighbours xs)) _ _ _ _ _ i.accepted here (may_now _ _ _ _ _ i.callable near) c.if-not-together.ensures
-    (length xs - c.loop-start.start) (omega arith)
+    c.loop-len.len (omega arith)
 
-pub loop-start-preserved : goal.loop-start-preserved
-loop-start-preserved g c =
+pub loop-len-preserved : goal.loop-len-preserved
+loop-len-preserved g c =
     let xs = c.args.slice.now in
-    let i = c.loop-start.invariant in
-    let near = are_neighbours xs c.loop-start.start _ _ (omega arith)
-    (omega arith) c.index-slice-start.is c.index-slice-start-in-loop-start.is in
-    let here = back_pair xs c.loop-start.start _ _ (omega arith)
-    (omega arith) c.index-slice-start.is c.index-slice-start-in-loop-start.is in
+    let i = c.loop-len.invariant in
+    let near = are_neighbours xs (length xs - c.loop-len.len) _ _ (omega arith)
+    (omega arith) c.index-slice-start.is c.index-slice-start-in-loop-len.is in
+    let here = back_pair xs (length xs - c.loop-len.len) _ _ (omega arith)
+    (omega arith) c.index-slice-start.is c.index-slice-start-in-loop-len.is in
     record {
-      before = omega arith;
+      after = omega arith;
+      upto = omega arith;
       callable = may_next _ _ _ _ _ _ _ i.callable near c.if-not-together.ensures;
       accepted =
           accepted_more _ _ (reverse (neighbours xs)) _ _ _ _ _ i.accepted here
@@ -40,5 +41,5 @@ loop-start-preserved g c =
 pub returns-clause-asked : goal.returns-clause-asked
 returns-clause-asked g c =
     let xs = c.args.slice.now in
-    accepted_all _ _ (reverse (neighbours xs)) _ _ _ c.loop-start.invariant.accepted (omega (arith, back_pairs xs)) (length xs)
+    accepted_all _ _ (reverse (neighbours xs)) _ _ _ c.loop-len.invariant.accepted (omega (arith, back_pairs xs)) c.loop-len.len
     (omega arith)
