@@ -7,3 +7,4 @@ pub mod by_predicate;
 pub mod groups;
 pub mod groups_mut;
 mod scan;
+pub mod traits;

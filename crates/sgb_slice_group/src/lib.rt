@@ -14,3 +14,5 @@ pub mod linear_group;
 pub mod searching;
 #[cfg(test)]
 mod tests;
+pub mod traits;
+pub mod traits_mut;

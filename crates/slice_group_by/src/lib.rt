@@ -27,11 +27,8 @@ mod ranks;
 mod slices;
 mod slices_mut;
 mod sorted;
-mod str_traits;
 #[cfg(test)]
 mod tests;
-mod traits;
-mod traits_mut;
 
 pub use join::MergeJoin;
 pub use plans::{Plan, refute};
@@ -40,6 +37,7 @@ pub use ranks::rank_groups;
 pub use sgb_linear_str_group::by_equality::{LinearStrGroup, LinearStrGroupMut};
 pub use sgb_linear_str_group::by_key::{LinearStrGroupByKey, LinearStrGroupByKeyMut};
 pub use sgb_linear_str_group::by_predicate::{LinearStrGroupBy, LinearStrGroupByMut};
+pub use sgb_linear_str_group::traits::{StrGroupBy, StrGroupByMut};
 pub use sgb_search::search::{
     exponential_search, exponential_search_by, exponential_search_by_key,
 };
@@ -55,7 +53,6 @@ pub use sgb_slice_group::linear_group::{
     LinearGroup, LinearGroupBy, LinearGroupByKey, LinearGroupByKeyMut, LinearGroupByMut,
     LinearGroupMut,
 };
+pub use sgb_slice_group::traits::GroupBy;
+pub use sgb_slice_group::traits_mut::GroupByMut;
 pub use sorted::is_sorted_for_groups;
-pub use str_traits::{StrGroupBy, StrGroupByMut};
-pub use traits::GroupBy;
-pub use traits_mut::GroupByMut;
