@@ -1,6 +1,6 @@
 -- The steps of galloping.
-use Rattle.std.specs.Prelude.{◌≡◌, ℕ, ◌+◌, ◌-◌, ◌*◌, ◌<◌, ◌≤◌, List, [], ◌∷◌, ◌++◌, length, ◌⊎◌, ◌≢◌, true, refl, Result, Ok, Err}
-use Rattle.std.proofs.Common.{sym, ap, subst, arith, inl, inr, length-append, append_assoc, ◌∙◌}
+use Rattle.std.specs.Prelude.{◌≡◌, ℕ, ◌+◌, ◌-◌, ◌*◌, ◌<◌, ◌≤◌, List, [], ◌∷◌, ◌++◌, length, ◌⊎◌, ◌≢◌, true, false, refl, Result, Ok, Err}
+use Rattle.std.proofs.Common.{sym, ap, subst, arith, inl, inr, length-append, append_assoc, ◌∙◌, true≢false, is_lt}
 use Rattle.std.specs.List.{AllByRecursion, Contains}
 use Rattle.std.proofs.lemmas.List.Elements.{Contains-append_left, Contains-append_right, Contains-push}
 use Rattle.std.specs.declared.cmp.Ordering.{Ordering}
@@ -22,7 +22,19 @@ module _ {S : Type 0} (may : S → ℕ → Type 0) (gives : S → ℕ → Orderi
         ((low ≡ 0) × (place ≡ 1))
         ⊎ ((0 < low) × (low < place) × (place ≤ 2 * low) × (place ≤ len) × (place < len → place ≡ 2 * low) × Contains questions (low, Less))
 
+-- an answer that is below
+pub less_below : (o : Ordering) → true ≡ is_lt o → o ≡ Less
+less_below Less e = refl
+less_below Equal e = absurd (true≢false e)
+less_below Greater e = absurd (true≢false e)
+
+pub not_less : (o : Ordering) → false ≡ is_lt o → o ≢ Less
+not_less o e f = true≢false (sym (e ∙ ap is_lt f))
+
 module _ {S : Type 0} (may : S → ℕ → Type 0) (gives : S → ℕ → Ordering → S → Type 0) (len : ℕ) (s : S) where
+  pub doubles_start : Doubles may gives len s 0 1 s
+  doubles_start = record { questions = []; run = refl; places = tt; most = omega arith; low_end = inl (refl, refl) }
+
   module _ (low place : ℕ) (t : S) (n : Doubles may gives len s low place t) where
     pub doubles_may : MayCompareBetween may gives 0 len s → place < len → may t place
     doubles_may h b = h n.questions t n.run n.places place (omega arith, b)

@@ -38,13 +38,22 @@ pub fn halve<A, P: Places<A>>(
 {
     let mut from = low;
     let mut upto = high;
+    // As many as are left, or one more: so it halves whatever the answer is, and the next question need not wait for it.
+    let mut size = high - low;
     while from < upto {
-        let middle = from + (upto - from) / 2;
-        match places.compare(asker, middle) {
-            Ordering::Less => from = middle + 1,
-            Ordering::Equal => return Ok(middle),
-            Ordering::Greater => upto = middle,
+        let half = size / 2;
+        let middle = from + (size - half - 1);
+        let order = places.compare(asker, middle);
+        if order.is_lt() {
+            from = middle + 1;
         }
+        if order.is_gt() {
+            upto = middle;
+        }
+        if order.is_eq() {
+            return Ok(middle);
+        }
+        size = half;
     }
     Err(from)
 }
@@ -58,17 +67,19 @@ fn bracket<A, P: Places<A>>(asker: &mut A, places: &P, len: usize) -> (usize, us
     ensures { IsBracket (λ s i. P.may_compare s places.now i) (λ s i o t. P.compares s places.now i o t)
         len asker.old result.0 result.1 asker.new }
 {
+    if len < 2 {
+        return (0, len);
+    }
     let mut low = 0;
     let mut place = 1;
-    while place < len {
-        match places.compare(asker, place) {
-            Ordering::Less => {}
-            _ => return (low, place + 1),
-        }
+    while places.compare(asker, place).is_lt() {
         low = place;
-        place = if place < len - place { place * 2 } else { len };
+        if len - place <= place {
+            return (low, len);
+        }
+        place *= 2;
     }
-    (low, len)
+    (low, place + 1)
 }
 
 /// Gallops over the `len` places from the first on, and then halves.

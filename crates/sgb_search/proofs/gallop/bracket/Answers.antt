@@ -1,29 +1,35 @@
 use Rattle.std.proofs.Common.{arith}
-use Rattle.sgb_search.proofs.Galloping.{doubles_may, doubles_low, doubles_end, doubles_stop, doubles_on}
+use Rattle.sgb_search.proofs.Galloping.{doubles_start, doubles_may, doubles_low, doubles_end, doubles_stop, doubles_on, less_below, not_less}
 use Rattle.sgb_search.proofs.gallop.bracket.Goals as goal
 
+pub returns-then-len-lt2 : goal.returns-then-len-lt2
+returns-then-len-lt2 g c = doubles_end _ _ _ _ _ _ _ (doubles_start _ _ _ _) (omega arith)
+
 pub compare-requires : goal.compare-requires
-compare-requires g c = doubles_may _ _ _ _ _ _ _ c.loop-place.invariant c.requires c.loop-place-test.true
+compare-requires g c = let i = c.loop-low.invariant in doubles_may _ _ _ _ _ _ _ i.doubles c.requires i.below
 
-pub returns-in_default : goal.returns-in_default
-returns-in_default g c =
-    let may = doubles_may _ _ _ _ _ _ _ c.loop-place.invariant c.requires c.loop-place-test.true in
-    doubles_stop _ _ _ _ _ _ _ c.loop-place.invariant c.loop-place-test.true may _ _ c.compare.ensures c.in_default.not-Less
+pub returns-then-len-place : goal.returns-then-len-place
+returns-then-len-place g c =
+    let i = c.loop-low.invariant in
+    let may = doubles_may _ _ _ _ _ _ _ i.doubles c.requires i.below in
+    let low = doubles_low _ _ _ _ _ _ _ i.doubles i.below in
+    let less = rw (less_below _ c.loop-low-test.ensures) at c.compare.ensures in
+    doubles_end _ _ _ _ _ _ _ (doubles_on _ _ _ _ _ _ _ i.doubles i.below may _ c.args.len less (omega arith) (omega arith) (omega arith)
+    (λ l. absurd (omega arith))) (omega arith)
 
-pub loop-place-preserved-then-place-len : goal.loop-place-preserved-then-place-len
-loop-place-preserved-then-place-len g c =
-    let n = c.loop-place.invariant in
-    let may = doubles_may _ _ _ _ _ _ _ n c.requires c.loop-place-test.true in
-    let low = doubles_low _ _ _ _ _ _ _ n c.loop-place-test.true in
-    doubles_on _ _ _ _ _ _ _ n c.loop-place-test.true may _ _ c.in-Less.ensures (omega arith) (omega arith) (omega arith) (λ _. omega arith)
-
-pub loop-place-preserved : goal.loop-place-preserved
-loop-place-preserved g c =
-    let n = c.loop-place.invariant in
-    let may = doubles_may _ _ _ _ _ _ _ n c.requires c.loop-place-test.true in
-    let low = doubles_low _ _ _ _ _ _ _ n c.loop-place-test.true in
-    doubles_on _ _ _ _ _ _ _ n c.loop-place-test.true may _ _ c.in-Less.ensures (omega arith) (omega arith) (omega arith)
-    (λ l. absurd (omega arith))
+pub loop-low-preserved : goal.loop-low-preserved
+loop-low-preserved g c =
+    let i = c.loop-low.invariant in
+    let may = doubles_may _ _ _ _ _ _ _ i.doubles c.requires i.below in
+    let low = doubles_low _ _ _ _ _ _ _ i.doubles i.below in
+    let less = rw (less_below _ c.loop-low-test.ensures) at c.compare.ensures in
+    record {
+      below = omega arith;
+      doubles = doubles_on _ _ _ _ _ _ _ i.doubles i.below may _ _ less (omega arith) (omega arith) (omega arith) (λ _. omega arith);
+    }
 
 pub returns : goal.returns
-returns g c = doubles_end _ _ _ _ _ _ _ c.loop-place.invariant c.loop-place-test.false
+returns g c =
+    let i = c.loop-low.invariant in
+    let may = doubles_may _ _ _ _ _ _ _ i.doubles c.requires i.below in
+    doubles_stop _ _ _ _ _ _ _ i.doubles i.below may _ _ c.compare.ensures (not_less _ c.loop-low-test.ensures)

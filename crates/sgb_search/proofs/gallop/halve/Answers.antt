@@ -1,24 +1,26 @@
-use Rattle.std.proofs.Common.{arith, refl}
-use Rattle.sgb_search.proofs.Halving.{narrows_may, narrows_less, narrows_greater, narrows_equal, narrows_end}
+use Rattle.std.proofs.Common.{arith, refl, inl, inr}
+use Rattle.sgb_search.proofs.Halving.{narrows_may, narrows_found, narrows_step, narrows_end}
+use Rattle.sgb_search.proofs.gallop.halve.Goals.{then-is_lt, else-is_lt, then-is_gt, else-is_gt}
 use Rattle.sgb_search.proofs.gallop.halve.Goals as goal
 
-pub compare-requires : goal.compare-requires
-compare-requires g c = narrows_may _ _ _ _ _ _ _ _ c.loop-from.invariant c.requires.callable _ (omega arith) (omega arith)
+pub compare-order-requires : goal.compare-order-requires
+compare-order-requires g c =
+    let n = c.loop-from.invariant in
+    narrows_may _ _ _ _ _ _ _ _ _ n c.requires.callable _ (omega arith) (omega (arith, n.left))
 
-pub loop-from-preserved-in-Less : goal.loop-from-preserved-in-Less
-loop-from-preserved-in-Less g c =
-    let may = narrows_may _ _ _ _ _ _ _ _ c.loop-from.invariant c.requires.callable _ (omega arith) (omega arith) in
-    narrows_less _ _ _ _ _ _ _ _ c.loop-from.invariant _ _ refl c.loop-from-test.true may c.in-Less.ensures
-
-pub returns-in-Equal : goal.returns-in-Equal
-returns-in-Equal g c =
-    let may = narrows_may _ _ _ _ _ _ _ _ c.loop-from.invariant c.requires.callable _ (omega arith) (omega arith) in
-    narrows_equal _ _ _ _ _ _ _ _ c.loop-from.invariant _ _ refl c.loop-from-test.true may c.in-Equal.ensures
+pub returns-then-is_eq : goal.returns-then-is_eq
+returns-then-is_eq g c =
+    let n = c.loop-from.invariant in
+    let may = narrows_may _ _ _ _ _ _ _ _ _ n c.requires.callable _ (omega arith) (omega (arith, n.left)) in
+    narrows_found _ _ _ _ _ _ _ _ _ n _ _ refl c.loop-from-test.true may _ c.compare-order.ensures c.if-is_eq.ensures
 
 pub loop-from-preserved : goal.loop-from-preserved
 loop-from-preserved g c =
-    let may = narrows_may _ _ _ _ _ _ _ _ c.loop-from.invariant c.requires.callable _ (omega arith) (omega arith) in
-    narrows_greater _ _ _ _ _ _ _ _ c.loop-from.invariant _ _ refl c.loop-from-test.true may c.in-Greater.ensures
+    let n = c.loop-from.invariant in
+    let may = narrows_may _ _ _ _ _ _ _ _ _ n c.requires.callable _ (omega arith) (omega (arith, n.left)) in
+    narrows_step _ _ _ _ _ _ _ _ _ n _ _ refl c.loop-from-test.true may _ c.compare-order.ensures c.if-is_eq.ensures _ _
+    (elim c.if-is_lt.branch [ then-is_lt w ↦ inl (w.if-is_lt.ensures, w.from-is) | else-is_lt w ↦ inr (w.if-is_lt.ensures, w.from-is) ])
+    (elim c.if-is_gt.branch [ then-is_gt w ↦ inl (w.if-is_gt.ensures, w.upto-is) | else-is_gt w ↦ inr (w.if-is_gt.ensures, w.upto-is) ])
 
 pub returns : goal.returns
-returns g c = narrows_end _ _ _ _ _ _ _ _ c.loop-from.invariant c.loop-from-test.false
+returns g c = narrows_end _ _ _ _ _ _ _ _ _ c.loop-from.invariant c.loop-from-test.false
