@@ -26,4 +26,5 @@ text_groups_mut_to_come s = text_groups_to_come (seen_text s)
 -- what a call at the end gives for writing: what it gives for reading, and the group is out then; or nothing, and then nothing changes
 abbrev pub GivesTextMut : {J : Type 0} → Ghosts J ℕ → End → TextGroupsMut J → Option (MutBor (List ℕ)) → TextGroupsMut J → Type 0
 GivesTextMut g e s group t =
-    TextCallAt g e (seen_text s) (option_copied_mut group) (seen_text t) × MatchOption group (t ≡ s) (λ x. HandsOut e s.loans x.ghost_name t.loans)
+    TextCallAt g e (seen_text s) (option_copied_mut group) (seen_text t)
+    × MatchOption group (t ≡ s) (λ x. HandsOut e s.loans x.ghost_name t.loans)

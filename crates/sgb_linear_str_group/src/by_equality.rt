@@ -34,10 +34,9 @@ pub type LinearStrGroupMut<'a> = LinearStrGroupsMut<'a, EqualityJudge>;
 impl<'a> LinearStrGroups<'a, EqualityJudge> {
     /// All groups of equal characters of the text, which are still to come. Nothing is asked yet.
     #[inline]
-    #[tactic(auto, using(sgb_search::proofs::Equality::equality_settled))]
     pub fn new(string: &'a str) -> Self
         ensures text { (shown_text result).text ≡ string.now }
-        ensures asked { result.judge.questions.asked ≡ 0 }
+        ensures asked { result.judge.asked ≡ 0 }
         ensures callable { IsCallableText (by_equality nat_eq) (shown_text result) }
         ensures settled { IsSettledText (by_equality nat_eq) (shown_text result) nat_eq }
     {
@@ -51,11 +50,10 @@ impl<'a> LinearStrGroupsMut<'a, EqualityJudge> {
     /// The bytes have to be UTF-8, which `std::str::from_utf8` tests. Those of a literal are known to be, and those copied from
     /// a `&str`; those of a `String` are, once it was looked at by `as_str`.
     #[inline]
-    #[tactic(auto, using(sgb_search::proofs::Equality::equality_settled))]
     pub fn new(bytes: &'a mut [u8]) -> Self
         requires { IsUtf8 bytes.old }
         ensures text { result.text ≡ bytes.old }
-        ensures asked { result.judge.questions.asked ≡ 0 }
+        ensures asked { result.judge.asked ≡ 0 }
         ensures callable { IsCallableText (by_equality nat_eq) (seen_text result) }
         ensures settled { IsSettledText (by_equality nat_eq) (seen_text result) nat_eq }
         ensures loans { NothingOut bytes.entry.ghost_name result.loans }

@@ -9,7 +9,6 @@ ghost use Rattle.sgb_loans.specs.Loans.{NothingOut};
 use crate::groups::LinearStrGroups;
 use crate::groups_mut::LinearStrGroupsMut;
 use sgb_search::judge::CharKeyJudge;
-use std::marker::PhantomData;
 
 /// An iterator over the groups of a text by a key: a question is a call of the key function on the left character, then one
 /// on the right, then `==` of the keys.
@@ -54,13 +53,7 @@ impl<'a, K: PartialEq + Drop, F: FnMut(char) -> K> LinearStrGroups<'a, CharKeyJu
         ensures settled { (key : ℕ → K) → ComputesCharKey F.FnMut key func
             → IsSettledText (by_char_key F.FnMut K.eq) (shown_text result) (λ x y. K.eq (key x) (key y)) }
     {
-        LinearStrGroups::with_judge(
-            string,
-            CharKeyJudge {
-                func,
-                key: PhantomData,
-            },
-        )
+        LinearStrGroups::with_judge(string, CharKeyJudge::new(func))
     }
 }
 
@@ -82,12 +75,6 @@ impl<'a, K: PartialEq + Drop, F: FnMut(char) -> K> LinearStrGroupsMut<'a, CharKe
             → IsSettledText (by_char_key F.FnMut K.eq) (seen_text result) (λ x y. K.eq (key x) (key y)) }
         ensures loans { NothingOut bytes.entry.ghost_name result.loans }
     {
-        LinearStrGroupsMut::with_judge(
-            bytes,
-            CharKeyJudge {
-                func,
-                key: PhantomData,
-            },
-        )
+        LinearStrGroupsMut::with_judge(bytes, CharKeyJudge::new(func))
     }
 }

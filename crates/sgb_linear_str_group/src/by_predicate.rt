@@ -43,7 +43,6 @@ impl<'a, P: FnMut(char, char) -> bool> LinearStrGroups<'a, CharPredicateJudge<P>
     ///
     /// The result is settled for each test that the predicate computes.
     #[inline]
-    #[tactic(auto, using(sgb_search::proofs::Closures::char_predicate_settled))]
     pub fn new(string: &'a str, predicate: P) -> Self
         requires { IsCallableText (by_char_predicate P.FnMut)
             (record { text = string.now; judge = char_predicate_judge predicate }) }
@@ -64,7 +63,6 @@ impl<'a, P: FnMut(char, char) -> bool> LinearStrGroupsMut<'a, CharPredicateJudge
     /// a `&str`; those of a `String` are, once it was looked at by `as_str`. It requires of
     /// the predicate what `LinearStrGroupBy::new` requires, of the characters as they are now.
     #[inline]
-    #[tactic(auto, using(sgb_search::proofs::Closures::char_predicate_settled))]
     pub fn new(bytes: &'a mut [u8], predicate: P) -> Self
         requires utf8 { IsUtf8 bytes.old }
         requires callable { IsCallableText (by_char_predicate P.FnMut)

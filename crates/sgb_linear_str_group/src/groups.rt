@@ -85,37 +85,6 @@ impl<'a, J> LinearStrGroups<'a, J> {
     }
 }
 
-impl<'a, J: Judge<char>> LinearStrGroups<'a, J> {
-    ghost use Rattle.sgb_linear_str_group.specs.Texts.{IsCallableText, GivesText};
-
-    // The group at the end.
-    #[inline]
-    fn take(&mut self, end: &End) -> Option<&'a str>
-        requires { IsCallableText J.Judge (shown_text self.old) }
-        ensures gives { GivesText J.Judge end.now self.old result self.new }
-        ensures callable { IsCallableText J.Judge (shown_text self.new) }
-    {
-        let rest = self.rest();
-        if rest.is_empty() {
-            return None;
-        }
-        match end {
-            End::Front => {
-                let len = first_len(rest, &mut self.judge);
-                let (group, _) = rest.split_at(len);
-                self.low += len;
-                Some(group)
-            }
-            End::Back => {
-                let start = rest.len() - last_len(rest, &mut self.judge);
-                let (_, group) = rest.split_at(start);
-                self.high = self.low + start;
-                Some(group)
-            }
-        }
-    }
-}
-
 impl<'a, J: Judge<char> + Drop> Iterator for LinearStrGroups<'a, J> {
     type Item = &'a str;
 
@@ -174,5 +143,32 @@ impl<'a, J: Judge<char> + Drop> LinearStrGroups<'a, J> {
         ensures { (t : LinearStrGroups J) × GivesText J.Judge Back self.entry result t }
     {
         self.next_back()
+    }
+
+    // The group at the end.
+    #[inline]
+    fn take(&mut self, end: &End) -> Option<&'a str>
+        requires { IsCallableText J.Judge (shown_text self.old) }
+        ensures gives { GivesText J.Judge end.now self.old result self.new }
+        ensures callable { IsCallableText J.Judge (shown_text self.new) }
+    {
+        let rest = self.rest();
+        if rest.is_empty() {
+            return None;
+        }
+        match end {
+            End::Front => {
+                let len = first_len(rest, &mut self.judge);
+                let (group, _) = rest.split_at(len);
+                self.low += len;
+                Some(group)
+            }
+            End::Back => {
+                let start = rest.len() - last_len(rest, &mut self.judge);
+                let (_, group) = rest.split_at(start);
+                self.high = self.low + start;
+                Some(group)
+            }
+        }
     }
 }

@@ -115,28 +115,6 @@ impl<'a, J> LinearStrGroupsMut<'a, J> {
     }
 }
 
-impl<'a, J: Judge<char>> LinearStrGroupsMut<'a, J> {
-    ghost use Rattle.sgb_linear_str_group.specs.Texts.{IsCallableText};
-    ghost use Rattle.sgb_linear_str_group.specs.TextsMut.{seen_text, GivesTextMut};
-
-    // The group at the end.
-    #[inline]
-    fn take(&mut self, end: &End) -> Option<&'a mut [u8]>
-        requires { IsCallableText J.Judge (seen_text self.old) }
-        ensures gives { GivesTextMut J.Judge end.now self.old result self.new }
-        ensures callable { IsCallableText J.Judge (seen_text self.new) }
-    {
-        if self.bytes.len() == 0 {
-            return None;
-        }
-        let all = mem::take(&mut self.bytes);
-        let len = group_len(end, text_of(all), &mut self.judge);
-        let (group, rest) = self.loans.cut(end, all, len);
-        self.bytes = rest;
-        Some(group)
-    }
-}
-
 impl<'a, J: Drop> LinearStrGroupsMut<'a, J> {
     /// Takes note of how the oldest group that is out was left, which came off at the front.
     #[inline]
@@ -173,11 +151,7 @@ impl<'a, J: Drop> LinearStrGroupsMut<'a, J> {
         ensures name { result.name ≡ self.entry.loans.root }
         ensures value { result.value ≡ self.entry.loans.before ++ (self.entry.text ++ self.entry.loans.after) }
     {
-        let LinearStrGroupsMut {
-            bytes,
-            judge: _,
-            loans,
-        } = self;
+        let LinearStrGroupsMut { bytes, loans, .. } = self;
         loans.close(Ended::of(bytes))
     }
 }
@@ -246,5 +220,22 @@ impl<'a, J: Judge<char> + Drop> LinearStrGroupsMut<'a, J> {
         ensures { (t : TextGroupsMut J) × GivesTextMut J.Judge Back self.entry result t }
     {
         self.next_back()
+    }
+
+    // The group at the end.
+    #[inline]
+    fn take(&mut self, end: &End) -> Option<&'a mut [u8]>
+        requires { IsCallableText J.Judge (seen_text self.old) }
+        ensures gives { GivesTextMut J.Judge end.now self.old result self.new }
+        ensures callable { IsCallableText J.Judge (seen_text self.new) }
+    {
+        if self.bytes.len() == 0 {
+            return None;
+        }
+        let all = mem::take(&mut self.bytes);
+        let len = group_len(end, text_of(all), &mut self.judge);
+        let (group, rest) = self.loans.cut(end, all, len);
+        self.bytes = rest;
+        Some(group)
     }
 }

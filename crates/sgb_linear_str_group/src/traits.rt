@@ -60,7 +60,7 @@ pub trait StrGroupBy: AsStr {
     #[inline]
     fn linear_group(&self) -> LinearStrGroup<'_>
         ensures text { (shown_text result).text ≡ Self.text self.now }
-        ensures asked { result.judge.questions.asked ≡ 0 }
+        ensures asked { result.judge.asked ≡ 0 }
         ensures callable { IsCallableText (by_equality nat_eq) (shown_text result) }
         ensures settled { IsSettledText (by_equality nat_eq) (shown_text result) nat_eq }
     {
@@ -135,7 +135,7 @@ pub trait StrGroupByMut {
     fn linear_group_mut(&mut self) -> LinearStrGroupMut<'_>
         requires { IsUtf8 (text self.old) }
         ensures text { result.text ≡ text self.entry.now }
-        ensures asked { result.judge.questions.asked ≡ 0 }
+        ensures asked { result.judge.asked ≡ 0 }
         ensures callable { IsCallableText (by_equality nat_eq) (seen_text result) }
         ensures settled { IsSettledText (by_equality nat_eq) (seen_text result) nat_eq }
         ensures loans { NothingOut result.loans.root result.loans }

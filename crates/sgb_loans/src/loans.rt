@@ -88,12 +88,7 @@ impl<T> Loans<T> {
     // Cuts the rest `all` in two at `mid`. The part at the end is out then, and the other is the rest. The end says only which
     // of the two that is, and `cut` tells them apart: so the proof by hand of this function has no branch.
     #[inline]
-    fn cut_in_two<'a>(
-        &mut self,
-        end: &End,
-        all: &'a mut [T],
-        mid: usize,
-    ) -> (&'a mut [T], &'a mut [T])
+    fn cut_at<'a>(&mut self, end: &End, all: &'a mut [T], mid: usize) -> (&'a mut [T], &'a mut [T])
         requires within { mid ≤ length all.old }
         requires rest { all.ghost_name ≡ self.old.rest }
         ensures parts { (all.entry.now ≡ result.0.now ++ result.1.now) × (length result.0.now ≡ mid) }
@@ -115,10 +110,10 @@ impl<T> Loans<T> {
         ensures out { HandsOut end.now self.old result.0.ghost_name self.new }
     {
         match end {
-            End::Front => self.cut_in_two(end, all, len),
+            End::Front => self.cut_at(end, all, len),
             End::Back => {
                 let start = all.len() - len;
-                let (rest, part) = self.cut_in_two(end, all, start);
+                let (rest, part) = self.cut_at(end, all, start);
                 (part, rest)
             }
         }

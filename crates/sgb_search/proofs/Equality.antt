@@ -16,6 +16,6 @@ module _ {T : Type 0} (eq : T → T → Bool) where
   equality_settled allowed j = answers_by _ _ allowed (on_pairs eq) (λ _. ⊤) (λ s q b k i c. (c.0, tt)) j tt
 
   pub equality_counts : (j : EqualityJudge) (qs : List ((T × T) × Bool)) (k : EqualityJudge)
-      → IsRun (by_equality eq).may_ask (by_equality eq).answers j qs k → k.questions.asked ≡ j.questions.asked + length qs
-  equality_counts j [] k run = omega (arith, ap (λ i. i.questions.asked) run)
+      → IsRun (by_equality eq).may_ask (by_equality eq).answers j qs k → k.asked ≡ j.asked + length qs
+  equality_counts j [] k run = omega (arith, ap (λ i. i.asked) run)
   equality_counts j (q ∷ qs) k run = omega (arith, run.1.1.1, equality_counts run.1.0 qs k run.1.2)

@@ -29,7 +29,8 @@ module _ {T J : Type 0} where
     abbrev pub CallAt : Groups T J → Option (List T) → Groups T J → Type 0
     CallAt s group t = MatchOption group ((s.remainder ≡ []) × (t ≡ s)) (λ x. IsGroupAt s x t)
 
-  -- allowed xs are the pairs that a call may ask about where xs remains: the judge may be asked about each, now and after any such questions
+  -- allowed xs are the pairs that a call may ask about where xs remains: the judge may be asked about each, now and after any such
+  -- questions
   abbrev pub IsCallableBy : (List T → T × T → Type 0) → Ghosts J T → Groups T J → Type 0
   IsCallableBy allowed g s = MayAskAll g.may_ask g.answers (allowed s.remainder) s.judge
 

@@ -61,7 +61,8 @@ module _ {F T K : Type 0} (takes : F → T → Type 0) (calls : F → T → K �
   MayCompareKeys f q = takes f q.0 × ((k : K) (f' : F) → calls f q.0 k f' → takes f' q.1)
 
 -- a call for the key of the left element, then one for that of the right, and b is what eq says of the keys
-pub record ComparesKeys {F T K : Type 0} (calls : F → T → K → F → Type 0) (eq : K → K → Bool) (f : F) (left right : T) (b : Bool) (f' : F) : Type 0 where
+pub record ComparesKeys {F T K : Type 0} (calls : F → T → K → F → Type 0) (eq : K → K → Bool) (f : F) (left right : T) (b : Bool)
+    (f' : F) : Type 0 where
   pub between : F
   pub left_key : K
   pub right_key : K
@@ -83,7 +84,7 @@ key_judge func = record { func = func; key = record {} }
 abbrev pub by_equality : {T : Type 0} → (T → T → Bool) → Ghosts EqualityJudge T
 by_equality eq = record {
   may_ask = λ _ _. Unit {0};
-  answers = λ j q b k. (b ≡ eq q.0 q.1) × (k.questions.asked ≡ j.questions.asked + 1);
+  answers = λ j q b k. (b ≡ eq q.0 q.1) × (k.asked ≡ j.asked + 1);
 }
 
 -- Closures that take characters by value: a character is its code.

@@ -81,7 +81,8 @@ module _ {T : Type 0} (xs : List T) where
     pub most : IsWithin cost (length xs) g (length questions)
     pub ends : EndsBy cost.may_contradict questions g
 
-  -- by p the first g elements, one or more, end at a local boundary: the innermost agrees with the outermost, and the element beyond does not
+  -- by p the first g elements, one or more, end at a local boundary: the innermost agrees with the outermost, and the element beyond does
+  -- not
   pub record IsLocalEnd (p : T → T → Bool) (g : ℕ) : Type 0 where
     pub nonempty : 0 < g
     pub within : g ≤ length xs
@@ -142,7 +143,8 @@ module _ (qs : List (ℕ × Ordering)) where
 
   -- both ends at i; or, where they may, two answers came about one of the two places there
   abbrev pub TellsBoundary : Bool → ℕ → ℕ → ℕ → Type 0
-  TellsBoundary both low high i = (IsLowEnd low i × IsHighEnd high i) ⊎ ((both ≡ true) × (((low < i) × Contradicts (i - 1)) ⊎ Contradicts i))
+  TellsBoundary both low high i =
+      (IsLowEnd low i × IsHighEnd high i) ⊎ ((both ≡ true) × (((low < i) × Contradicts (i - 1)) ⊎ Contradicts i))
 
   -- what an answer tells: of `Ok`, that the last question was about that place and was answered Equal; of `Err`, the boundary
   abbrev pub Tells : Bool → ℕ → ℕ → Result ℕ ℕ → Type 0

@@ -104,6 +104,21 @@ pub struct CharKeyJudge<F, K> {
     pub key: PhantomData<K>,
 }
 
+impl<F, K> CharKeyJudge<F, K> {
+    ghost use Rattle.sgb_search.specs.Judges.{char_key_judge};
+
+    /// A judge that asks for the keys of this function.
+    #[inline]
+    pub fn new(func: F) -> CharKeyJudge<F, K>
+        ensures { result ≡ char_key_judge func }
+    {
+        CharKeyJudge {
+            func,
+            key: PhantomData,
+        }
+    }
+}
+
 impl<K: PartialEq + Drop, F: FnMut(char) -> K> Judge<char> for CharKeyJudge<F, K> {
     ghost use Rattle.sgb_search.specs.Judges.{by_char_key};
 
@@ -121,11 +136,17 @@ impl<K: PartialEq + Drop, F: FnMut(char) -> K> Judge<char> for CharKeyJudge<F, K
 
 /// Asks `==` of the elements. It may always be asked.
 ///
-/// It counts its questions for contracts alone, and takes no bytes. That a question is one `==`, and that no other is made,
-/// no contract can say: it is read in the body of `ask`, and tested.
+/// It counts its questions, for contracts alone: the number takes no bytes, and no code can read it. That a question is one
+/// `==`, and that no other is made, no contract can say: it is read in the body of `ask`, and tested.
 #[derive(Drop)]
 pub struct EqualityJudge {
-    pub questions: Questions,
+    pub ghost asked: { ℕ },
+}
+
+impl Model for EqualityJudge {
+    ghost use Rattle.std.specs.Borrow.{ftrue};
+
+    ghost also_owns = { λ _. ftrue };
 }
 
 impl<T: PartialEq> Judge<T> for EqualityJudge {
@@ -137,7 +158,7 @@ impl<T: PartialEq> Judge<T> for EqualityJudge {
 
     #[inline]
     fn ask(&mut self, left: &T, right: &T) -> bool {
-        self.questions = Questions::one_more(&self.questions);
+        *self = EqualityJudge::one_more(self);
         left == right
     }
 }
@@ -146,40 +167,16 @@ impl EqualityJudge {
     /// A judge that was asked nothing yet.
     #[inline]
     pub fn new() -> EqualityJudge
-        ensures { result.questions.asked ≡ 0 }
-    {
-        EqualityJudge {
-            questions: Questions::none(),
-        }
-    }
-}
-
-/// How many questions were asked, for contracts alone. It takes no bytes, and no code can read it.
-#[derive(Drop)]
-pub struct Questions {
-    pub ghost asked: { ℕ },
-}
-
-impl Model for Questions {
-    ghost use Rattle.std.specs.Borrow.{ftrue};
-
-    ghost also_owns = { λ _. ftrue };
-}
-
-impl Questions {
-    /// No question yet.
-    #[inline]
-    pub fn none() -> Questions
         ensures { result.asked ≡ 0 }
     {
-        Questions {}
+        EqualityJudge {}
     }
 
-    /// One question more than before.
+    /// The judge after one question more.
     #[inline]
-    pub fn one_more(_before: &Questions) -> Questions
+    pub fn one_more(_before: &EqualityJudge) -> EqualityJudge
         ensures { result.asked ≡ _before.now.asked + 1 }
     {
-        Questions {}
+        EqualityJudge {}
     }
 }

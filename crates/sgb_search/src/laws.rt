@@ -118,7 +118,7 @@ pub fn equality_judges<T: PartialEq>()
     ensures callable_apart { (xs : List T) (j : EqualityJudge) → MayAskApart (by_equality T.eq) xs j }
     ensures computes_apart { (xs : List T) (j : EqualityJudge) → AnswersApart (by_equality T.eq) xs T.eq j }
     ensures counts { (j k : EqualityJudge) (n : ℕ) → IsRunOf (by_equality T.eq).may_ask (by_equality T.eq).answers n j k
-        → k.questions.asked ≡ j.questions.asked + n }
+        → k.asked ≡ j.asked + n }
 {}
 
 /// A comparator or a key function that may always be called may be called on the elements of every slice.

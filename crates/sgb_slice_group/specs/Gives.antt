@@ -24,10 +24,13 @@ IsCallableByMut allowed g s = IsCallableBy allowed g (seen s)
 -- asks: what a call asks, as of linear, binary or exponential groups
 
 -- what a call at the end e gives for reading: the group there; or `None` exactly where nothing remains, and then nothing changes
-abbrev pub Gives : {T J C : Type 0} → (End → List T → ℕ → J → J → Type 0) → End → SliceGroups T J C → Option (Bor (List T)) → SliceGroups T J C → Type 0
+abbrev pub Gives : {T J C : Type 0} → (End → List T → ℕ → J → J → Type 0)
+    → End → SliceGroups T J C → Option (Bor (List T)) → SliceGroups T J C → Type 0
 Gives asks e s group t = MatchOption group (((shown s).remainder ≡ []) × (t ≡ s)) (λ x. IsGroupAt asks e (shown s) x.now (shown t))
 
 -- what a call at the end e gives for writing: the same, and the group is out then; or nothing, and then nothing changes
-abbrev pub GivesMut : {T J : Type 0} → (End → List T → ℕ → J → J → Type 0) → End → GroupsMut T J → Option (MutBor (List T)) → GroupsMut T J → Type 0
+abbrev pub GivesMut : {T J : Type 0} → (End → List T → ℕ → J → J → Type 0)
+    → End → GroupsMut T J → Option (MutBor (List T)) → GroupsMut T J → Type 0
 GivesMut asks e s group t =
-    CallAt asks e (seen s) (option_copied_mut group) (seen t) × MatchOption group (t ≡ s) (λ x. HandsOut e s.loans x.ghost_name t.loans)
+    CallAt asks e (seen s) (option_copied_mut group) (seen t)
+    × MatchOption group (t ≡ s) (λ x. HandsOut e s.loans x.ghost_name t.loans)

@@ -18,7 +18,7 @@ impl<'a, T: PartialEq, C: GroupEnd> SliceGroups<'a, T, EqualityJudge, C> {
     #[inline]
     pub fn new(slice: &'a [T]) -> Self
         ensures remainder { (shown result).remainder ≡ slice.now }
-        ensures asked { result.judge.questions.asked ≡ 0 }
+        ensures asked { result.judge.asked ≡ 0 }
         ensures callable { IsCallableBy (C.allowed T) (by_equality T.eq) (shown result) }
         ensures computes { ComputesBy (C.allowed T) (by_equality T.eq) (shown result) T.eq }
         ensures settled { C.fits T T.eq slice.now → C.settled T EqualityJudge (by_equality T.eq) (shown result) T.eq }
@@ -35,7 +35,7 @@ impl<'a, T: PartialEq, C: GroupEnd> SliceGroupsMut<'a, T, EqualityJudge, C> {
     #[inline]
     pub fn new(slice: &'a mut [T]) -> Self
         ensures remainder { result.remainder ≡ slice.old }
-        ensures asked { result.judge.questions.asked ≡ 0 }
+        ensures asked { result.judge.asked ≡ 0 }
         ensures callable { IsCallableBy (C.allowed T) (by_equality T.eq) (seen result) }
         ensures computes { ComputesBy (C.allowed T) (by_equality T.eq) (seen result) T.eq }
         ensures settled { C.fits T T.eq slice.old → C.settled T EqualityJudge (by_equality T.eq) (seen result) T.eq }

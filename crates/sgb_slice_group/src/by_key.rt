@@ -11,12 +11,11 @@ use crate::groups::{GroupEnd, SliceGroups};
 use crate::groups_mut::SliceGroupsMut;
 use sgb_search::judge::KeyJudge;
 
-impl<'a, T, K: PartialEq + Drop, F: FnMut(&T) -> K, C: GroupEnd> SliceGroups<
-    'a,
-    T,
-    KeyJudge<F, K>,
-    C,
-> {
+type ByKey<'a, T, F, K, C> = SliceGroups<'a, T, KeyJudge<F, K>, C>;
+
+type ByKeyMut<'a, T, F, K, C> = SliceGroupsMut<'a, T, KeyJudge<F, K>, C>;
+
+impl<'a, T, K: PartialEq + Drop, F: FnMut(&T) -> K, C: GroupEnd> ByKey<'a, T, F, K, C> {
     /// All groups of the slice by the key, which are still to come. Nothing is asked yet.
     ///
     /// A question is a call of the key function on the element that stands first in it, then one on the other. The key function
@@ -46,12 +45,7 @@ impl<'a, T, K: PartialEq + Drop, F: FnMut(&T) -> K, C: GroupEnd> SliceGroups<
     }
 }
 
-impl<'a, T, K: PartialEq + Drop, F: FnMut(&T) -> K, C: GroupEnd> SliceGroupsMut<
-    'a,
-    T,
-    KeyJudge<F, K>,
-    C,
-> {
+impl<'a, T, K: PartialEq + Drop, F: FnMut(&T) -> K, C: GroupEnd> ByKeyMut<'a, T, F, K, C> {
     /// All groups of the slice by the key, which are still to come. Nothing is asked yet, and nothing is out.
     ///
     /// It requires of the key function what `new` for reading requires, of the elements as they are now.

@@ -13,9 +13,11 @@ pub trait DebugNames<J> {
     /// The type for reading; `Mut` is put after it for writing.
     const TYPE: &'static str;
 
-    const FIELD: &'static str;
+    /// The field that holds what remains, for reading.
+    const FIELD: &'static str = "remainder";
 
-    const FIELD_MUT: &'static str;
+    /// The same for writing.
+    const FIELD_MUT: &'static str = "remainder";
 }
 
 impl<P> DebugNames<PredicateJudge<P>> for Linear {
@@ -28,32 +30,18 @@ impl<P> DebugNames<PredicateJudge<P>> for Linear {
 
 impl<F, K> DebugNames<KeyJudge<F, K>> for Linear {
     const TYPE: &'static str = "LinearGroupByKey";
-
-    const FIELD: &'static str = "remainder";
-
-    const FIELD_MUT: &'static str = "remainder";
 }
 
 impl<P> DebugNames<PredicateJudge<P>> for Search<Binary> {
     const TYPE: &'static str = "BinaryGroupBy";
-
-    const FIELD: &'static str = "remainder";
-
-    const FIELD_MUT: &'static str = "remainder";
 }
 
 impl<F, K> DebugNames<KeyJudge<F, K>> for Search<Binary> {
     const TYPE: &'static str = "BinaryGroupByKey";
-
-    const FIELD: &'static str = "remainder";
-
-    const FIELD_MUT: &'static str = "remainder";
 }
 
 impl<P> DebugNames<PredicateJudge<P>> for Search<Exponential> {
     const TYPE: &'static str = "ExponentialGroupBy";
-
-    const FIELD: &'static str = "remainder";
 
     const FIELD_MUT: &'static str = "remaining";
 }
@@ -61,25 +49,19 @@ impl<P> DebugNames<PredicateJudge<P>> for Search<Exponential> {
 impl<F, K> DebugNames<KeyJudge<F, K>> for Search<Exponential> {
     const TYPE: &'static str = "ExponentialGroupByKey";
 
-    const FIELD: &'static str = "remainder";
-
     const FIELD_MUT: &'static str = "remaining";
 }
 
 impl<'a, T: fmt::Debug, J, C: DebugNames<J>> fmt::Debug for SliceGroups<'a, T, J, C> {
     fn fmt<W: fmt::Write>(&self, f: &mut fmt::Formatter<W>) -> fmt::Result {
-        write!(f, "{} {{ {}: {:?} }}", C::TYPE, C::FIELD, self.remainder())
+        let (name, field) = (C::TYPE, C::FIELD);
+        write!(f, "{name} {{ {field}: {:?} }}", self.remainder())
     }
 }
 
 impl<'a, T: fmt::Debug, J, C: DebugNames<J>> fmt::Debug for SliceGroupsMut<'a, T, J, C> {
     fn fmt<W: fmt::Write>(&self, f: &mut fmt::Formatter<W>) -> fmt::Result {
-        write!(
-            f,
-            "{}Mut {{ {}: {:?} }}",
-            C::TYPE,
-            C::FIELD_MUT,
-            self.remainder()
-        )
+        let (name, field) = (C::TYPE, C::FIELD_MUT);
+        write!(f, "{name}Mut {{ {field}: {:?} }}", self.remainder())
     }
 }

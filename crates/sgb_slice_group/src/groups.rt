@@ -142,8 +142,69 @@ impl<'a, T, J, C> SliceGroups<'a, T, J, C> {
     }
 }
 
-impl<'a, T, J: Judge<T>, C: GroupEnd> SliceGroups<'a, T, J, C> {
+impl<'a, T, J: Judge<T> + Drop, C: GroupEnd> Iterator for SliceGroups<'a, T, J, C> {
+    type Item = &'a [T];
+
     ghost use Rattle.sgb_slice_group.specs.Gives.{shown, Gives};
+
+    ghost can_next = { λ s. IsCallableBy (C.allowed T) J.Judge (shown s) };
+
+    ghost next_gives = { Gives (C.asks T J J.Judge) Front };
+
+    ghost remaining = { λ s. groups_to_come (shown s) };
+
+    /// The first group of the remainder, or `None` where nothing remains.
+    #[inline]
+    fn next(&mut self) -> Option<&'a [T]> {
+        self.take(&End::Front)
+    }
+
+    /// No groups where nothing remains, and else at least one and at most as many as elements remain.
+    #[inline]
+    fn size_hint(&self) -> (usize, Option<usize>)
+        ensures value { result
+            ≡ (if nat_eq (length (shown self.now).remainder) 0 then (0, Some 0)
+            else (1, Some (length (shown self.now).remainder))) }
+        ensures lower { IsWithinCount result.0 (groups_to_come (shown self.now)) }
+        ensures upper { IfSome result.1 (UpTo (groups_to_come (shown self.now))) }
+    {
+        let len = self.remainder_len();
+        (len.min(1), Some(len))
+    }
+}
+
+impl<'a, T, J: Judge<T> + Drop, C: GroupEnd> DoubleEndedIterator for SliceGroups<'a, T, J, C> {
+    ghost use Rattle.sgb_slice_group.specs.Gives.{shown, Gives};
+
+    ghost can_next_back = { λ s. IsCallableBy (C.allowed T) J.Judge (shown s) };
+
+    ghost next_back_gives = { Gives (C.asks T J J.Judge) Back };
+
+    /// The last group of the remainder, or `None` where nothing remains.
+    #[inline]
+    fn next_back(&mut self) -> Option<&'a [T]> {
+        self.take(&End::Back)
+    }
+}
+
+impl<'a, T, J: Judge<T> + Drop, C: GroupEnd> FusedIterator for SliceGroups<'a, T, J, C> {}
+
+impl<'a, T, J: Judge<T> + Drop, C: GroupEnd> SliceGroups<'a, T, J, C> {
+    ghost use Rattle.sgb_slice_group.specs.Gives.{shown, Gives};
+    ghost use Rattle.sgb_slice_group.specs.declared.groups.SliceGroups.{SliceGroups};
+
+    /// The last group of the remainder, or `None` where nothing remains: what `next_back` gives. The iterator is given up.
+    ///
+    /// It asks what `next_back` asks, which leads the judge to some state `t`; what is asked after that, before the judge is
+    /// given up, is nothing, which is read in the code. `Iterator::last` walks all groups from the front, and on a slice that
+    /// is not grouped, binary and exponential groups may end with another there.
+    #[inline]
+    pub fn last(mut self) -> Option<&'a [T]>
+        requires { IsCallableBy (C.allowed T) J.Judge (shown self) }
+        ensures { (t : SliceGroups T J C) × Gives (C.asks T J J.Judge) Back self.entry result t }
+    {
+        self.next_back()
+    }
 
     // The group at the end.
     #[inline]
@@ -170,73 +231,5 @@ impl<'a, T, J: Judge<T>, C: GroupEnd> SliceGroups<'a, T, J, C> {
                 Some(group)
             }
         }
-    }
-}
-
-impl<'a, T, J: Judge<T> + Drop, C: GroupEnd> Iterator for SliceGroups<'a, T, J, C> {
-    type Item = &'a [T];
-
-    ghost use Rattle.sgb_slice_group.specs.Gives.{shown, Gives};
-
-    ghost can_next = { λ s. IsCallableBy (C.allowed T) J.Judge (shown s) };
-
-    ghost next_gives = { Gives (C.asks T J J.Judge) Front };
-
-    ghost remaining = { λ s. groups_to_come (shown s) };
-
-    /// The first group of the remainder, or `None` where nothing remains.
-    #[inline]
-    fn next(&mut self) -> Option<&'a [T]> {
-        self.take(&End::Front)
-    }
-
-    /// No groups where nothing remains, and else at least one and at most as many as elements remain.
-    #[inline]
-    fn size_hint(&self) -> (usize, Option<usize>)
-        ensures value { result
-            ≡ (if nat_eq (length (shown self.now).remainder) 0 then (0, Some 0) else
-            (1, Some (length (shown self.now).remainder))) }
-        ensures lower { IsWithinCount result.0 (groups_to_come (shown self.now)) }
-        ensures upper { IfSome result.1 (UpTo (groups_to_come (shown self.now))) }
-    {
-        let len = self.remainder_len();
-        if len == 0 {
-            return (0, Some(0));
-        }
-        (1, Some(len))
-    }
-}
-
-impl<'a, T, J: Judge<T> + Drop, C: GroupEnd> DoubleEndedIterator for SliceGroups<'a, T, J, C> {
-    ghost use Rattle.sgb_slice_group.specs.Gives.{shown, Gives};
-
-    ghost can_next_back = { λ s. IsCallableBy (C.allowed T) J.Judge (shown s) };
-
-    ghost next_back_gives = { Gives (C.asks T J J.Judge) Back };
-
-    /// The last group of the remainder, or `None` where nothing remains.
-    #[inline]
-    fn next_back(&mut self) -> Option<&'a [T]> {
-        self.take(&End::Back)
-    }
-}
-
-impl<'a, T, J: Judge<T> + Drop, C: GroupEnd> FusedIterator for SliceGroups<'a, T, J, C> {}
-
-impl<'a, T, J: Judge<T> + Drop, C: GroupEnd> SliceGroups<'a, T, J, C> {
-    ghost use Rattle.sgb_slice_group.specs.declared.groups.SliceGroups.{SliceGroups};
-    ghost use Rattle.sgb_slice_group.specs.Gives.{shown, Gives};
-
-    /// The last group of the remainder, or `None` where nothing remains: what `next_back` gives. The iterator is given up.
-    ///
-    /// It asks what `next_back` asks, which leads the judge to some state `t`; what is asked after that, before the judge is
-    /// given up, is nothing, which is read in the code. `Iterator::last` walks all groups from the front, and on a slice that
-    /// is not grouped, binary and exponential groups may end with another there.
-    #[inline]
-    pub fn last(mut self) -> Option<&'a [T]>
-        requires { IsCallableBy (C.allowed T) J.Judge (shown self) }
-        ensures { (t : SliceGroups T J C) × Gives (C.asks T J J.Judge) Back self.entry result t }
-    {
-        self.next_back()
     }
 }

@@ -88,27 +88,6 @@ impl<'a, T, J, C> SliceGroupsMut<'a, T, J, C> {
     }
 }
 
-impl<'a, T, J: Judge<T>, C: GroupEnd> SliceGroupsMut<'a, T, J, C> {
-    ghost use Rattle.sgb_slice_group.specs.Gives.{IsCallableByMut, GivesMut};
-
-    // The group at the end.
-    #[inline]
-    fn take(&mut self, end: &End) -> Option<&'a mut [T]>
-        requires { IsCallableByMut (C.allowed T) J.Judge self.old }
-        ensures gives { GivesMut (C.asks T J J.Judge) end.now self.old result self.new }
-        ensures callable { IsCallableByMut (C.allowed T) J.Judge self.new }
-    {
-        if self.slice.len() == 0 {
-            return None;
-        }
-        let all = mem::take(&mut self.slice);
-        let len = C::group_len(end, all, &mut self.judge);
-        let (group, rest) = self.loans.cut(end, all, len);
-        self.slice = rest;
-        Some(group)
-    }
-}
-
 impl<'a, T, J: Drop, C> SliceGroupsMut<'a, T, J, C> {
     /// Takes note of how the oldest group that is out was left, which came off at the front.
     #[inline]
@@ -145,12 +124,7 @@ impl<'a, T, J: Drop, C> SliceGroupsMut<'a, T, J, C> {
         ensures name { result.0.ghost_name ≡ self.entry.loans.rest }
         ensures loans { result.1 ≡ self.entry.loans }
     {
-        let SliceGroupsMut {
-            slice,
-            judge: _,
-            loans,
-            group_end: _,
-        } = self;
+        let SliceGroupsMut { slice, loans, .. } = self;
         (slice, loans)
     }
 
@@ -202,11 +176,8 @@ impl<'a, T, J: Judge<T> + Drop, C: GroupEnd> Iterator for SliceGroupsMut<'a, T, 
         ensures lower { IsWithinCount result.0 (groups_mut_to_come self.now) }
         ensures upper { IfSome result.1 (UpTo (groups_mut_to_come self.now)) }
     {
-        let len = self.slice.len();
-        if len == 0 {
-            return (0, Some(0));
-        }
-        (1, Some(len))
+        let len = self.remainder_len();
+        (len.min(1), Some(len))
     }
 }
 
@@ -241,5 +212,22 @@ impl<'a, T, J: Judge<T> + Drop, C: GroupEnd> SliceGroupsMut<'a, T, J, C> {
         ensures { (t : GroupsMut T J) × GivesMut (C.asks T J J.Judge) Back self.entry result t }
     {
         self.next_back()
+    }
+
+    // The group at the end.
+    #[inline]
+    fn take(&mut self, end: &End) -> Option<&'a mut [T]>
+        requires { IsCallableByMut (C.allowed T) J.Judge self.old }
+        ensures gives { GivesMut (C.asks T J J.Judge) end.now self.old result self.new }
+        ensures callable { IsCallableByMut (C.allowed T) J.Judge self.new }
+    {
+        if self.slice.len() == 0 {
+            return None;
+        }
+        let all = mem::take(&mut self.slice);
+        let len = C::group_len(end, all, &mut self.judge);
+        let (group, rest) = self.loans.cut(end, all, len);
+        self.slice = rest;
+        Some(group)
     }
 }

@@ -15,7 +15,8 @@ pub trait GroupSearch {
     // What it may ask.
     ghost cost: { SearchCost };
 
-    /// Searches the places below `len`: those that answer `Less` should come before those that answer `Greater`.
+    /// Searches the places below `len`: `Ok` of one that answered `Equal`, or `Err` of the place where the answers turn from
+    /// `Less` to `Greater`, if those that answer `Less` come first. It asks at most what `cost` says.
     fn search<A, P: Places<A>>(asker: &mut A, places: &P, len: usize) -> Result<usize, usize>
         requires { MayCompareBetween (λ s i. P.may_compare s places.now i)
             (λ s i o t. P.compares s places.now i o t) 0 len asker.old }
@@ -57,38 +58,14 @@ impl<S: GroupSearch> GroupEnd for Search<S> {
 
     #[inline]
     fn group_len<T, J: Judge<T>>(end: &End, slice: &[T], judge: &mut J) -> usize {
-        match end {
-            End::Front => first_len::<T, J, S>(slice, judge),
-            End::Back => last_len::<T, J, S>(slice, judge),
+        let others = slice.len() - 1;
+        let found = match end {
+            End::Front => S::search(judge, &FromFront { slice }, others),
+            End::Back => S::search(judge, &FromBack { slice }, others),
+        };
+        match found {
+            Ok(place) | Err(place) => place + 1,
         }
-    }
-}
-
-/// How many elements the first group of the slice has.
-#[inline]
-fn first_len<T, J: Judge<T>, S: GroupSearch>(slice: &[T], judge: &mut J) -> usize
-    requires nonempty { 0 < length slice.now }
-    requires callable { MayAskApart J.Judge slice.now judge.old }
-    ensures nonempty { 0 < result }
-    ensures within { result ≤ length slice.now }
-    ensures asked { SearchRun slice.now J.Judge S.cost judge.old result judge.new }
-{
-    match S::search(judge, &FromFront { slice }, slice.len() - 1) {
-        Ok(place) | Err(place) => place + 1,
-    }
-}
-
-/// How many elements the last group of the slice has.
-#[inline]
-fn last_len<T, J: Judge<T>, S: GroupSearch>(slice: &[T], judge: &mut J) -> usize
-    requires nonempty { 0 < length slice.now }
-    requires callable { MayAskApart J.Judge slice.now judge.old }
-    ensures nonempty { 0 < result }
-    ensures within { result ≤ length slice.now }
-    ensures asked { SearchRun (reverse slice.now) J.Judge S.cost judge.old result judge.new }
-{
-    match S::search(judge, &FromBack { slice }, slice.len() - 1) {
-        Ok(place) | Err(place) => place + 1,
     }
 }
 

@@ -43,9 +43,7 @@ pub trait GroupBy<T>: AsSlice<T> {
 
     /// Groups by a predicate: neighbours of which it says yes, the left one first, belong together.
     #[inline]
-    fn linear_group_by<P>(&self, predicate: P) -> LinearGroupBy<'_, T, P>
-    where
-        P: FnMut(&T, &T) -> bool,
+    fn linear_group_by<P: FnMut(&T, &T) -> bool>(&self, predicate: P) -> LinearGroupBy<'_, T, P>
         requires { IsCallable (by_predicate P.FnMut)
             (record { remainder = Self.items self.now; judge = predicate_judge predicate }) }
         ensures remainder { (shown result).remainder ≡ Self.items self.now }
@@ -63,7 +61,7 @@ pub trait GroupBy<T>: AsSlice<T> {
     where
         T: PartialEq,
         ensures remainder { (shown result).remainder ≡ Self.items self.now }
-        ensures asked { result.judge.questions.asked ≡ 0 }
+        ensures asked { result.judge.asked ≡ 0 }
         ensures callable { IsCallable (by_equality T.eq) (shown result) }
         ensures settled { IsSettled (by_equality T.eq) (shown result) T.eq }
     {
@@ -92,9 +90,7 @@ pub trait GroupBy<T>: AsSlice<T> {
 
     /// Groups by a predicate, found by halving: the slice should be grouped for it.
     #[inline]
-    fn binary_group_by<P>(&self, predicate: P) -> BinaryGroupBy<'_, T, P>
-    where
-        P: FnMut(&T, &T) -> bool,
+    fn binary_group_by<P: FnMut(&T, &T) -> bool>(&self, predicate: P) -> BinaryGroupBy<'_, T, P>
         requires { IsCallableApart (by_predicate P.FnMut)
             (record { remainder = Self.items self.now; judge = predicate_judge predicate }) }
         ensures remainder { (shown result).remainder ≡ Self.items self.now }
@@ -114,7 +110,7 @@ pub trait GroupBy<T>: AsSlice<T> {
     where
         T: PartialEq,
         ensures remainder { (shown result).remainder ≡ Self.items self.now }
-        ensures asked { result.judge.questions.asked ≡ 0 }
+        ensures asked { result.judge.asked ≡ 0 }
         ensures callable { IsCallableApart (by_equality T.eq) (shown result) }
         ensures computes { ComputesApart (by_equality T.eq) (shown result) T.eq }
         ensures settled { IsGrouped T.eq (Self.items self.now) → IsSettledApart (by_equality T.eq) (shown result) T.eq }
@@ -166,7 +162,7 @@ pub trait GroupBy<T>: AsSlice<T> {
     where
         T: PartialEq,
         ensures remainder { (shown result).remainder ≡ Self.items self.now }
-        ensures asked { result.judge.questions.asked ≡ 0 }
+        ensures asked { result.judge.asked ≡ 0 }
         ensures callable { IsCallableApart (by_equality T.eq) (shown result) }
         ensures computes { ComputesApart (by_equality T.eq) (shown result) T.eq }
         ensures settled { IsGrouped T.eq (Self.items self.now) → IsSettledApart (by_equality T.eq) (shown result) T.eq }

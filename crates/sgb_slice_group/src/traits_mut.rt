@@ -74,7 +74,7 @@ pub trait GroupByMut<T> {
     where
         T: PartialEq,
         ensures remainder { result.remainder ≡ elements self.entry.now }
-        ensures asked { result.judge.questions.asked ≡ 0 }
+        ensures asked { result.judge.asked ≡ 0 }
         ensures callable { IsCallable (by_equality T.eq) (seen result) }
         ensures settled { IsSettled (by_equality T.eq) (seen result) T.eq }
         ensures loans { NothingOut result.loans.root result.loans }
@@ -128,7 +128,7 @@ pub trait GroupByMut<T> {
     where
         T: PartialEq,
         ensures remainder { result.remainder ≡ elements self.entry.now }
-        ensures asked { result.judge.questions.asked ≡ 0 }
+        ensures asked { result.judge.asked ≡ 0 }
         ensures callable { IsCallableApart (by_equality T.eq) (seen result) }
         ensures computes { ComputesApart (by_equality T.eq) (seen result) T.eq }
         ensures settled { IsGrouped T.eq (elements self.entry.now)
@@ -187,7 +187,7 @@ pub trait GroupByMut<T> {
     where
         T: PartialEq,
         ensures remainder { result.remainder ≡ elements self.entry.now }
-        ensures asked { result.judge.questions.asked ≡ 0 }
+        ensures asked { result.judge.asked ≡ 0 }
         ensures callable { IsCallableApart (by_equality T.eq) (seen result) }
         ensures computes { ComputesApart (by_equality T.eq) (seen result) T.eq }
         ensures settled { IsGrouped T.eq (elements self.entry.now)

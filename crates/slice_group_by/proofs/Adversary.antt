@@ -153,7 +153,8 @@ halving_right (Ask' q p more r less) low high h l x y =
       | inl a ↦
           let same = runs_more q p more r less (Ask' q p more r less) refl l a in
           let i = halving_right more (q + 1) high h.2 l (omega arith) y in
-          (same.0 ∙ i.0, omega (arith, same.1, i.1, digits_half (high - low) (high - (q + 1)) (omega (arith, h.0)) (omega (arith, h.0, h.1))))
+          let half = digits_half (high - low) (high - (q + 1)) (omega (arith, h.0)) (omega (arith, h.0, h.1)) in
+          (same.0 ∙ i.0, omega (arith, same.1, i.1, half))
       | inr a ↦
           let same = runs_less q p more r less (Ask' q p more r less) refl l a in
           let i = halving_right less low q h.3 l x a in

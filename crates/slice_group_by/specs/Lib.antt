@@ -3,6 +3,7 @@ pub mod Walk
 pub mod Ranks
 pub mod Plans
 pub mod Join
+pub mod Counts
 pub use Rattle.sgb_search.specs.Split
 pub use Rattle.sgb_search.specs.Judges
 pub use Rattle.sgb_search.specs.Calls

@@ -19,7 +19,9 @@ IsRight plan low high = (l : ℕ) → low ≤ l → l ≤ high → (run plan l).
 abbrev pub IsRefuted : Plan → ℕ → ℕ → Type 0
 IsRefuted plan n l = ((run plan l).0 ≢ l) ⊎ (digits (n - 1) ≤ (run plan l).1)
 
--- the plan halves the lengths from low up to high: it answers where one is left, and else asks about the middle one and halves on both sides
+-- the plan halves the lengths from low up to high: it answers where one is left, and else asks about the middle one and halves on both
+-- sides
 abbrev pub IsHalvingPlan : ℕ → ℕ → Plan → Type 0
 IsHalvingPlan low high (Answer a) = (low ≡ high) × (a ≡ low)
-IsHalvingPlan low high (Ask' q _ more _ less) = (low < high) × (q ≡ low + (high - low) / 2) × IsHalvingPlan (q + 1) high more × IsHalvingPlan low q less
+IsHalvingPlan low high (Ask' q _ more _ less) =
+    (low < high) × (q ≡ low + (high - low) / 2) × IsHalvingPlan (q + 1) high more × IsHalvingPlan low q less

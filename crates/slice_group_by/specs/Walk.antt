@@ -28,8 +28,10 @@ given_at e ds [] = []
 abbrev pub Partition : {A : Type 0} → List End → List (Option (List A)) → List A → List A → Type 0
 Partition ends groups rest whole = concat (given_at Front ends groups) ++ rest ++ concat (reverse (given_at Back ends groups)) ≡ whole
 
--- exactly one list of pieces ps is the split of xs, the groups are the answers of a two-ended queue of ps, and ys is split into what is left of ps
-pub record AnswersAsQueue {A : Type 0} (p : A → A → Bool) (xs : List A) (ends : List End) (groups : List (Option (List A))) (ys : List A) (ps : List (List A)) : Type 0 where
+-- exactly one list of pieces ps is the split of xs, the groups are the answers of a two-ended queue of ps, and ys is split into what is
+-- left of ps
+pub record AnswersAsQueue {A : Type 0} (p : A → A → Bool) (xs : List A) (ends : List End) (groups : List (Option (List A))) (ys : List A)
+    (ps : List (List A)) : Type 0 where
   pub is_split : IsSplit p xs ps
   pub only : (qs : List (List A)) → IsSplit p xs qs → qs ≡ ps
   pub gave : groups ≡ pops ps ends

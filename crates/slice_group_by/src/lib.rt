@@ -18,17 +18,15 @@ mod counts;
 mod families;
 mod join;
 pub mod laws;
-mod linear_str;
-mod linear_str_mut;
 pub mod loans;
 mod plans;
 mod queue;
 mod ranks;
 mod slices;
-mod slices_mut;
 mod sorted;
 #[cfg(test)]
 mod tests;
+mod texts;
 
 pub use join::MergeJoin;
 pub use plans::{Plan, refute};

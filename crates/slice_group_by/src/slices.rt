@@ -1,7 +1,8 @@
-//! The groups of a slice for reading as queues.
+//! The groups of a slice as queues.
 use crate::queue::GroupQueue;
 use sgb_search::judge::Judge;
 use sgb_slice_group::groups::{GroupEnd, SliceGroups};
+use sgb_slice_group::groups_mut::SliceGroupsMut;
 
 impl<'a, T, J: Judge<T> + Drop, C: GroupEnd> GroupQueue for SliceGroups<'a, T, J, C> {
     type Item = &'a [T];
@@ -60,4 +61,58 @@ impl<'a, T, J: Judge<T> + Drop, C: GroupEnd> GroupQueue for SliceGroups<'a, T, J
     ghost asks = { λ e s group t h. asks_seen _ _ _ shown s t
         (C.asks_due T J J.Judge e (shown s) (option_copied group) (shown t)
         (call (C.asks T J J.Judge) e s group t h)) };
+}
+
+// What holds of the groups for reading holds of what these show.
+impl<'a, T, J: Judge<T> + Drop, C: GroupEnd> GroupQueue for SliceGroupsMut<'a, T, J, C> {
+    type Item = &'a mut [T];
+
+    ghost use Rattle.std.specs.Option.{option_copied_mut};
+    ghost use Rattle.sgb_search.specs.Judges.{IsRunOf};
+    ghost use Rattle.sgb_search.proofs.Calls.{part, asks_seen};
+    ghost use Rattle.sgb_search.proofs.Runs.{run_of_none, run_of_more};
+    ghost use Rattle.sgb_slice_group.specs.Gives.{seen, IsCallableByMut, GivesMut};
+
+    ghost Element = { T };
+
+    ghost remainder = { λ q. q.remainder };
+
+    ghost shows = { λ group. group.now };
+
+    ghost is_settled = { λ q. C.settled T J J.Judge (seen q) };
+
+    ghost gives = { GivesMut (C.asks T J J.Judge) };
+
+    ghost asked = { λ q r n. IsRunOf J.may_ask J.answers n q.judge r.judge };
+
+    ghost due = { λ q. C.due T q.remainder };
+
+    ghost exact = { C.exact };
+
+    ghost can_pop = { IsCallableByMut (C.allowed T) J.Judge };
+
+    #[inline]
+    fn pop_front(&mut self) -> Option<&'a mut [T]> {
+        self.next()
+    }
+
+    #[inline]
+    fn pop_back(&mut self) -> Option<&'a mut [T]> {
+        self.next_back()
+    }
+
+    ghost part = { λ e s group t h. part (C.asks T J J.Judge) e (seen s) (option_copied_mut group) (seen t) h.0 };
+
+    ghost none = { λ _ _ _ h. h.1 };
+
+    ghost piece = { λ e s group t p h. C.piece T J J.Judge e (seen s) (option_copied_mut group) (seen t) p h.0 };
+
+    ghost keeps = { λ e s group t h. C.keeps T J J.Judge e (seen s) (option_copied_mut group) (seen t) h.0 };
+
+    ghost asked_none = { λ q. run_of_none J.may_ask J.answers q.judge };
+
+    ghost asked_more = { λ q r t. run_of_more J.may_ask J.answers q.judge r.judge t.judge };
+
+    ghost asks = { λ e s group t h. asks_seen _ _ _ seen s t
+        (C.asks_due T J J.Judge e (seen s) (option_copied_mut group) (seen t) h.0) };
 }

@@ -62,7 +62,7 @@ pub fn walk_through<'a, T: PartialEq>(
     out: &mut [Option<&'a [T]>],
 ) -> LinearGroup<'a, T>
     requires { length out.old ≡ length ends.now }
-    ensures { (shown result).remainder ≡ [] → result.judge.questions.asked ≡ length xs.now - 1 }
+    ensures { (shown result).remainder ≡ [] → result.judge.asked ≡ length xs.now - 1 }
 {
     let mut groups = LinearGroup::new(xs);
     each_pair_asked_once(&groups);

@@ -135,7 +135,7 @@ fn first_len<T: PartialEq>(slice: &[T]) -> usize
 }
 
 fn after_first<'a, T: PartialEq>(slice: &'a [T]) -> BinaryGroup<'a, T>
-    ensures { result.judge.questions.asked ≤ digits (length slice.now - 1) }
+    ensures { result.judge.asked ≤ digits (length slice.now - 1) }
 {
     equality_judges::<T>();
     let mut groups = BinaryGroup::new(slice);

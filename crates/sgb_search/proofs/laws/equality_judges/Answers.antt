@@ -16,4 +16,4 @@ pub returns-clause-computes_apart : goal.returns-clause-computes_apart
 returns-clause-computes_apart g c xs = equality_settled g.T.PartialEq.eq (AreApart xs)
 
 pub returns-clause-counts : goal.returns-clause-counts
-returns-clause-counts g c j k n a = equality_counts g.T.PartialEq.eq j a.0 k a.1 ∙ ap (λ m. j.questions.asked + m) a.2
+returns-clause-counts g c j k n a = equality_counts g.T.PartialEq.eq j a.0 k a.1 ∙ ap (λ m. j.asked + m) a.2

@@ -12,8 +12,8 @@ returns g c = by c.next-first.result c.next-first.ensures.steps
   where
     by : (o : Option (Bor (List g.row.T.Denot)))
         → Gives (SearchQuestions (by_equality g.T.PartialEq.eq) binary) Front c.new-groups.result o c.next-first.new.self
-        → c.next-first.new.self.judge.questions.asked ≤ digits (length c.args.slice.now - 1)
-    by None h = omega (arith, c.new-groups.ensures.asked, ap (λ s. s.judge.questions.asked) h.1)
+        → c.next-first.new.self.judge.asked ≤ digits (length c.args.slice.now - 1)
+    by None h = omega (arith, c.new-groups.ensures.asked, ap (λ s. s.judge.asked) h.1)
     by (Some x) h =
         let counts = c.equality_judges.ensures.counts c.new-groups.result.judge c.next-first.new.self.judge (length h.asked.questions)
         (h.asked.questions, h.asked.run, refl) in

@@ -41,13 +41,13 @@ use Rattle.sgb_loans.specs.Loans.{loan_owns, cut_link, HandsOut, part_at, rest_a
 use Rattle.sgb_loans.specs.contracts.loans.Loans as loans
 use Rattle.sgb_loans.specs.contracts.loans.split as g
 use Rattle.sgb_loans.proofs.loans.split.Met as callee
-use Rattle.sgb_loans.specs.contracts.loans.Loans.cut_in_two.{ended, clauses}
-use Rattle.sgb_loans.specs.contracts.loans.Loans.cut_in_two.Key.{name as #self}
-use Rattle.sgb_loans.proofs.loans.Loans.cut_in_two.Statement.{statement}
-use Rattle.sgb_loans.proofs.loans.Loans.cut_in_two.Code as code
+use Rattle.sgb_loans.specs.contracts.loans.Loans.cut_at.{ended, clauses}
+use Rattle.sgb_loans.specs.contracts.loans.Loans.cut_at.Key.{name as #self}
+use Rattle.sgb_loans.proofs.loans.Loans.cut_at.Statement.{statement}
+use Rattle.sgb_loans.proofs.loans.Loans.cut_at.Code as code
 
-pub cut_in_two_spec : {M : Type 1} → statement M
-cut_in_two_spec 𝓤 𝓛 𝓜 𝓡 wired T L =
+pub cut_at_spec : {M : Type 1} → statement M
+cut_at_spec 𝓤 𝓛 𝓜 𝓡 wired T L =
     let H = 𝓛.H in let 𝓣 = tables 𝓤 H 𝓜 𝓡 𝓡.env in let R : RattleType = param 0 T in let LR = param_laws 0 T L in
     let En = ended T in let c = clauses T 𝓛 𝓜.mem 𝓡.returns in let S : RattleType = loans.the_row R in
     let inst = layouts (a_type ∷ []) (T, tt) in let fn = inst_fn inst code.function in

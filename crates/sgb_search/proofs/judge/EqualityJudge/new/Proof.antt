@@ -1,3 +1,4 @@
+-- `new` makes the empty struct, whose number is none.
 use mathlib.Core.Path.{refl}
 use mathlib.Core.List.{[], ◌∷◌}
 use seplogic.Ra.Ura.{Ura}
@@ -20,11 +21,11 @@ use denote.Triple.Entry.{on_entry, alive}
 use denote.Triple.Spec.{Meets, triple_of}
 use denote.Triple.Table.{entered}
 use denote.Triple.Walked.{says, Stays, walk_of, Walks, ends_at, walked, walk_Meets}
-use Rattle.sgb_search.specs.contracts.judge.Questions.none.Key.{name as key}
-use Rattle.sgb_search.specs.contracts.judge.Questions.none as f
-use Rattle.sgb_search.proofs.judge.Questions.none.Statement as stated
-use Rattle.sgb_search.proofs.judge.Questions.none.Code as code
-use Rattle.sgb_search.specs.contracts.judge.Questions as made
+use Rattle.sgb_search.specs.contracts.judge.EqualityJudge.new.Key.{name as key}
+use Rattle.sgb_search.specs.contracts.judge.EqualityJudge.new as f
+use Rattle.sgb_search.proofs.judge.EqualityJudge.new.Statement as stated
+use Rattle.sgb_search.proofs.judge.EqualityJudge.new.Code as code
+use Rattle.sgb_search.specs.contracts.judge.EqualityJudge as made
 
 abbrev stayed : Stays (f.ended).signature.params (f.ended).kept
 stayed = tt
@@ -57,9 +58,9 @@ meets {𝓤 = 𝓤} 𝓛 mem run 𝓣 =
     walk_Meets 𝓛 f.ended stayed tt (f.clauses 𝓛 mem run) (WpFn 𝓤 𝓛.H 𝓣.C 𝓣.Λ code.function)
     (WpFn-mono 𝓤 𝓛.H 𝓛.laws 𝓣 code.function) (walks 𝓛 mem run 𝓣.C 𝓣.Λ)
 
-pub none_spec : {M : Type 1} → stated.statement M
+pub new_spec : {M : Type 1} → stated.statement M
 unfolding tables_of
-none_spec 𝓤 𝓛 𝓜 𝓡 wired =
+new_spec 𝓤 𝓛 𝓜 𝓡 wired =
     entered 𝓤 𝓛.H (triple_of 𝓛 f.signature (f.spec 𝓛 𝓜.mem 𝓡.returns))
     (tables 𝓤 𝓛.H 𝓜 𝓡 𝓡.env).C (tables 𝓤 𝓛.H 𝓜 𝓡 𝓡.env).Λ key code.function (code.unfolded 𝓤 𝓛.H 𝓜 𝓡 wired)
     (meets 𝓛 𝓜.mem 𝓡.returns (tables_of 𝓤 𝓛.H 𝓜 (tables 𝓤 𝓛.H 𝓜 𝓡 𝓡.env)))

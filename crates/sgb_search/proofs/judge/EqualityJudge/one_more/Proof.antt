@@ -28,11 +28,11 @@ use denote.Triple.Entry.{on_entry, alive, Args}
 use denote.Triple.Spec.{Meets, triple_of}
 use denote.Triple.Table.{entered}
 use denote.Triple.Walked.{says, stay_none_ref, Stays, walk_of, Walks, ends_at, walked, Goes-none_ref, walk_Meets}
-use Rattle.sgb_search.specs.contracts.judge.Questions.one_more.Key.{name as key}
-use Rattle.sgb_search.specs.contracts.judge.Questions.one_more as f
-use Rattle.sgb_search.proofs.judge.Questions.one_more.Statement as stated
-use Rattle.sgb_search.proofs.judge.Questions.one_more.Code as code
-use Rattle.sgb_search.specs.contracts.judge.Questions as made
+use Rattle.sgb_search.specs.contracts.judge.EqualityJudge.one_more.Key.{name as key}
+use Rattle.sgb_search.specs.contracts.judge.EqualityJudge.one_more as f
+use Rattle.sgb_search.proofs.judge.EqualityJudge.one_more.Statement as stated
+use Rattle.sgb_search.proofs.judge.EqualityJudge.one_more.Code as code
+use Rattle.sgb_search.specs.contracts.judge.EqualityJudge as made
 
 abbrev stayed : Stays (f.ended).signature.params (f.ended).kept
 stayed = (stay_none_ref (0 ∷ []) tt (plain (λ _. made.the_row)) yes, tt)
