@@ -52,20 +52,12 @@ impl<'a, J> LinearStrGroups<'a, J> {
         }
     }
 
-    #[inline]
-    fn rest(&self) -> &'a str
-        ensures value { result.now ≡ (shown_text self.now).text }
-        ensures fits { self.now.low + length result.now < 2 ^ 64 }
-    {
-        part(self.string, self.low, self.high)
-    }
-
     /// The characters that no call has handed out yet.
     #[inline]
     pub fn as_str(&self) -> &str
         ensures { result.now ≡ (shown_text self.now).text }
     {
-        self.rest()
+        part(self.string, self.low, self.high)
     }
 
     /// How many bytes no call has handed out yet.
@@ -152,7 +144,7 @@ impl<'a, J: Judge<char> + Drop> LinearStrGroups<'a, J> {
         ensures gives { GivesText J.Judge end.now self.old result self.new }
         ensures callable { IsCallableText J.Judge (shown_text self.new) }
     {
-        let rest = self.rest();
+        let rest = part(self.string, self.low, self.high);
         if rest.is_empty() {
             return None;
         }

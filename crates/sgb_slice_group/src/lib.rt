@@ -12,7 +12,5 @@ pub mod groups;
 pub mod groups_mut;
 pub mod linear_group;
 pub mod searching;
-#[cfg(test)]
-mod tests;
 pub mod traits;
 pub mod traits_mut;

@@ -24,8 +24,6 @@ mod queue;
 mod ranks;
 mod slices;
 mod sorted;
-#[cfg(test)]
-mod tests;
 mod texts;
 
 pub use join::MergeJoin;

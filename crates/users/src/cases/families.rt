@@ -1,135 +1,39 @@
-//! Groups of equal numbers, once for the three families: slices with their groups, and calls that have to answer them.
-use slice_group_by::{BinaryGroup, ExponentialGroup, GroupQueue, LinearGroup};
-
-/// A slice and its groups.
-#[derive(Clone, Copy)]
-pub(super) struct Case {
-    pub slice: &'static [i32],
-    pub groups: &'static [&'static [i32]],
-}
-
-pub(super) const NOTHING: Case = Case {
-    slice: &[],
-    groups: &[],
+//! Users' functions over the families of groups.
+use crate::families::{
+    after_first, count_sorted, first_len, grouped_at_small_cases, sort_and_count, walk_by_first,
+    walk_by_tens, walk_families, walk_families_mut,
 };
+use slice_group_by::End;
 
-pub(super) const ONE_LITTLE_GROUP: Case = Case {
-    slice: &[1],
-    groups: &[&[1]],
-};
-
-pub(super) const ONE_BIG_GROUP: Case = Case {
-    slice: &[1, 1, 1, 1],
-    groups: &[&[1, 1, 1, 1]],
-};
-
-pub(super) const TWO_EQUAL_GROUPS: Case = Case {
-    slice: &[1, 1, 1, 1, 2, 2, 2, 2],
-    groups: &[&[1, 1, 1, 1], &[2, 2, 2, 2]],
-};
-
-pub(super) const TWO_LITTLE_GROUPS: Case = Case {
-    slice: &[1, 2],
-    groups: &[&[1], &[2]],
-};
-
-pub(super) const THREE_GROUPS: Case = Case {
-    slice: &[1, 1, 1, 2, 2, 2, 3, 3],
-    groups: &[&[1, 1, 1], &[2, 2, 2], &[3, 3]],
-};
-
-pub(super) const THREE_LITTLE_GROUPS: Case = Case {
-    slice: &[1, 2, 3],
-    groups: &[&[1], &[2], &[3]],
-};
-
-/// A family of groups of equal numbers.
-pub(super) trait Family {
-    type Groups: GroupQueue<Item = &'static [i32]> + Drop;
-
-    /// The groups of the slice, none of which has come yet.
-    fn over(slice: &'static [i32]) -> Self::Groups
-        ensures { Self.Groups.GroupQueue.can_pop result };
-
-    /// What `last` answers of them.
-    fn last_of(slice: &'static [i32]) -> Option<&'static [i32]>;
+#[test]
+fn definitions_at_small_cases() {
+    grouped_at_small_cases();
 }
 
-pub(super) struct Linear;
-
-impl Family for Linear {
-    type Groups = LinearGroup<'static, i32>;
-
-    fn over(slice: &'static [i32]) -> LinearGroup<'static, i32> {
-        LinearGroup::new(slice)
-    }
-
-    fn last_of(slice: &'static [i32]) -> Option<&'static [i32]> {
-        LinearGroup::new(slice).last()
-    }
+#[test]
+fn walks_families(rt: HostRuntime) {
+    let slice = [1u8, 1, 2];
+    let mut linear: [Option<&[u8]>; 2] = [None; 2];
+    let mut binary: [Option<&[u8]>; 2] = [None; 2];
+    let mut exponential: [Option<&[u8]>; 2] = [None; 2];
+    walk_families(
+        &slice,
+        &[End::Back, End::Front],
+        &mut linear,
+        &mut binary,
+        &mut exponential,
+    );
+    assert_eq!(rt; binary[0], Some([2].as_slice()));
+    assert_eq!(rt; exponential[1], Some([1, 1].as_slice()));
 }
 
-pub(super) struct Binary;
-
-impl Family for Binary {
-    type Groups = BinaryGroup<'static, i32>;
-
-    fn over(slice: &'static [i32]) -> BinaryGroup<'static, i32> {
-        BinaryGroup::new(slice)
-    }
-
-    fn last_of(slice: &'static [i32]) -> Option<&'static [i32]> {
-        BinaryGroup::new(slice).last()
-    }
-}
-
-pub(super) struct Exponential;
-
-impl Family for Exponential {
-    type Groups = ExponentialGroup<'static, i32>;
-
-    fn over(slice: &'static [i32]) -> ExponentialGroup<'static, i32> {
-        ExponentialGroup::new(slice)
-    }
-
-    fn last_of(slice: &'static [i32]) -> Option<&'static [i32]> {
-        ExponentialGroup::new(slice).last()
-    }
-}
-
-/// Whether calls at the front give the groups in order, and then nothing comes at either end.
-pub(super) fn come_from_front<F: Family>(case: Case) -> bool {
-    let mut queue = F::over(case.slice);
-    for group in case.groups {
-        if queue.pop_front() != Some(*group) {
-            return false;
-        }
-    }
-    queue.pop_front().is_none() && queue.pop_front().is_none() && queue.pop_back().is_none()
-}
-
-/// Whether calls at the back give the groups, the last one first, and then nothing comes at either end.
-pub(super) fn come_from_back<F: Family>(case: Case) -> bool {
-    let mut queue = F::over(case.slice);
-    for group in case.groups.iter().rev() {
-        if queue.pop_back() != Some(*group) {
-            return false;
-        }
-    }
-    queue.pop_back().is_none() && queue.pop_back().is_none() && queue.pop_front().is_none()
-}
-
-/// Whether calls at both ends in turn give three groups, the first, the last and the middle one, and then nothing.
-pub(super) fn come_from_both_ends<F: Family>(case: Case) -> bool {
-    let mut queue = F::over(case.slice);
-    queue.pop_front() == case.groups.first().copied()
-        && queue.pop_back() == case.groups.last().copied()
-        && queue.pop_front() == case.groups.get(1).copied()
-        && queue.pop_back().is_none()
-        && queue.pop_front().is_none()
-}
-
-/// Whether `last` gives the last group, or nothing where there is none.
-pub(super) fn ends_with_last<F: Family>(case: Case) -> bool {
-    F::last_of(case.slice) == case.groups.last().copied()
+#[test]
+fn counts_sorted(rt: HostRuntime) {
+    assert_eq!(rt; count_sorted(&[1, 1, 2, 5, 5]), Some(3));
+    assert_eq!(rt; count_sorted(&[2, 1]), None);
+    let mut mixed = [3, 1, 3, 2, 1];
+    assert_eq!(rt; sort_and_count(&mut mixed), 3);
+    assert_eq!(rt; mixed, [1, 1, 2, 3, 3]);
+    assert_eq!(rt; first_len(&[1, 1, 2]), 2);
+    assert_eq!(rt; after_first(&[1, 1, 2]).next(), Some([2].as_slice()));
 }

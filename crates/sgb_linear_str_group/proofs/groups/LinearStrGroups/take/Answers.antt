@@ -6,10 +6,10 @@ use Rattle.sgb_linear_str_group.proofs.groups.LinearStrGroups.take.Goals as goal
 
 pub returns-in-Front-clause-gives : goal.returns-in-Front-clause-gives
 returns-in-Front-clause-gives g c =
-    let rest = c.rest-rest.ensures in
+    let rest = c.part-rest.ensures in
     let cut = c.first_len-len.ensures in
     rw c.in-Front.is
-    (front_cut g.J.Judge _ _ _ _ rest.value c.rest-rest.utf8 _ cut.boundary (omega arith) _ _ cut.nonempty cut.asked _
+    (front_cut g.J.Judge _ _ _ _ rest.value c.part-rest.utf8 _ cut.boundary (omega arith) _ _ cut.nonempty cut.asked _
     c.split_at.ensures.front)
 
 pub returns-in-Front-clause-callable : goal.returns-in-Front-clause-callable
@@ -18,9 +18,9 @@ returns-in-Front-clause-callable g c =
 
 pub returns-in-Back-clause-gives : goal.returns-in-Back-clause-gives
 returns-in-Back-clause-gives g c =
-    let rest = c.rest-rest.ensures in
+    let rest = c.part-rest.ensures in
     let cut = c.last_len.ensures in
-    rw c.in-Back.is (back_cut g.J.Judge _ _ _ _ rest.value c.rest-rest.utf8 _ cut.boundary (omega (arith, cut.nonempty, cut.within)) _ _
+    rw c.in-Back.is (back_cut g.J.Judge _ _ _ _ rest.value c.part-rest.utf8 _ cut.boundary (omega (arith, cut.nonempty, cut.within)) _ _
     (omega (arith, cut.nonempty, cut.within)) cut.asked _ c.split_at-in-Back.ensures.back)
 
 pub returns-in-Back-clause-callable : goal.returns-in-Back-clause-callable

@@ -1,0 +1,145 @@
+//! Each binary and exponential type searches as its name says: what its `next` gives, in the words of the contracts.
+ghost use Rattle.slice_group_by.specs.Judges.{by_equality, by_key, by_predicate};
+ghost use Rattle.slice_group_by.specs.Searching.{IsCallableApart, SearchQuestions, exponential, binary};
+ghost use Rattle.slice_group_by.specs.End.TheVariants.{Front};
+ghost use Rattle.slice_group_by.specs.Gives.{shown, seen, Gives, GivesMut};
+
+use slice_group_by::{
+    BinaryGroup, BinaryGroupBy, BinaryGroupByKey, BinaryGroupByKeyMut, BinaryGroupByMut,
+    BinaryGroupMut, ExponentialGroup, ExponentialGroupBy, ExponentialGroupByKey,
+    ExponentialGroupByKeyMut, ExponentialGroupByMut, ExponentialGroupMut,
+};
+
+fn binary_halves<'a, T: PartialEq>(groups: &mut BinaryGroup<'a, T>) -> Option<&'a [T]>
+    ensures { Gives (SearchQuestions (by_equality T.eq) binary) Front groups.old result groups.new }
+{
+    groups.next()
+}
+
+fn binary_by_halves<'a, T, P: FnMut(&T, &T) -> bool>(
+    groups: &mut BinaryGroupBy<'a, T, P>,
+) -> Option<&'a [T]>
+    requires { IsCallableApart (by_predicate P.FnMut) (shown groups.old) }
+    ensures { Gives (SearchQuestions (by_predicate P.FnMut) binary) Front groups.old result groups.new }
+{
+    groups.next()
+}
+
+fn binary_by_key_halves<'a, T, F: FnMut(&T) -> K, K: PartialEq + Drop>(
+    groups: &mut BinaryGroupByKey<'a, T, F, K>,
+) -> Option<&'a [T]>
+    requires { IsCallableApart (by_key F.FnMut K.eq) (shown groups.old) }
+    ensures { Gives (SearchQuestions (by_key F.FnMut K.eq) binary) Front groups.old result groups.new }
+{
+    groups.next()
+}
+
+fn binary_mut_halves<'a, T: PartialEq>(groups: &mut BinaryGroupMut<'a, T>) -> Option<&'a mut [T]>
+    ensures { GivesMut (SearchQuestions (by_equality T.eq) binary) Front groups.old result groups.new }
+{
+    groups.next()
+}
+
+fn binary_by_mut_halves<'a, T, P: FnMut(&T, &T) -> bool>(
+    groups: &mut BinaryGroupByMut<'a, T, P>,
+) -> Option<&'a mut [T]>
+    requires { IsCallableApart (by_predicate P.FnMut) (seen groups.old) }
+    ensures { GivesMut (SearchQuestions (by_predicate P.FnMut) binary) Front groups.old result groups.new }
+{
+    groups.next()
+}
+
+fn binary_by_key_mut_halves<'a, T, F: FnMut(&T) -> K, K: PartialEq + Drop>(
+    groups: &mut BinaryGroupByKeyMut<'a, T, F, K>,
+) -> Option<&'a mut [T]>
+    requires { IsCallableApart (by_key F.FnMut K.eq) (seen groups.old) }
+    ensures { GivesMut (SearchQuestions (by_key F.FnMut K.eq) binary) Front groups.old result groups.new }
+{
+    groups.next()
+}
+
+fn exponential_gallops<'a, T: PartialEq>(groups: &mut ExponentialGroup<'a, T>) -> Option<&'a [T]>
+    ensures { Gives (SearchQuestions (by_equality T.eq) exponential) Front groups.old result groups.new }
+{
+    groups.next()
+}
+
+fn exponential_by_gallops<'a, T, P: FnMut(&T, &T) -> bool>(
+    groups: &mut ExponentialGroupBy<'a, T, P>,
+) -> Option<&'a [T]>
+    requires { IsCallableApart (by_predicate P.FnMut) (shown groups.old) }
+    ensures { Gives (SearchQuestions (by_predicate P.FnMut) exponential) Front groups.old result groups.new }
+{
+    groups.next()
+}
+
+fn exponential_by_key_gallops<'a, T, F: FnMut(&T) -> K, K: PartialEq + Drop>(
+    groups: &mut ExponentialGroupByKey<'a, T, F, K>,
+) -> Option<&'a [T]>
+    requires { IsCallableApart (by_key F.FnMut K.eq) (shown groups.old) }
+    ensures { Gives (SearchQuestions (by_key F.FnMut K.eq) exponential) Front groups.old result groups.new }
+{
+    groups.next()
+}
+
+fn exponential_mut_gallops<'a, T: PartialEq>(
+    groups: &mut ExponentialGroupMut<'a, T>,
+) -> Option<&'a mut [T]>
+    ensures { GivesMut (SearchQuestions (by_equality T.eq) exponential) Front groups.old result groups.new }
+{
+    groups.next()
+}
+
+fn exponential_by_mut_gallops<'a, T, P: FnMut(&T, &T) -> bool>(
+    groups: &mut ExponentialGroupByMut<'a, T, P>,
+) -> Option<&'a mut [T]>
+    requires { IsCallableApart (by_predicate P.FnMut) (seen groups.old) }
+    ensures { GivesMut (SearchQuestions (by_predicate P.FnMut) exponential) Front groups.old result groups.new }
+{
+    groups.next()
+}
+
+fn exponential_by_key_mut_gallops<'a, T, F: FnMut(&T) -> K, K: PartialEq + Drop>(
+    groups: &mut ExponentialGroupByKeyMut<'a, T, F, K>,
+) -> Option<&'a mut [T]>
+    requires { IsCallableApart (by_key F.FnMut K.eq) (seen groups.old) }
+    ensures { GivesMut (SearchQuestions (by_key F.FnMut K.eq) exponential) Front groups.old result groups.new }
+{
+    groups.next()
+}
+
+#[test]
+fn each_searches_as_named(rt: HostRuntime) {
+    let slice = [1, 1, 2];
+    assert!(rt; binary_halves(&mut BinaryGroup::new(&slice)).is_some());
+    assert!(rt; binary_by_halves(&mut BinaryGroupBy::new(&slice, |a, b| a == b)).is_some());
+    assert!(rt; binary_by_key_halves(&mut BinaryGroupByKey::new(&slice, |x| *x)).is_some());
+    assert!(rt; exponential_gallops(&mut ExponentialGroup::new(&slice)).is_some());
+    assert!(rt;
+        exponential_by_gallops(&mut ExponentialGroupBy::new(&slice, |a, b| a == b)).is_some()
+    );
+    assert!(rt;
+        exponential_by_key_gallops(&mut ExponentialGroupByKey::new(&slice, |x| *x)).is_some()
+    );
+    let mut slice = [1, 1, 2];
+    assert!(rt; binary_mut_halves(&mut BinaryGroupMut::new(&mut slice)).is_some());
+    assert!(rt;
+        binary_by_mut_halves(&mut BinaryGroupByMut::new(&mut slice, |a, b| a == b)).is_some()
+    );
+    assert!(rt;
+        binary_by_key_mut_halves(&mut BinaryGroupByKeyMut::new(&mut slice, |x| *x)).is_some()
+    );
+    assert!(rt; exponential_mut_gallops(&mut ExponentialGroupMut::new(&mut slice)).is_some());
+    assert!(rt;
+        exponential_by_mut_gallops(&mut ExponentialGroupByMut::new(
+            &mut slice,
+            |a, b| a == b
+        )).is_some()
+    );
+    assert!(rt;
+        exponential_by_key_mut_gallops(&mut ExponentialGroupByKeyMut::new(
+            &mut slice,
+            |x| *x
+        )).is_some()
+    );
+}

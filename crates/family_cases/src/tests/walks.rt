@@ -1,0 +1,58 @@
+//! Walks at concrete types, and the definitions of a queue computed at small cases.
+ghost use Rattle.std.specs.Prelude.{◌≡◌, ℕ, [], ◌∷◌, Some, None};
+ghost use Rattle.slice_group_by.specs.End.TheVariants.{Front, Back};
+ghost use Rattle.slice_group_by.specs.Queue.{pops, after_pops};
+ghost use Rattle.slice_group_by.specs.Walk.{given_at};
+
+use slice_group_by::{End, LinearGroup, walk};
+
+#[test]
+fn from_both_ends(rt: HostRuntime) {
+    let slice = [1, 1, 1, 3, 3, 2, 2, 2];
+    let mut groups = LinearGroup::new(&slice);
+    let ends = [End::Front, End::Back, End::Front, End::Back, End::Front];
+    let mut out: [Option<&[i32]>; 5] = [None; 5];
+    walk(&mut groups, &ends, &mut out);
+    assert_eq!(rt; out[0], Some([1, 1, 1].as_slice()));
+    assert_eq!(rt; out[1], Some([2, 2, 2].as_slice()));
+    assert_eq!(rt; out[2], Some([3, 3].as_slice()));
+    assert_eq!(rt; out[3], None);
+    assert_eq!(rt; out[4], None);
+}
+
+#[test]
+fn with_no_ends(rt: HostRuntime) {
+    let slice = [1, 1, 2];
+    let mut groups = LinearGroup::new(&slice);
+    let ends: [End; 0] = [];
+    let mut out: [Option<&[i32]>; 0] = [];
+    walk(&mut groups, &ends, &mut out);
+    assert_eq!(rt; groups.size_hint(), (1, Some(3)));
+    assert_eq!(rt; groups.next(), Some([1, 1].as_slice()));
+}
+
+#[test]
+fn over_nothing(rt: HostRuntime) {
+    let slice: [i32; 0] = [];
+    let other = [7];
+    let mut groups = LinearGroup::new(&slice);
+    let mut out: [Option<&[i32]>; 2] = [Some(&other); 2];
+    walk(&mut groups, &[End::Front, End::Back], &mut out);
+    assert_eq!(rt; out[0], None);
+    assert_eq!(rt; out[1], None);
+}
+
+fn queue_of_three()
+    ensures answers { pops {X = ℕ} (1 ∷ 2 ∷ 3 ∷ []) (Front ∷ Back ∷ Front ∷ Back ∷ Front ∷ [])
+        ≡ Some 1 ∷ Some 3 ∷ Some 2 ∷ None ∷ None ∷ [] }
+    ensures left { after_pops {X = ℕ} (1 ∷ 2 ∷ 3 ∷ []) (Front ∷ Back ∷ []) ≡ 2 ∷ [] }
+    ensures front { given_at {X = ℕ} Front (Front ∷ Back ∷ Front ∷ Back ∷ Front ∷ [])
+        (Some 1 ∷ Some 3 ∷ Some 2 ∷ None ∷ None ∷ []) ≡ 1 ∷ 2 ∷ [] }
+    ensures back { given_at {X = ℕ} Back (Front ∷ Back ∷ Front ∷ Back ∷ Front ∷ [])
+        (Some 1 ∷ Some 3 ∷ Some 2 ∷ None ∷ None ∷ []) ≡ 3 ∷ [] }
+{}
+
+#[test]
+fn definitions_at_small_cases() {
+    queue_of_three();
+}
