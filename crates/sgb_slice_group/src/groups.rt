@@ -33,14 +33,16 @@ pub struct SliceGroups<'a, T, J, C> {
 ///
 /// A call asks about the neighbouring pairs of the remainder from its end on, the left element first from both ends, up
 /// to the first pair that the judge refuses. So a group of g elements costs g questions, or g - 1 if nothing remains after
-/// it. A list of calls asks about no pair twice.
+/// it. A list of calls asks about no pair twice. A call reads the elements that it asks about and no others, and so takes time
+/// by its questions.
 pub type LinearGroups<'a, T, J> = SliceGroups<'a, T, J, Linear>;
 
 /// An iterator over the groups of a slice, from both ends, that finds the end of a group by the search `S`.
 ///
 /// A call asks its judge about the outermost element of the remainder, which stands first from both ends, and one of the
 /// others, and never about an element and itself. By halving it asks at most `digits(n - 1)` questions where n elements
-/// remain, by galloping at most `2 * digits(g) + 1` for a group of g, where `digits` is the number of binary digits.
+/// remain, by galloping at most `2 * digits(g) + 1` for a group of g, where `digits` is the number of binary digits. It reads
+/// no other element, and so takes time by its questions.
 ///
 /// On a slice that is grouped for the judge, as one that is sorted is for `==`, the groups are those of the linear iterators. On
 /// any other, where the judge answers by its arguments alone, a group ends where the innermost element agrees with the
