@@ -1,0 +1,37 @@
+//! The library's walks and searches, as the static library of `crates/bench_ffi` exports them.
+
+/// A function of a slice for reading, as C has it.
+pub type Read = unsafe extern "C" fn(*const u32, usize) -> usize;
+
+/// A function of a slice for writing.
+pub type Write = unsafe extern "C" fn(*mut u32, usize) -> usize;
+
+macro_rules! reading {
+    ($($name:ident)*) => { extern "C" { $(pub fn $name(xs: *const u32, len: usize) -> usize;)* } };
+}
+
+macro_rules! writing {
+    ($($name:ident)*) => { extern "C" { $(pub fn $name(xs: *mut u32, len: usize) -> usize;)* } };
+}
+
+reading! {
+    linear_front linear_back linear_by_front linear_by_back linear_by_key_front linear_by_key_back
+    binary_front binary_back binary_by_front binary_by_back binary_by_key_front binary_by_key_back
+    exponential_front exponential_back exponential_by_front exponential_by_back exponential_by_key_front exponential_by_key_back
+}
+
+writing! {
+    linear_mut_front linear_mut_back linear_by_mut_front linear_by_mut_back linear_by_key_mut_front linear_by_key_mut_back
+    binary_mut_front binary_mut_back binary_by_mut_front binary_by_mut_back binary_by_key_mut_front binary_by_key_mut_back
+    exponential_mut_front exponential_mut_back exponential_by_mut_front exponential_by_mut_back
+    exponential_by_key_mut_front exponential_by_key_mut_back
+}
+
+extern "C" {
+    pub fn text_front(bytes: *const u8, len: usize) -> usize;
+    pub fn text_back(bytes: *const u8, len: usize) -> usize;
+    pub fn text_mut_front(bytes: *mut u8, len: usize) -> usize;
+    pub fn text_mut_back(bytes: *mut u8, len: usize) -> usize;
+    pub fn searches(xs: *const u32, len: usize, keys: *const u32, count: usize) -> usize;
+    pub fn merge_join(left: *const u32, left_len: usize, right: *const u32, right_len: usize) -> usize;
+}

@@ -1,0 +1,71 @@
+//! Slices in groups of stated lengths, and texts.
+
+/// A small generator of numbers (Steele, Lea and Flood's SplitMix64), so that each run has the same inputs.
+pub struct Numbers(pub u64);
+
+impl Numbers {
+    pub fn next(&mut self) -> u64 {
+        self.0 = self.0.wrapping_add(0x9E37_79B9_7F4A_7C15);
+        let mut z = self.0;
+        z = (z ^ (z >> 30)).wrapping_mul(0xBF58_476D_1CE4_E5B9);
+        z = (z ^ (z >> 27)).wrapping_mul(0x94D0_49BB_1331_11EB);
+        z ^ (z >> 31)
+    }
+
+    pub fn below(&mut self, limit: u64) -> u64 {
+        self.next() % limit
+    }
+}
+
+/// How long the groups of an input are.
+#[derive(Clone, Copy)]
+pub enum Lengths {
+    Each(usize),
+    Around(usize),
+}
+
+impl Lengths {
+    pub fn name(self) -> String {
+        match self {
+            Lengths::Each(len) => format!("{len}"),
+            Lengths::Around(len) => format!("~{len}"),
+        }
+    }
+
+    fn next(self, numbers: &mut Numbers) -> usize {
+        match self {
+            Lengths::Each(len) => len,
+            Lengths::Around(len) => 1 + numbers.below(2 * len as u64 - 1) as usize,
+        }
+    }
+}
+
+/// `count` ascending elements in groups of these lengths: the even numbers from 0 on.
+pub fn slice(count: usize, lengths: Lengths) -> Vec<u32> {
+    let mut numbers = Numbers(1);
+    let mut xs = Vec::with_capacity(count);
+    let mut value = 0;
+    while xs.len() < count {
+        let len = lengths.next(&mut numbers).min(count - xs.len());
+        xs.extend(std::iter::repeat(value).take(len));
+        value += 2;
+    }
+    xs
+}
+
+/// About `count` characters in groups of these lengths, of one byte each, or of one to four.
+pub fn text(count: usize, lengths: Lengths, mixed: bool) -> String {
+    let letters: &[char] = if mixed { &['a', 'é', '€', '𝄞'] } else { &['a', 'b', 'c', 'd'] };
+    let mut numbers = Numbers(2);
+    let mut text = String::new();
+    let mut characters = 0;
+    for place in 0.. {
+        if characters >= count {
+            break;
+        }
+        let len = lengths.next(&mut numbers).min(count - characters);
+        text.extend(std::iter::repeat(letters[place % 4]).take(len));
+        characters += len;
+    }
+    text
+}

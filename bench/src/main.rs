@@ -1,0 +1,241 @@
+//! Times the library beside plain Rust over the standard library, in one process, in alternating rounds, on the same inputs.
+//!
+//! The first argument says how many rounds (31 if none does); the tables go to standard output, and the picture of growth to
+//! `growth.svg` in the current folder. `merge FILE..` makes one table of those of several runs.
+mod ffi;
+mod inputs;
+mod merge;
+mod peers;
+mod picture;
+mod timing;
+
+// So many bytes before the library's functions: PAD moves its loops to another place in memory.
+std::arch::global_asm!(
+    ".pushsection .text.place,\"ax\",@progbits",
+    ".globl bench_place",
+    "bench_place:",
+    concat!(".space ", env!("PAD")),
+    ".popsection"
+);
+
+extern "C" {
+    static bench_place: u8;
+}
+
+use inputs::{slice, text, Lengths, Numbers};
+use picture::Line;
+use timing::{in_turn, Time};
+
+const LENGTHS: [Lengths; 6] = [
+    Lengths::Each(1),
+    Lengths::Around(8),
+    Lengths::Each(8),
+    Lengths::Around(1000),
+    Lengths::Each(1000),
+    Lengths::Each(100_000),
+];
+
+/// One line of a table: the library's time, that of each peer, an element or a search, and the ratio to the best peer.
+fn row(name: &str, per: usize, times: &[Time]) {
+    let per = per as f64;
+    let ours = times[0];
+    let least = times[1..].iter().map(|time| time.least).fold(f64::MAX, f64::min);
+    let median = times[1..].iter().map(|time| time.median).fold(f64::MAX, f64::min);
+    println!(
+        "| {name} | {:.3} | {:.3} | {:.3} | {:.3} | {:.2} | {:.2} |",
+        ours.least / per,
+        ours.median / per,
+        least / per,
+        median / per,
+        ours.least / least,
+        ours.median / median
+    );
+}
+
+fn head(what: &str, unit: &str, peers: &str) {
+    println!("\n## {what}\n\nNanoseconds {unit}. Best peer of: {peers}.\n");
+    println!("| input | least | median | peer least | peer median | ratio, least | ratio, median |");
+    println!("|---|---|---|---|---|---|---|");
+}
+
+fn read(f: ffi::Read, xs: &[u32]) -> usize {
+    unsafe { f(xs.as_ptr(), xs.len()) }
+}
+
+fn write(f: ffi::Write, xs: &mut [u32]) -> usize {
+    unsafe { f(xs.as_mut_ptr(), xs.len()) }
+}
+
+/// The elements of a row: enough for one group of the greatest length, and few enough for the second cache.
+const COUNT: usize = 100_000;
+
+fn reading(rounds: usize, what: &str, ours: ffi::Read, peers: Peers) {
+    let names: Vec<&str> = peers.iter().map(|peer| peer.0).collect();
+    head(what, "an element", &names.join(", "));
+    for lengths in LENGTHS {
+        let xs = slice(COUNT, lengths);
+        let wanted = peers[0].1(&xs);
+        assert_eq!(read(ours, &xs), wanted, "{what}");
+        let mut first = || read(ours, &xs);
+        let mut others: Vec<_> = peers.iter().map(|peer| || peer.1(&xs)).collect();
+        let mut calls: Vec<&mut dyn FnMut() -> usize> = vec![&mut first];
+        calls.extend(others.iter_mut().map(|call| call as &mut dyn FnMut() -> usize));
+        row(&lengths.name(), COUNT, &in_turn(rounds, &mut calls));
+    }
+}
+
+fn writing(rounds: usize, what: &str, ours: ffi::Write, name: &str, peer: fn(&mut [u32]) -> usize) {
+    head(what, "an element", name);
+    for lengths in LENGTHS {
+        let mut xs = slice(COUNT, lengths);
+        let mut ys = xs.clone();
+        assert_eq!(write(ours, &mut xs), peer(&mut ys), "{what}");
+        let mut first = || write(ours, &mut xs);
+        let mut other = || peer(&mut ys);
+        row(&lengths.name(), COUNT, &in_turn(rounds, &mut [&mut first, &mut other]));
+    }
+}
+
+fn texts(rounds: usize) {
+    type Text = fn(&str) -> usize;
+    let front: Text = |s| unsafe { ffi::text_front(s.as_ptr(), s.len()) };
+    let back: Text = |s| unsafe { ffi::text_back(s.as_ptr(), s.len()) };
+    for (mixed, kind) in [(false, "ASCII"), (true, "one to four bytes a character")] {
+        for (end, ours, peer) in [("front", front, peers::characters as Text), ("back", back, peers::characters_back as Text)] {
+            head(&format!("Texts, {kind}, from the {end}"), "a character", "one loop over `char_indices`");
+            for lengths in [Lengths::Each(1), Lengths::Around(8), Lengths::Each(8), Lengths::Each(1000)] {
+                let s = text(COUNT, lengths, mixed);
+                assert_eq!(ours(&s), peer(&s), "text");
+                row(&lengths.name(), COUNT, &in_turn(rounds, &mut [&mut || ours(&s), &mut || peer(&s)]));
+            }
+        }
+    }
+    let ours_mut: [(&str, unsafe extern "C" fn(*mut u8, usize) -> usize, Text); 2] =
+        [("front", ffi::text_mut_front, peers::characters), ("back", ffi::text_mut_back, peers::characters_back)];
+    for (end, ours, peer) in ours_mut {
+        head(&format!("Texts for writing, from the {end}"), "a character", "one loop over `char_indices`, for reading");
+        for lengths in [Lengths::Each(1), Lengths::Around(8), Lengths::Each(8), Lengths::Each(1000)] {
+            let s = text(COUNT, lengths, true);
+            let mut bytes = s.clone().into_bytes();
+            let mut ours = || unsafe { ours(bytes.as_mut_ptr(), bytes.len()) };
+            row(&lengths.name(), COUNT, &in_turn(rounds, &mut [&mut ours, &mut || peer(&s)]));
+        }
+    }
+}
+
+fn searches(rounds: usize) {
+    head("Searches", "a search", "`binary_search`");
+    let xs: Vec<u32> = (0..1_000_000).map(|x| 2 * x).collect();
+    let mut numbers = Numbers(3);
+    let anywhere: Vec<u32> = (0..1000).map(|_| numbers.below(2_000_000) as u32).collect();
+    let near: Vec<u32> = (0..1000).map(|_| numbers.below(40) as u32).collect();
+    for (name, keys) in [("anywhere in a million", &anywhere), ("within the first twenty", &near)] {
+        assert_eq!(
+            unsafe { ffi::searches(xs.as_ptr(), xs.len(), keys.as_ptr(), keys.len()) },
+            peers::binary_searches(&xs, keys)
+        );
+        let mut ours = || unsafe { ffi::searches(xs.as_ptr(), xs.len(), keys.as_ptr(), keys.len()) };
+        row(name, keys.len(), &in_turn(rounds, &mut [&mut ours, &mut || peers::binary_searches(&xs, keys)]));
+    }
+}
+
+fn joins(rounds: usize) {
+    head("Merge join", "an element of the longer side", "a linear merge");
+    let many: Vec<u32> = (0..1_000_000).collect();
+    let few: Vec<u32> = (0..10).map(|x| 100_000 * x + 7).collect();
+    for (name, left) in [("10 keys against 10^6 elements", &few), ("10^6 against 10^6", &many)] {
+        let ours = || unsafe { ffi::merge_join(left.as_ptr(), left.len(), many.as_ptr(), many.len()) };
+        assert_eq!(ours(), peers::linear_merge(left, &many));
+        row(name, many.len(), &in_turn(rounds.min(15), &mut [&mut || ours(), &mut || peers::linear_merge(left, &many)]));
+    }
+}
+
+/// Time an element from 10^3 to 10^7 elements, in groups of eight, and of one.
+fn growth(rounds: usize) {
+    println!("\n## Growth\n\nNanoseconds an element, least of the rounds, in groups of one and of eight.\n");
+    println!("| walk | 10^3 | 10^4 | 10^5 | 10^6 | 10^7 | 10^6 / 10^4 |");
+    println!("|---|---|---|---|---|---|---|");
+    let walks: [(&str, ffi::Read); 6] = [
+        ("linear, front", ffi::linear_front),
+        ("linear, back", ffi::linear_back),
+        ("binary, front", ffi::binary_front),
+        ("binary, back", ffi::binary_back),
+        ("exponential, front", ffi::exponential_front),
+        ("exponential, back", ffi::exponential_back),
+    ];
+    let mut lines = Vec::new();
+    for len in [1, 8] {
+        for (name, walk) in walks {
+            let mut points = Vec::new();
+            for power in 3..=7 {
+                let count = 10usize.pow(power);
+                let xs = slice(count, Lengths::Each(len));
+                let rounds = if power < 7 { rounds } else { rounds.min(7) };
+                let time = in_turn(rounds, &mut [&mut || read(walk, &xs)])[0];
+                points.push((count, time.least / count as f64));
+            }
+            let cells: Vec<String> = points.iter().map(|p| format!("{:.3}", p.1)).collect();
+            println!("| {name}, groups of {len} | {} | {:.2} |", cells.join(" | "), points[3].1 / points[1].1);
+            if len == 8 {
+                lines.push(Line { name: name.to_string(), points });
+            }
+        }
+    }
+    std::fs::write("growth.svg", picture::svg("Walks over groups of eight", &lines)).expect("growth.svg");
+}
+
+/// A walk's peers of one end, by their names.
+type Peers<'a> = &'a [(&'a str, fn(&[u32]) -> usize)];
+
+fn main() {
+    let words: Vec<String> = std::env::args().skip(1).collect();
+    if let Some(("merge", files)) = words.split_first().map(|(word, files)| (word.as_str(), files)) {
+        print!("{}", merge::merged(files));
+        return;
+    }
+    let rounds = words.first().map_or(31, |word| word.parse().expect("a number of rounds"));
+    std::hint::black_box(&raw const bench_place);
+    println!("Least and median of {rounds} rounds, {COUNT} elements of four bytes.");
+    let by_element: [Peers; 2] = [&[("`chunk_by`", peers::chunk_by)], &[("`chunk_by(..).rev()`", peers::chunk_by_rev)]];
+    let by_key: [Peers; 2] = [&[("`chunk_by`", peers::chunk_by_key)], &[("`chunk_by(..).rev()`", peers::chunk_by_key_rev)]];
+    let by_search: [Peers; 2] = [
+        &[("`chunk_by`", peers::chunk_by), ("`partition_point`", peers::partition_point)],
+        &[("`chunk_by(..).rev()`", peers::chunk_by_rev), ("`partition_point`", peers::partition_point_back)],
+    ];
+    let walks: [(&str, [Peers; 2], [ffi::Read; 2]); 9] = [
+        ("Linear by equality", by_element, [ffi::linear_front, ffi::linear_back]),
+        ("Linear by predicate", by_element, [ffi::linear_by_front, ffi::linear_by_back]),
+        ("Linear by key", by_key, [ffi::linear_by_key_front, ffi::linear_by_key_back]),
+        ("Binary by equality", by_search, [ffi::binary_front, ffi::binary_back]),
+        ("Binary by predicate", by_search, [ffi::binary_by_front, ffi::binary_by_back]),
+        ("Binary by key", by_search, [ffi::binary_by_key_front, ffi::binary_by_key_back]),
+        ("Exponential by equality", by_search, [ffi::exponential_front, ffi::exponential_back]),
+        ("Exponential by predicate", by_search, [ffi::exponential_by_front, ffi::exponential_by_back]),
+        ("Exponential by key", by_search, [ffi::exponential_by_key_front, ffi::exponential_by_key_back]),
+    ];
+    for (name, peers, walks) in walks {
+        reading(rounds, &format!("{name}, front"), walks[0], peers[0]);
+        reading(rounds, &format!("{name}, back"), walks[1], peers[1]);
+    }
+    let by_element_mut = [peers::chunk_by_mut as fn(&mut [u32]) -> usize, peers::chunk_by_mut_rev];
+    let by_key_mut = [peers::chunk_by_key_mut as fn(&mut [u32]) -> usize, peers::chunk_by_key_mut_rev];
+    let walks_mut: [(&str, [fn(&mut [u32]) -> usize; 2], [ffi::Write; 2]); 9] = [
+        ("Linear by equality", by_element_mut, [ffi::linear_mut_front, ffi::linear_mut_back]),
+        ("Linear by predicate", by_element_mut, [ffi::linear_by_mut_front, ffi::linear_by_mut_back]),
+        ("Linear by key", by_key_mut, [ffi::linear_by_key_mut_front, ffi::linear_by_key_mut_back]),
+        ("Binary by equality", by_element_mut, [ffi::binary_mut_front, ffi::binary_mut_back]),
+        ("Binary by predicate", by_element_mut, [ffi::binary_by_mut_front, ffi::binary_by_mut_back]),
+        ("Binary by key", by_key_mut, [ffi::binary_by_key_mut_front, ffi::binary_by_key_mut_back]),
+        ("Exponential by equality", by_element_mut, [ffi::exponential_mut_front, ffi::exponential_mut_back]),
+        ("Exponential by predicate", by_element_mut, [ffi::exponential_by_mut_front, ffi::exponential_by_mut_back]),
+        ("Exponential by key", by_key_mut, [ffi::exponential_by_key_mut_front, ffi::exponential_by_key_mut_back]),
+    ];
+    for (name, peers, walks) in walks_mut {
+        writing(rounds, &format!("{name} for writing, front"), walks[0], "`chunk_by_mut`", peers[0]);
+        writing(rounds, &format!("{name} for writing, back"), walks[1], "`chunk_by_mut(..).rev()`", peers[1]);
+    }
+    texts(rounds);
+    searches(rounds);
+    joins(rounds);
+    growth(rounds);
+}

@@ -1,0 +1,267 @@
+//! The library's walks and searches as functions of C, which the program in `bench/` times.
+//!
+//! A walk gives the lengths of its groups in one number, in order, so that no call can be left out. The keys are the elements
+//! without their lowest bit.
+#![tactic(auto)]
+
+ghost use Rattle.std.specs.Prelude.{◌≡◌};
+ghost use Rattle.std.specs.Str.{IsUtf8};
+
+use slice_group_by::{
+    BinaryGroup, BinaryGroupBy, BinaryGroupByKey, BinaryGroupByKeyMut, BinaryGroupByMut,
+    BinaryGroupMut, ExponentialGroup, ExponentialGroupBy, ExponentialGroupByKey,
+    ExponentialGroupByKeyMut, ExponentialGroupByMut, ExponentialGroupMut, LinearGroup,
+    LinearGroupBy, LinearGroupByKey, LinearGroupByKeyMut, LinearGroupByMut, LinearGroupMut,
+    LinearStrGroup, LinearStrGroupMut, MergeJoin, exponential_search,
+};
+
+macro_rules! lengths {
+    ($groups:expr) => {{
+        let mut sum = 0usize;
+        for group in $groups {
+            sum = sum.wrapping_mul(31).wrapping_add(group.len());
+        }
+        sum
+    }};
+}
+
+// Bytes that are known to be UTF-8, as a text: the walk is timed, and not the test.
+#[inline]
+fn text_of(bytes: &[u8]) -> &str
+    requires { IsUtf8 bytes.now }
+    ensures { result.now ≡ bytes.now }
+{
+    unsafe { std::str::from_utf8_unchecked(bytes) }
+}
+
+#[unsafe(no_mangle)]
+pub extern "C" fn linear_front(xs: &[u32]) -> usize {
+    lengths!(LinearGroup::new(xs))
+}
+
+#[unsafe(no_mangle)]
+pub extern "C" fn linear_mut_front(xs: &mut [u32]) -> usize {
+    lengths!(LinearGroupMut::new(xs))
+}
+
+#[unsafe(no_mangle)]
+pub extern "C" fn linear_back(xs: &[u32]) -> usize {
+    lengths!(LinearGroup::new(xs).rev())
+}
+
+#[unsafe(no_mangle)]
+pub extern "C" fn linear_mut_back(xs: &mut [u32]) -> usize {
+    lengths!(LinearGroupMut::new(xs).rev())
+}
+
+#[unsafe(no_mangle)]
+pub extern "C" fn linear_by_front(xs: &[u32]) -> usize {
+    lengths!(LinearGroupBy::new(xs, |a, b| a == b))
+}
+
+#[unsafe(no_mangle)]
+pub extern "C" fn linear_by_mut_front(xs: &mut [u32]) -> usize {
+    lengths!(LinearGroupByMut::new(xs, |a, b| a == b))
+}
+
+#[unsafe(no_mangle)]
+pub extern "C" fn linear_by_back(xs: &[u32]) -> usize {
+    lengths!(LinearGroupBy::new(xs, |a, b| a == b).rev())
+}
+
+#[unsafe(no_mangle)]
+pub extern "C" fn linear_by_mut_back(xs: &mut [u32]) -> usize {
+    lengths!(LinearGroupByMut::new(xs, |a, b| a == b).rev())
+}
+
+#[unsafe(no_mangle)]
+pub extern "C" fn linear_by_key_front(xs: &[u32]) -> usize {
+    lengths!(LinearGroupByKey::new(xs, |x| *x >> 1))
+}
+
+#[unsafe(no_mangle)]
+pub extern "C" fn linear_by_key_mut_front(xs: &mut [u32]) -> usize {
+    lengths!(LinearGroupByKeyMut::new(xs, |x| *x >> 1))
+}
+
+#[unsafe(no_mangle)]
+pub extern "C" fn linear_by_key_back(xs: &[u32]) -> usize {
+    lengths!(LinearGroupByKey::new(xs, |x| *x >> 1).rev())
+}
+
+#[unsafe(no_mangle)]
+pub extern "C" fn linear_by_key_mut_back(xs: &mut [u32]) -> usize {
+    lengths!(LinearGroupByKeyMut::new(xs, |x| *x >> 1).rev())
+}
+
+#[unsafe(no_mangle)]
+pub extern "C" fn binary_front(xs: &[u32]) -> usize {
+    lengths!(BinaryGroup::new(xs))
+}
+
+#[unsafe(no_mangle)]
+pub extern "C" fn binary_mut_front(xs: &mut [u32]) -> usize {
+    lengths!(BinaryGroupMut::new(xs))
+}
+
+#[unsafe(no_mangle)]
+pub extern "C" fn binary_back(xs: &[u32]) -> usize {
+    lengths!(BinaryGroup::new(xs).rev())
+}
+
+#[unsafe(no_mangle)]
+pub extern "C" fn binary_mut_back(xs: &mut [u32]) -> usize {
+    lengths!(BinaryGroupMut::new(xs).rev())
+}
+
+#[unsafe(no_mangle)]
+pub extern "C" fn binary_by_front(xs: &[u32]) -> usize {
+    lengths!(BinaryGroupBy::new(xs, |a, b| a == b))
+}
+
+#[unsafe(no_mangle)]
+pub extern "C" fn binary_by_mut_front(xs: &mut [u32]) -> usize {
+    lengths!(BinaryGroupByMut::new(xs, |a, b| a == b))
+}
+
+#[unsafe(no_mangle)]
+pub extern "C" fn binary_by_back(xs: &[u32]) -> usize {
+    lengths!(BinaryGroupBy::new(xs, |a, b| a == b).rev())
+}
+
+#[unsafe(no_mangle)]
+pub extern "C" fn binary_by_mut_back(xs: &mut [u32]) -> usize {
+    lengths!(BinaryGroupByMut::new(xs, |a, b| a == b).rev())
+}
+
+#[unsafe(no_mangle)]
+pub extern "C" fn binary_by_key_front(xs: &[u32]) -> usize {
+    lengths!(BinaryGroupByKey::new(xs, |x| *x >> 1))
+}
+
+#[unsafe(no_mangle)]
+pub extern "C" fn binary_by_key_mut_front(xs: &mut [u32]) -> usize {
+    lengths!(BinaryGroupByKeyMut::new(xs, |x| *x >> 1))
+}
+
+#[unsafe(no_mangle)]
+pub extern "C" fn binary_by_key_back(xs: &[u32]) -> usize {
+    lengths!(BinaryGroupByKey::new(xs, |x| *x >> 1).rev())
+}
+
+#[unsafe(no_mangle)]
+pub extern "C" fn binary_by_key_mut_back(xs: &mut [u32]) -> usize {
+    lengths!(BinaryGroupByKeyMut::new(xs, |x| *x >> 1).rev())
+}
+
+#[unsafe(no_mangle)]
+pub extern "C" fn exponential_front(xs: &[u32]) -> usize {
+    lengths!(ExponentialGroup::new(xs))
+}
+
+#[unsafe(no_mangle)]
+pub extern "C" fn exponential_mut_front(xs: &mut [u32]) -> usize {
+    lengths!(ExponentialGroupMut::new(xs))
+}
+
+#[unsafe(no_mangle)]
+pub extern "C" fn exponential_back(xs: &[u32]) -> usize {
+    lengths!(ExponentialGroup::new(xs).rev())
+}
+
+#[unsafe(no_mangle)]
+pub extern "C" fn exponential_mut_back(xs: &mut [u32]) -> usize {
+    lengths!(ExponentialGroupMut::new(xs).rev())
+}
+
+#[unsafe(no_mangle)]
+pub extern "C" fn exponential_by_front(xs: &[u32]) -> usize {
+    lengths!(ExponentialGroupBy::new(xs, |a, b| a == b))
+}
+
+#[unsafe(no_mangle)]
+pub extern "C" fn exponential_by_mut_front(xs: &mut [u32]) -> usize {
+    lengths!(ExponentialGroupByMut::new(xs, |a, b| a == b))
+}
+
+#[unsafe(no_mangle)]
+pub extern "C" fn exponential_by_back(xs: &[u32]) -> usize {
+    lengths!(ExponentialGroupBy::new(xs, |a, b| a == b).rev())
+}
+
+#[unsafe(no_mangle)]
+pub extern "C" fn exponential_by_mut_back(xs: &mut [u32]) -> usize {
+    lengths!(ExponentialGroupByMut::new(xs, |a, b| a == b).rev())
+}
+
+#[unsafe(no_mangle)]
+pub extern "C" fn exponential_by_key_front(xs: &[u32]) -> usize {
+    lengths!(ExponentialGroupByKey::new(xs, |x| *x >> 1))
+}
+
+#[unsafe(no_mangle)]
+pub extern "C" fn exponential_by_key_mut_front(xs: &mut [u32]) -> usize {
+    lengths!(ExponentialGroupByKeyMut::new(xs, |x| *x >> 1))
+}
+
+#[unsafe(no_mangle)]
+pub extern "C" fn exponential_by_key_back(xs: &[u32]) -> usize {
+    lengths!(ExponentialGroupByKey::new(xs, |x| *x >> 1).rev())
+}
+
+#[unsafe(no_mangle)]
+pub extern "C" fn exponential_by_key_mut_back(xs: &mut [u32]) -> usize {
+    lengths!(ExponentialGroupByKeyMut::new(xs, |x| *x >> 1).rev())
+}
+
+#[unsafe(no_mangle)]
+pub extern "C" fn text_front(bytes: &[u8]) -> usize
+    requires { IsUtf8 bytes.now }
+{
+    lengths!(LinearStrGroup::new(text_of(bytes)))
+}
+
+#[unsafe(no_mangle)]
+pub extern "C" fn text_mut_front(bytes: &mut [u8]) -> usize
+    requires { IsUtf8 bytes.old }
+{
+    lengths!(LinearStrGroupMut::new(bytes))
+}
+
+#[unsafe(no_mangle)]
+pub extern "C" fn text_back(bytes: &[u8]) -> usize
+    requires { IsUtf8 bytes.now }
+{
+    lengths!(LinearStrGroup::new(text_of(bytes)).rev())
+}
+
+#[unsafe(no_mangle)]
+pub extern "C" fn text_mut_back(bytes: &mut [u8]) -> usize
+    requires { IsUtf8 bytes.old }
+{
+    lengths!(LinearStrGroupMut::new(bytes).rev())
+}
+
+/// Where each of the keys is found, or belongs, in one number.
+#[unsafe(no_mangle)]
+pub extern "C" fn searches(xs: &[u32], keys: &[u32]) -> usize {
+    let mut sum = 0usize;
+    for key in keys {
+        let place = match exponential_search(xs, key) {
+            Ok(place) | Err(place) => place,
+        };
+        sum = sum.wrapping_mul(31).wrapping_add(place);
+    }
+    sum
+}
+
+/// The lengths of the pairs of a merge join of two ascending slices.
+#[unsafe(no_mangle)]
+pub extern "C" fn merge_join(left: &[u32], right: &[u32]) -> usize {
+    let mut sum = 0usize;
+    for (group, partner) in MergeJoin::new(left, |x| *x, right, |x| *x) {
+        sum = sum.wrapping_mul(31).wrapping_add(group.len());
+        sum = sum.wrapping_mul(31).wrapping_add(partner.len());
+    }
+    sum
+}
