@@ -3,14 +3,11 @@
 //! It takes no arguments and reads nothing. The status is 0 exactly if every row gave what is wanted.
 #![tactic(auto)]
 
-mod joins;
-mod jumps;
-mod lines;
-mod rows;
-mod searches;
-mod texts;
+#[cfg(test)]
+mod tests;
 
 use std::process::ExitCode;
+use worked_rows::rows;
 
 fn main(rt: HostRuntime) -> ExitCode {
     let mut out = rt.stdout();

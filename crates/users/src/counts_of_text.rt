@@ -20,9 +20,3 @@ pub fn questions_of_text(text: &str) -> usize
     while let Some(_) = groups.next() {}
     count
 }
-
-#[test]
-fn counts_questions(rt: HostRuntime) {
-    assert_eq!(rt; questions_of_text("aaéé饰"), 4);
-    assert_eq!(rt; questions_of_text(""), 0);
-}

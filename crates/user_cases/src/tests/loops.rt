@@ -1,5 +1,5 @@
 //! Groups in loops and through adapters.
-use crate::loops::{
+use users::loops::{
     count_ascending, count_from_the_back, count_groups, longest, nth_length, walk_through,
 };
 use slice_group_by::End;

@@ -1,5 +1,5 @@
 //! Outer groups, numbers and lengths of groups of equal elements.
-use crate::equal_groups::{
+use users::equal_groups::{
     count_groups, equal_groups, first_group, last_group, outer_groups, run_lengths,
 };
 use slice_group_by::End;

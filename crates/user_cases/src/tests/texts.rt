@@ -1,5 +1,5 @@
 //! Walks and runs of texts.
-use crate::texts::{ascending, count_runs, equal_runs, first_run, groups_by, groups_by_key};
+use users::texts::{ascending, count_runs, equal_runs, first_run, groups_by, groups_by_key};
 use slice_group_by::End;
 
 #[test]

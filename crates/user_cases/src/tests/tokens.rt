@@ -1,5 +1,5 @@
 //! A text in tokens.
-use crate::tokens::tokens;
+use users::tokens::tokens;
 
 #[test]
 fn words_and_numbers(rt: HostRuntime) {

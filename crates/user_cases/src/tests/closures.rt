@@ -1,5 +1,5 @@
 //! Walks by closures, and closures of each kind.
-use crate::closures::{ascending, below, by_tens, counted, equal_bytes, groups_by, groups_by_key};
+use users::closures::{ascending, below, by_tens, counted, equal_bytes, groups_by, groups_by_key};
 use slice_group_by::{End, GroupBy};
 
 #[derive(PartialEq, Drop)]

@@ -1,0 +1,8 @@
+//! Counts of the questions that a walk over a text asks.
+use users::counts_of_text::questions_of_text;
+
+#[test]
+fn counts_questions(rt: HostRuntime) {
+    assert_eq!(rt; questions_of_text("aaéé饰"), 4);
+    assert_eq!(rt; questions_of_text(""), 0);
+}
