@@ -108,38 +108,42 @@ fn exponential_by_key_mut_gallops<'a, T, F: FnMut(&T) -> K, K: PartialEq + Drop>
     groups.next()
 }
 
+fn equal(a: &i32, b: &i32) -> bool {
+    *a == *b
+}
+
+fn itself(x: &i32) -> i32 {
+    *x
+}
+
 #[test]
 fn each_searches_as_named(rt: HostRuntime) {
     let slice = [1, 1, 2];
     assert!(rt; binary_halves(&mut BinaryGroup::new(&slice)).is_some());
-    assert!(rt; binary_by_halves(&mut BinaryGroupBy::new(&slice, |a, b| a == b)).is_some());
-    assert!(rt; binary_by_key_halves(&mut BinaryGroupByKey::new(&slice, |x| *x)).is_some());
+    assert!(rt; binary_by_halves(&mut BinaryGroupBy::new(&slice, equal)).is_some());
+    assert!(rt; binary_by_key_halves(&mut BinaryGroupByKey::new(&slice, itself)).is_some());
     assert!(rt; exponential_gallops(&mut ExponentialGroup::new(&slice)).is_some());
+    assert!(rt; exponential_by_gallops(&mut ExponentialGroupBy::new(&slice, equal)).is_some());
     assert!(rt;
-        exponential_by_gallops(&mut ExponentialGroupBy::new(&slice, |a, b| a == b)).is_some()
+        exponential_by_key_gallops(&mut ExponentialGroupByKey::new(&slice, itself)).is_some()
     );
-    assert!(rt;
-        exponential_by_key_gallops(&mut ExponentialGroupByKey::new(&slice, |x| *x)).is_some()
-    );
+}
+
+#[test]
+fn each_searches_as_named_for_writing(rt: HostRuntime) {
     let mut slice = [1, 1, 2];
     assert!(rt; binary_mut_halves(&mut BinaryGroupMut::new(&mut slice)).is_some());
+    assert!(rt; binary_by_mut_halves(&mut BinaryGroupByMut::new(&mut slice, equal)).is_some());
     assert!(rt;
-        binary_by_mut_halves(&mut BinaryGroupByMut::new(&mut slice, |a, b| a == b)).is_some()
-    );
-    assert!(rt;
-        binary_by_key_mut_halves(&mut BinaryGroupByKeyMut::new(&mut slice, |x| *x)).is_some()
+        binary_by_key_mut_halves(&mut BinaryGroupByKeyMut::new(&mut slice, itself)).is_some()
     );
     assert!(rt; exponential_mut_gallops(&mut ExponentialGroupMut::new(&mut slice)).is_some());
     assert!(rt;
-        exponential_by_mut_gallops(&mut ExponentialGroupByMut::new(
-            &mut slice,
-            |a, b| a == b
-        )).is_some()
+        exponential_by_mut_gallops(&mut ExponentialGroupByMut::new(&mut slice, equal)).is_some()
     );
     assert!(rt;
         exponential_by_key_mut_gallops(&mut ExponentialGroupByKeyMut::new(
-            &mut slice,
-            |x| *x
+            &mut slice, itself
         )).is_some()
     );
 }

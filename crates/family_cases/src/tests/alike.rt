@@ -1,6 +1,8 @@
 //! The families beside each other: equal calls answer alike, and each method once.
+use case_queues::answers;
 use slice_group_by::{
-    BinaryGroup, End, ExponentialGroup, GroupBy, LinearGroup, is_sorted_for_groups, walk,
+    BinaryGroup, End, ExponentialGroup, GroupBy, GroupQueue, LinearGroup, is_sorted_for_groups,
+    walk,
 };
 
 // The five ends of the number: a bit for each, from the lowest on.
@@ -22,19 +24,24 @@ fn end_of(number: usize) -> End {
     }
 }
 
+// What five calls give, at the ends of the number.
+fn five<'a, Q>(mut groups: Q, number: usize) -> [Option<&'a [i32]>; 5]
+where
+    Q: GroupQueue<Item = &'a [i32]> + Drop,
+    requires { Q.GroupQueue.can_pop groups }
+{
+    let mut out: [Option<&[i32]>; 5] = [None; 5];
+    walk(&mut groups, &ends_of(number), &mut out);
+    out
+}
+
 #[test]
 fn families_answer_alike(rt: HostRuntime) {
     let slice = [1, 1, 1, 2, 2, 2, 3, 3];
     for number in 0..32 {
-        let ends = ends_of(number);
-        let mut linear: [Option<&[i32]>; 5] = [None; 5];
-        let mut binary: [Option<&[i32]>; 5] = [None; 5];
-        let mut exponential: [Option<&[i32]>; 5] = [None; 5];
-        walk(&mut LinearGroup::new(&slice), &ends, &mut linear);
-        walk(&mut BinaryGroup::new(&slice), &ends, &mut binary);
-        walk(&mut ExponentialGroup::new(&slice), &ends, &mut exponential);
-        assert_eq!(rt; binary, linear);
-        assert_eq!(rt; exponential, linear);
+        let linear = five(LinearGroup::new(&slice), number);
+        assert!(rt; five(BinaryGroup::new(&slice), number) == linear);
+        assert!(rt; five(ExponentialGroup::new(&slice), number) == linear);
     }
 }
 
@@ -47,33 +54,40 @@ fn sorted_slices(rt: HostRuntime) {
     assert!(rt; !is_sorted_for_groups(&[2, 1]));
 }
 
+fn tens(x: &u8) -> u8 {
+    *x / 10
+}
+
+fn in_one_ten(a: &u8, b: &u8) -> bool {
+    tens(a) == tens(b)
+}
+
 // Each method once, and one from both ends until nothing remains.
 #[test]
 fn methods(rt: HostRuntime) {
     let slice: &[u8] = &[10, 11, 20, 21, 22];
-    let mut groups = slice.binary_group_by_key(|x| *x / 10);
+    let calls: [(End, Option<&[u8]>); 3] = [
+        (End::Front, Some(&[10, 11])),
+        (End::Back, Some(&[20, 21, 22])),
+        (End::Front, None),
+    ];
+    assert!(rt; answers(slice.binary_group_by_key(tens), &calls));
     assert!(rt;
         matches!(
-            (groups.next(), groups.next_back(), groups.next()),
-            (Some([10, 11]), Some([20, 21, 22]), None)
-        )
-    );
-    assert!(rt;
-        matches!(
-            slice.binary_group_by(|a, b| a / 10 == b / 10).next_back(),
+            slice.binary_group_by(in_one_ten).next_back(),
             Some([20, 21, 22])
         )
     );
     assert!(rt; matches!(slice.binary_group().next(), Some([10])));
     assert!(rt;
         matches!(
-            slice.exponential_group_by_key(|x| *x / 10).next_back(),
+            slice.exponential_group_by_key(tens).next_back(),
             Some([20, 21, 22])
         )
     );
     assert!(rt;
         matches!(
-            slice.exponential_group_by(|a, b| a / 10 == b / 10).next(),
+            slice.exponential_group_by(in_one_ten).next(),
             Some([10, 11])
         )
     );

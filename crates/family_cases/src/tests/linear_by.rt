@@ -1,17 +1,29 @@
 //! Linear groups by predicate and by key, case by case.
 ghost use Rattle.std.specs.Prelude.{◌≡◌, ◌<◌};
 
-use slice_group_by::{End, GroupBy, LinearGroupBy, LinearGroupByKey, walk};
+use case_queues::{answers, writes};
+use slice_group_by::End::{self, Back, Front};
+use slice_group_by::{GroupBy, LinearGroupBy, LinearGroupByKey, walk};
 use std::test::Fail;
+
+fn equal(a: &i32, b: &i32) -> bool {
+    *a == *b
+}
+
+fn itself(x: &i32) -> i32 {
+    *x
+}
 
 #[test]
 fn by_equality_of_neighbours(rt: HostRuntime) {
     let slice: &[i32] = &[1, 1, 1, 3, 3, 2, 2, 2];
-    let mut groups = slice.linear_group_by(|a, b| a == b);
-    assert_eq!(rt; groups.next(), Some([1, 1, 1].as_slice()));
-    assert_eq!(rt; groups.next(), Some([3, 3].as_slice()));
-    assert_eq!(rt; groups.next(), Some([2, 2, 2].as_slice()));
-    assert_eq!(rt; groups.next(), None);
+    let calls: [(End, Option<&[i32]>); 4] = [
+        (Front, Some(&[1, 1, 1])),
+        (Front, Some(&[3, 3])),
+        (Front, Some(&[2, 2, 2])),
+        (Front, None),
+    ];
+    assert!(rt; answers(slice.linear_group_by(equal), &calls));
 }
 
 // A predicate that may be called only where the left element is below the right one.
@@ -100,11 +112,7 @@ fn answers_that_change(rt: HostRuntime) {
         questions = questions.wrapping_add(1);
         questions % 2 == 1
     });
-    walk(
-        &mut groups,
-        &[End::Front, End::Back, End::Front, End::Back],
-        &mut out,
-    );
+    walk(&mut groups, &[Front, Back, Front, Back], &mut out);
     assert!(rt; matches!(out, [Some([1, 2]), Some([5, 6]), Some([3, 4]), None]));
     assert_eq!(rt; questions, 5);
 }
@@ -122,50 +130,56 @@ fn calls_of_the_key_function(rt: HostRuntime) {
         second = *x;
         *x
     });
-    assert_eq!(rt; groups.next_back(), Some([3].as_slice()));
-    assert_eq!(rt; groups.remainder_len(), 3);
-    assert_eq!(rt; calls, 2);
-    assert_eq!(rt; first, 2);
-    assert_eq!(rt; second, 3);
+    let last = groups.next_back();
+    assert!(rt; matches!(last, Some([3])) && groups.remainder_len() == 3);
+    assert!(rt; (calls, first, second) == (2, 2, 3));
 }
 
 #[test]
 fn views_of_the_remainder(rt: HostRuntime) -> Result<(), Fail> {
     let slice: &[i32] = &[1, 1, 1, 3, 3, 2, 2, 2];
-    let mut groups = slice.linear_group_by_key(|x| *x);
-    assert_eq!(rt; groups.next(), Some([1, 1, 1].as_slice()));
-    assert_eq!(rt; groups.next_back(), Some([2, 2, 2].as_slice()));
-    assert_eq!(rt; groups.remainder(), [3, 3].as_slice());
-    assert_eq!(rt; groups.remainder_len(), 2);
-    assert!(rt; !groups.is_empty());
-    assert_eq!(rt; groups.size_hint(), (1, Some(2)));
-    let text = format!(in rt.alloc(); "{groups:?}")?;
-    assert_eq!(rt; text.as_str(), "LinearGroupByKey { remainder: [3, 3] }");
-    assert_eq!(rt; groups.next(), Some([3, 3].as_slice()));
-    assert!(rt; groups.is_empty());
-    assert_eq!(rt; groups.size_hint(), (0, Some(0)));
-    let text = format!(in rt.alloc(); "{groups:?}")?;
-    assert_eq!(rt; text.as_str(), "LinearGroupByKey { remainder: [] }");
+    let mut groups = slice.linear_group_by_key(itself);
+    assert!(rt;
+        matches!(
+            (groups.next(), groups.next_back()),
+            (Some([1, 1, 1]), Some([2, 2, 2]))
+        )
+    );
+    assert!(rt; matches!(groups.remainder(), [3, 3]) && groups.remainder_len() == 2);
+    assert!(rt; !groups.is_empty() && groups.size_hint() == (1, Some(2)));
+    assert!(rt;
+        writes(
+            rt.alloc(),
+            &groups,
+            "LinearGroupByKey { remainder: [3, 3] }"
+        )?
+    );
+    let rest = groups.next();
+    assert!(rt;
+        matches!(rest, Some([3, 3])) && groups.is_empty() && groups.size_hint() == (0, Some(0))
+    );
+    assert!(rt; writes(rt.alloc(), &groups, "LinearGroupByKey { remainder: [] }")?);
     Ok(())
+}
+
+fn unit(x: &()) -> () {
+    *x
 }
 
 #[test]
 fn debug_texts(rt: HostRuntime) -> Result<(), Fail> {
-    let slice: [i32; 2] = [1, 2];
-    let none: [i32; 0] = [];
-    let by = LinearGroupBy::new(&slice, |a, b| a == b);
-    let by_none = LinearGroupBy::new(&none, |a, b| a == b);
-    let text = format!(in rt.alloc(); "{by:?} {by_none:?}")?;
-    assert_eq!(rt;
-        text.as_str(),
-        "LinearGroupBy { slice: [1, 2] } LinearGroupBy { slice: [] }"
+    let by = (
+        LinearGroupBy::new(&[1, 2], equal),
+        LinearGroupBy::new(&[], equal),
     );
-    let by_key = LinearGroupByKey::new(&slice, |x| *x);
-    let by_key_units = LinearGroupByKey::new(&[(), ()], |x| *x);
-    let text = format!(in rt.alloc(); "{by_key:?} {by_key_units:?}")?;
-    assert_eq!(rt;
-        text.as_str(),
-        "LinearGroupByKey { remainder: [1, 2] } LinearGroupByKey { remainder: [(), ()] }"
+    let wanted = "(LinearGroupBy { slice: [1, 2] }, LinearGroupBy { slice: [] })";
+    assert!(rt; writes(rt.alloc(), &by, wanted)?);
+    let by_key = (
+        LinearGroupByKey::new(&[1, 2], itself),
+        LinearGroupByKey::new(&[(), ()], unit),
     );
+    let wanted =
+        "(LinearGroupByKey { remainder: [1, 2] }, LinearGroupByKey { remainder: [(), ()] })";
+    assert!(rt; writes(rt.alloc(), &by_key, wanted)?);
     Ok(())
 }

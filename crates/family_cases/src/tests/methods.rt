@@ -1,7 +1,8 @@
 //! Groups by the methods of a slice, family beside family, case by case.
 ghost use Rattle.std.specs.Prelude.{◌≢◌, ◌≤◌};
 
-use slice_group_by::{GroupBy, GroupByMut};
+use case_queues::{answers, len_of, len_of_mut};
+use slice_group_by::{End, GroupBy, GroupByMut};
 use std::cell::Cell;
 
 fn holds(group: Option<&mut [i32]>, wanted: &[i32]) -> bool {
@@ -11,10 +12,26 @@ fn holds(group: Option<&mut [i32]>, wanted: &[i32]) -> bool {
     }
 }
 
+fn equal(a: &i32, b: &i32) -> bool {
+    *a == *b
+}
+
+fn differ(a: &i32, b: &i32) -> bool {
+    *a != *b
+}
+
+fn ascend(a: &i32, b: &i32) -> bool {
+    *a < *b
+}
+
+fn any(_a: &(), _b: &()) -> bool {
+    true
+}
+
 #[test]
 fn views_of_the_remainder(rt: HostRuntime) {
     let slice: &[i32] = &[1, 1, 2];
-    let mut groups = slice.binary_group_by(|a, b| a == b);
+    let mut groups = slice.binary_group_by(equal);
     assert!(rt; groups.size_hint() == (1, Some(3)) && matches!(groups.next(), Some([1, 1])));
     assert_eq!(rt; groups.size_hint(), (1, Some(1)));
     assert!(rt;
@@ -28,7 +45,7 @@ fn views_of_the_remainder(rt: HostRuntime) {
 fn remainder_is_for_writing(rt: HostRuntime) {
     let mut array = [1, 1, 2, 2];
     let mut slice: &mut [i32] = &mut array;
-    let mut groups = slice.binary_group_by_mut(|a, b| a == b);
+    let mut groups = slice.binary_group_by_mut(equal);
     assert!(rt; groups.remainder_len() == 4 && holds(groups.next(), &[1, 1]));
     assert!(rt; groups.remainder_len() == 2 && !groups.is_empty());
     let remainder = groups.into_remainder();
@@ -41,7 +58,7 @@ fn remainder_is_for_writing(rt: HostRuntime) {
 fn three_groups_for_writing(rt: HostRuntime) {
     let mut array = [1, 1, 1, 2, 2, 2, 3, 3];
     let mut slice: &mut [i32] = &mut array;
-    let mut groups = slice.binary_group_by_mut(|a, b| a == b);
+    let mut groups = slice.binary_group_by_mut(equal);
     assert!(rt; holds(groups.next(), &[1, 1, 1]) && holds(groups.next(), &[2, 2, 2]));
     assert!(rt; holds(groups.next(), &[3, 3]) && groups.next().is_none());
 }
@@ -50,9 +67,9 @@ fn three_groups_for_writing(rt: HostRuntime) {
 #[test]
 fn grouped_for_unequal(rt: HostRuntime) {
     let slice: &[i32] = &[1, 2, 3];
-    let mut binary = slice.binary_group_by(|a, b| a != b);
+    let mut binary = slice.binary_group_by(differ);
     assert!(rt; matches!((binary.next(), binary.next()), (Some([1, 2, 3]), None)));
-    let mut exponential = slice.exponential_group_by(|a, b| a != b);
+    let mut exponential = slice.exponential_group_by(differ);
     assert!(rt;
         matches!(
             (exponential.next(), exponential.next()),
@@ -66,14 +83,14 @@ fn grouped_for_unequal(rt: HostRuntime) {
 #[test]
 fn not_grouped_for_less(rt: HostRuntime) {
     let slice: &[i32] = &[1, 2, 3];
-    let front = slice.binary_group_by(|a, b| a < b).next();
-    let back = slice.binary_group_by(|a, b| a < b).next_back();
+    let front = slice.binary_group_by(ascend).next();
+    let back = slice.binary_group_by(ascend).next_back();
     assert!(rt; matches!((front, back), (Some([1, 2, 3]), Some([3]))));
-    let front = slice.exponential_group_by(|a, b| a < b).next();
-    let back = slice.exponential_group_by(|a, b| a < b).next_back();
+    let front = slice.exponential_group_by(ascend).next();
+    let back = slice.exponential_group_by(ascend).next_back();
     assert!(rt; matches!((front, back), (Some([1, 2, 3]), Some([3]))));
-    let front = slice.linear_group_by(|a, b| a < b).next();
-    let back = slice.linear_group_by(|a, b| a < b).next_back();
+    let front = slice.linear_group_by(ascend).next();
+    let back = slice.linear_group_by(ascend).next_back();
     assert!(rt; matches!((front, back), (Some([1, 2, 3]), Some([1, 2, 3]))));
 }
 
@@ -81,9 +98,9 @@ fn not_grouped_for_less(rt: HostRuntime) {
 #[test]
 fn ends_where_refused(rt: HostRuntime) {
     let slice: &[i32] = &[1, 2, 1, 1, 2];
-    let front = slice.exponential_group_by(|a, b| a == b).next();
+    let front = slice.exponential_group_by(equal).next();
     assert!(rt; matches!(front, Some([1] | [1, 2, 1, 1])));
-    let back = slice.exponential_group_by(|a, b| a == b).next_back();
+    let back = slice.exponential_group_by(equal).next_back();
     assert!(rt; matches!(back, Some([2] | [2, 1, 1, 2])));
 }
 
@@ -98,10 +115,15 @@ fn asks_no_element_about_itself(rt: HostRuntime) {
     );
     let mut next = 1u8;
     for group in binary {
-        assert_eq!(rt; group, [next].as_slice());
+        assert!(rt; group == [next].as_slice());
         next = next.wrapping_add(1);
     }
-    assert_eq!(rt; next, 4);
+    assert!(rt; next == 4);
+}
+
+#[test]
+fn exponential_asks_no_element_about_itself(rt: HostRuntime) {
+    let slice: &[u8] = &[1, 2, 3];
     let exponential = slice.exponential_group_by(
         |a: &u8, b: &u8| -> bool
             requires { a.now ≢ b.now }
@@ -109,34 +131,27 @@ fn asks_no_element_about_itself(rt: HostRuntime) {
     );
     let mut next = 1u8;
     for group in exponential {
-        assert_eq!(rt; group, [next].as_slice());
+        assert!(rt; group == [next].as_slice());
         next = next.wrapping_add(1);
     }
-    assert_eq!(rt; next, 4);
+    assert!(rt; next == 4);
 }
 
 // A predicate that may never be called.
+fn never(_a: &u8, _b: &u8) -> bool
+    requires { ⊥ }
+{
+    true
+}
+
+const ALONE: [(End, Option<&'static [u8]>); 2] = [(End::Front, Some(&[1])), (End::Front, None)];
+
 #[test]
 fn one_element_asks_nothing(rt: HostRuntime) {
     let slice: &[u8] = &[1];
-    let mut linear = slice.linear_group_by(
-        |_a: &u8, _b: &u8| -> bool
-            requires { ⊥ }
-        { true },
-    );
-    assert!(rt; matches!((linear.next(), linear.next()), (Some([1]), None)));
-    let mut binary = slice.binary_group_by(
-        |_a: &u8, _b: &u8| -> bool
-            requires { ⊥ }
-        { true },
-    );
-    assert!(rt; matches!((binary.next(), binary.next()), (Some([1]), None)));
-    let mut exponential = slice.exponential_group_by(
-        |_a: &u8, _b: &u8| -> bool
-            requires { ⊥ }
-        { true },
-    );
-    assert!(rt; matches!((exponential.next(), exponential.next()), (Some([1]), None)));
+    assert!(rt; answers(slice.linear_group_by(never), &ALONE));
+    assert!(rt; answers(slice.binary_group_by(never), &ALONE));
+    assert!(rt; answers(slice.exponential_group_by(never), &ALONE));
 }
 
 // How many binary digits the number has.
@@ -207,7 +222,7 @@ fn thousand_before_one(rt: HostRuntime) {
     let questions = Cell::new(0usize);
     let mut groups = slice.exponential_group_by(|a, b| asks(&questions, a, b));
     assert!(rt; matches!(groups.next_back(), Some([1])) && questions.replace(0) <= 3);
-    assert!(rt; groups.next_back().is_some_and(|group| group.len() == 1000));
+    assert!(rt; len_of(groups.next_back()) == 1000);
     assert!(rt; questions.get() <= 21);
 }
 
@@ -218,7 +233,7 @@ fn one_before_a_thousand(rt: HostRuntime) {
     let slice: &[i32] = &array;
     let questions = Cell::new(0usize);
     let mut groups = slice.exponential_group_by(|a, b| asks(&questions, a, b));
-    assert!(rt; groups.next_back().is_some_and(|group| group.len() == 1000));
+    assert!(rt; len_of(groups.next_back()) == 1000);
     assert!(rt; questions.get() <= 21);
 }
 
@@ -237,9 +252,9 @@ fn three_groups_from_both_ends(rt: HostRuntime) {
 fn five_units_for_writing(rt: HostRuntime) {
     let mut array = [(); 5];
     let mut slice: &mut [()] = &mut array;
-    let mut groups = slice.exponential_group_by_mut(|_a, _b| true);
+    let mut groups = slice.exponential_group_by_mut(any);
     assert_eq!(rt; groups.remainder_len(), 5);
-    assert!(rt; groups.next().is_some_and(|group| group.len() == 5) && groups.next().is_none());
+    assert!(rt; len_of_mut(groups.next()) == 5 && groups.next().is_none());
     assert!(rt; groups.into_remainder().is_empty());
 }
 
@@ -254,7 +269,7 @@ fn binary_front<const N: usize>() -> ((usize, Option<usize>), usize, usize) {
         true
     });
     let hint = groups.size_hint();
-    let len = groups.next().map_or(0, |group| group.len());
+    let len = len_of(groups.next());
     (hint, len, questions)
 }
 
@@ -267,7 +282,7 @@ fn exponential_front<const N: usize>() -> ((usize, Option<usize>), usize, usize)
         true
     });
     let hint = groups.size_hint();
-    let len = groups.next().map_or(0, |group| group.len());
+    let len = len_of(groups.next());
     (hint, len, questions)
 }
 

@@ -5,6 +5,7 @@ ghost use Rattle.std.specs.Cmp.{partial_order_from_own_ties};
 ghost use Rattle.std.specs.Cmp.Rules.{comparing};
 ghost use Rattle.std.specs.Ordering.{on, nat_cmp, as_partial_cmp};
 
+use case_queues::len_of;
 use slice_group_by::{LinearGroup, exponential_search};
 use std::array;
 use std::cell::Cell;
@@ -73,11 +74,11 @@ fn compares_once_a_question(rt: HostRuntime) {
     ];
     let mut groups = LinearGroup::new(&slice);
     assert_eq!(rt; calls.get(), 0);
-    assert!(rt; groups.next().is_some_and(|group| group.len() == 2));
+    assert!(rt; len_of(groups.next()) == 2);
     assert_eq!(rt; calls.get(), 2);
-    assert!(rt; groups.next_back().is_some_and(|group| group.len() == 2));
+    assert!(rt; len_of(groups.next_back()) == 2);
     assert_eq!(rt; calls.get(), 4);
-    assert!(rt; groups.last().is_some_and(|group| group.len() == 1));
+    assert!(rt; len_of(groups.last()) == 1);
     assert_eq!(rt; calls.get(), 4);
 }
 
@@ -91,14 +92,14 @@ fn compares_a_thousand(rt: HostRuntime) {
     let calls = Cell::new(0usize);
     let slice = numbers(1000, &calls);
     let mut groups = LinearGroup::new(&slice);
-    assert!(rt; groups.next().is_some_and(|group| group.len() == 1000));
+    assert!(rt; len_of(groups.next()) == 1000);
     assert_eq!(rt; calls.replace(0), 1000);
     let slice = numbers(1, &calls);
     let mut groups = LinearGroup::new(&slice);
-    assert!(rt; groups.next_back().is_some_and(|group| group.len() == 1000));
+    assert!(rt; len_of(groups.next_back()) == 1000);
     assert_eq!(rt; calls.replace(0), 1000);
     let groups = LinearGroup::new(&slice);
-    assert!(rt; groups.last().is_some_and(|group| group.len() == 1000));
+    assert!(rt; len_of(groups.last()) == 1000);
     assert_eq!(rt; calls.replace(0), 1000);
 }
 

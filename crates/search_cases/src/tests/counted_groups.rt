@@ -1,5 +1,6 @@
 //! How often `==` of the elements itself is called, which no contract can say.
 use super::counted::numbers;
+use case_queues::len_of;
 use slice_group_by::{BinaryGroup, ExponentialGroup};
 use std::cell::Cell;
 
@@ -8,10 +9,10 @@ fn thousand_first(rt: HostRuntime) {
     let calls = Cell::new(0usize);
     let slice = numbers(1000, &calls);
     let mut binary = BinaryGroup::new(&slice);
-    assert!(rt; binary.next().is_some_and(|group| group.len() == 1000));
+    assert!(rt; len_of(binary.next()) == 1000);
     assert!(rt; calls.replace(0) <= 10);
     let mut exponential = ExponentialGroup::new(&slice);
-    assert!(rt; exponential.next().is_some_and(|group| group.len() == 1000));
+    assert!(rt; len_of(exponential.next()) == 1000);
     assert!(rt; calls.replace(0) <= 21);
 }
 
@@ -20,20 +21,16 @@ fn thousand_last(rt: HostRuntime) {
     let calls = Cell::new(0usize);
     let slice = numbers(1, &calls);
     let mut binary = BinaryGroup::new(&slice);
-    assert!(rt; binary.next_back().is_some_and(|group| group.len() == 1000));
+    assert!(rt; len_of(binary.next_back()) == 1000);
     assert!(rt; calls.replace(0) <= 10);
     let binary = BinaryGroup::new(&slice);
-    assert!(rt; binary.last().is_some_and(|group| group.len() == 1000));
+    assert!(rt; len_of(binary.last()) == 1000);
     assert!(rt; calls.replace(0) <= 10);
     let mut exponential = ExponentialGroup::new(&slice);
-    assert!(rt;
-        exponential
-            .next_back()
-            .is_some_and(|group| group.len() == 1000)
-    );
+    assert!(rt; len_of(exponential.next_back()) == 1000);
     assert!(rt; calls.replace(0) <= 21);
     let exponential = ExponentialGroup::new(&slice);
-    assert!(rt; exponential.last().is_some_and(|group| group.len() == 1000));
+    assert!(rt; len_of(exponential.last()) == 1000);
     assert!(rt; calls.replace(0) <= 21);
 }
 
@@ -43,6 +40,6 @@ fn short_group_of_a_long_slice(rt: HostRuntime) {
     let calls = Cell::new(0usize);
     let slice = numbers(1, &calls);
     let mut groups = ExponentialGroup::new(&slice);
-    assert!(rt; groups.next().is_some_and(|group| group.len() == 1));
+    assert!(rt; len_of(groups.next()) == 1);
     assert!(rt; calls.get() <= 3);
 }

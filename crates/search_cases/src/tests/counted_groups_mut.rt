@@ -1,11 +1,12 @@
 //! How often `==` of the elements itself is called for groups for writing, which no contract can say.
 use super::counted::{Counted, numbers};
+use case_queues::len_of_mut;
 use slice_group_by::{BinaryGroupMut, ExponentialGroupMut, LinearGroupMut};
 use std::cell::Cell;
 
 // Whether the group is one of a thousand.
 fn is_thousand(group: Option<&mut [Counted<'_>]>) -> bool {
-    group.is_some_and(|group| group.len() == 1000)
+    len_of_mut(group) == 1000
 }
 
 #[test]
@@ -44,5 +45,5 @@ fn short_group_of_a_long_slice(rt: HostRuntime) {
     let calls = Cell::new(0usize);
     let mut slice = numbers(1, &calls);
     let mut groups = ExponentialGroupMut::new(&mut slice);
-    assert!(rt; groups.next().is_some_and(|group| group.len() == 1) && calls.get() <= 3);
+    assert!(rt; len_of_mut(groups.next()) == 1 && calls.get() <= 3);
 }

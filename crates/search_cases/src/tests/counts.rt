@@ -1,4 +1,5 @@
 //! How many questions a call asks at most.
+use case_queues::len_of;
 use slice_group_by::{BinaryGroupBy, ExponentialGroupBy};
 use std::array;
 use std::cell::Cell;
@@ -13,28 +14,28 @@ fn asks(questions: &Cell<usize>, a: &usize, b: &usize) -> bool {
 fn binary_front(slice: &[usize]) -> (usize, usize) {
     let questions = Cell::new(0usize);
     let mut groups = BinaryGroupBy::new(slice, |a, b| asks(&questions, a, b));
-    let len = groups.next().map_or(0, |group| group.len());
+    let len = len_of(groups.next());
     (len, questions.get())
 }
 
 fn binary_back(slice: &[usize]) -> (usize, usize) {
     let questions = Cell::new(0usize);
     let mut groups = BinaryGroupBy::new(slice, |a, b| asks(&questions, a, b));
-    let len = groups.next_back().map_or(0, |group| group.len());
+    let len = len_of(groups.next_back());
     (len, questions.get())
 }
 
 fn exponential_front(slice: &[usize]) -> (usize, usize) {
     let questions = Cell::new(0usize);
     let mut groups = ExponentialGroupBy::new(slice, |a, b| asks(&questions, a, b));
-    let len = groups.next().map_or(0, |group| group.len());
+    let len = len_of(groups.next());
     (len, questions.get())
 }
 
 fn exponential_back(slice: &[usize]) -> (usize, usize) {
     let questions = Cell::new(0usize);
     let mut groups = ExponentialGroupBy::new(slice, |a, b| asks(&questions, a, b));
-    let len = groups.next_back().map_or(0, |group| group.len());
+    let len = len_of(groups.next_back());
     (len, questions.get())
 }
 
@@ -53,14 +54,12 @@ fn binary(rt: HostRuntime) {
         (1000, 10),
     ] {
         assert!(rt; n <= 1000);
-        let (len, questions) = binary_front(&zeros[..n]);
-        assert!(rt; len == n && questions <= most, "{questions} at {n}");
-        let (len, questions) = binary_back(&zeros[..n]);
-        assert!(rt; len == n && questions <= most, "{questions} at {n}");
-        let (len, questions) = binary_front(&places[..n]);
-        assert!(rt; len == 1 && questions <= most, "{questions} at {n}");
-        let (len, questions) = binary_back(&places[..n]);
-        assert!(rt; len == 1 && questions <= most, "{questions} at {n}");
+        for (len, questions) in [binary_front(&zeros[..n]), binary_back(&zeros[..n])] {
+            assert!(rt; len == n && questions <= most, "{questions} at {n}");
+        }
+        for (len, questions) in [binary_front(&places[..n]), binary_back(&places[..n])] {
+            assert!(rt; len == 1 && questions <= most, "{questions} at {n}");
+        }
     }
 }
 

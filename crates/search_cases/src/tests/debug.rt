@@ -1,45 +1,47 @@
 //! The text of each iterator that has one.
+use case_queues::writes;
 use slice_group_by::{BinaryGroupBy, BinaryGroupByKey, ExponentialGroupBy, ExponentialGroupByKey};
 use std::test::Fail;
 
+fn equal(a: &i32, b: &i32) -> bool {
+    *a == *b
+}
+
+fn itself(x: &i32) -> i32 {
+    *x
+}
+
 #[test]
 fn binary_texts(rt: HostRuntime) -> Result<(), Fail> {
-    let slice: [i32; 2] = [1, 2];
-    let none: [i32; 0] = [];
-    let by = BinaryGroupBy::new(&slice, |a, b| a == b);
-    let by_none = BinaryGroupBy::new(&none, |a, b| a == b);
-    let text = format!(in rt.alloc(); "{by:?} {by_none:?}")?;
-    assert_eq!(rt;
-        text.as_str(),
-        "BinaryGroupBy { remainder: [1, 2] } BinaryGroupBy { remainder: [] }"
+    let by = (
+        BinaryGroupBy::new(&[1, 2], equal),
+        BinaryGroupBy::new(&[], equal),
     );
-    let by_key = BinaryGroupByKey::new(&slice, |x| *x);
-    let by_key_none = BinaryGroupByKey::new(&none, |x| *x);
-    let text = format!(in rt.alloc(); "{by_key:?} {by_key_none:?}")?;
-    assert_eq!(rt;
-        text.as_str(),
-        "BinaryGroupByKey { remainder: [1, 2] } BinaryGroupByKey { remainder: [] }"
+    let wanted = "(BinaryGroupBy { remainder: [1, 2] }, BinaryGroupBy { remainder: [] })";
+    assert!(rt; writes(rt.alloc(), &by, wanted)?);
+    let by_key = (
+        BinaryGroupByKey::new(&[1, 2], itself),
+        BinaryGroupByKey::new(&[], itself),
     );
+    let wanted = "(BinaryGroupByKey { remainder: [1, 2] }, BinaryGroupByKey { remainder: [] })";
+    assert!(rt; writes(rt.alloc(), &by_key, wanted)?);
     Ok(())
 }
 
 #[test]
 fn exponential_texts(rt: HostRuntime) -> Result<(), Fail> {
-    let slice: [i32; 2] = [1, 2];
-    let none: [i32; 0] = [];
-    let by = ExponentialGroupBy::new(&slice, |a, b| a == b);
-    let by_none = ExponentialGroupBy::new(&none, |a, b| a == b);
-    let text = format!(in rt.alloc(); "{by:?} {by_none:?}")?;
-    assert_eq!(rt;
-        text.as_str(),
-        "ExponentialGroupBy { remainder: [1, 2] } ExponentialGroupBy { remainder: [] }"
+    let by = (
+        ExponentialGroupBy::new(&[1, 2], equal),
+        ExponentialGroupBy::new(&[], equal),
     );
-    let by_key = ExponentialGroupByKey::new(&slice, |x| *x);
-    let by_key_none = ExponentialGroupByKey::new(&none, |x| *x);
-    let text = format!(in rt.alloc(); "{by_key:?} {by_key_none:?}")?;
-    assert_eq!(rt;
-        text.as_str(),
-        "ExponentialGroupByKey { remainder: [1, 2] } ExponentialGroupByKey { remainder: [] }"
+    let wanted = "(ExponentialGroupBy { remainder: [1, 2] }, ExponentialGroupBy { remainder: [] })";
+    assert!(rt; writes(rt.alloc(), &by, wanted)?);
+    let by_key = (
+        ExponentialGroupByKey::new(&[1, 2], itself),
+        ExponentialGroupByKey::new(&[], itself),
     );
+    let wanted =
+        "(ExponentialGroupByKey { remainder: [1, 2] }, ExponentialGroupByKey { remainder: [] })";
+    assert!(rt; writes(rt.alloc(), &by_key, wanted)?);
     Ok(())
 }

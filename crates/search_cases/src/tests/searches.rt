@@ -22,54 +22,45 @@ const PAIRS: [(i32, i32); 13] = [
     (4, 55),
 ];
 
+const WANTED: [(i32, Result<usize, usize>); 3] = [(13, Ok(9)), (4, Err(7)), (100, Err(13))];
+
 #[test]
 fn by_element(rt: HostRuntime) {
-    let slice = NUMBERS;
-    assert_eq!(rt; exponential_search(&slice, &13), Ok(9));
-    assert_eq!(rt; exponential_search(&slice, &4), Err(7));
-    assert_eq!(rt; exponential_search(&slice, &100), Err(13));
-    assert!(rt; matches!(exponential_search(&slice, &1), Ok(1..=4)));
-    let none: [i32; 0] = [];
-    assert_eq!(rt; exponential_search(&none, &1), Err(0));
+    for (sought, wanted) in WANTED {
+        assert!(rt; exponential_search(&NUMBERS, &sought) == wanted);
+    }
+    assert!(rt; matches!(exponential_search(&NUMBERS, &1), Ok(1..=4)));
+    assert!(rt; exponential_search(&[], &1) == Err(0));
 }
 
 #[test]
 fn by_comparator(rt: HostRuntime) {
-    let slice = NUMBERS;
-    assert_eq!(rt; exponential_search_by(&slice, |x| x.cmp(&13)), Ok(9));
-    assert_eq!(rt; exponential_search_by(&slice, |x| x.cmp(&4)), Err(7));
-    assert_eq!(rt; exponential_search_by(&slice, |x| x.cmp(&100)), Err(13));
-    assert!(rt; matches!(exponential_search_by(&slice, |x| x.cmp(&1)), Ok(1..=4)));
+    for (sought, wanted) in WANTED {
+        assert!(rt; exponential_search_by(&NUMBERS, |x| x.cmp(&sought)) == wanted);
+    }
+    assert!(rt; matches!(exponential_search_by(&NUMBERS, |x| x.cmp(&1)), Ok(1..=4)));
+}
+
+fn second(pair: &(i32, i32)) -> i32 {
+    pair.1
 }
 
 #[test]
 fn by_key(rt: HostRuntime) {
-    let slice = PAIRS;
-    assert_eq!(rt; exponential_search_by_key(&slice, &13, |&(_, b)| b), Ok(9));
-    assert_eq!(rt; exponential_search_by_key(&slice, &4, |&(_, b)| b), Err(7));
-    assert_eq!(rt;
-        exponential_search_by_key(&slice, &100, |&(_, b)| b),
-        Err(13)
-    );
-    assert!(rt;
-        matches!(
-            exponential_search_by_key(&slice, &1, |&(_, b)| b),
-            Ok(1..=4)
-        )
-    );
+    for (sought, wanted) in WANTED {
+        assert!(rt; exponential_search_by_key(&PAIRS, &sought, second) == wanted);
+    }
+    assert!(rt; matches!(exponential_search_by_key(&PAIRS, &1, second), Ok(1..=4)));
 }
 
 #[test]
 fn short_slices(rt: HostRuntime) {
-    assert_eq!(rt; exponential_search(&[1], &0), Err(0));
-    assert_eq!(rt; exponential_search(&[1], &1), Ok(0));
-    assert_eq!(rt; exponential_search(&[1], &2), Err(1));
-    let slice = [0, 1, 2, 3];
-    assert_eq!(rt; exponential_search(&slice, &0), Ok(0));
-    assert_eq!(rt; exponential_search(&slice, &1), Ok(1));
-    assert_eq!(rt; exponential_search(&slice, &2), Ok(2));
-    assert_eq!(rt; exponential_search(&slice, &3), Ok(3));
-    assert_eq!(rt; exponential_search(&slice, &4), Err(4));
+    for (sought, wanted) in [(0, Err(0)), (1, Ok(0)), (2, Err(1))] {
+        assert!(rt; exponential_search(&[1], &sought) == wanted);
+    }
+    for (sought, wanted) in [(0, Ok(0)), (1, Ok(1)), (2, Ok(2)), (3, Ok(3)), (4, Err(4))] {
+        assert!(rt; exponential_search(&[0, 1, 2, 3], &sought) == wanted);
+    }
 }
 
 #[test]

@@ -1,15 +1,23 @@
 //! Elements of no bytes.
+use case_queues::answers;
+use slice_group_by::End::{self, Back, Front};
 use slice_group_by::{BinaryGroupBy, ExponentialGroupBy};
+
+fn equal(a: &(), b: &()) -> bool {
+    *a == *b
+}
+
+const WHOLE: [(End, Option<&'static [()]>); 3] = [
+    (Front, Some(&[(); 5])),
+    (Front, None),
+    (Back, None),
+];
 
 #[test]
 fn five_units(rt: HostRuntime) {
     let slice = [(); 5];
-    let mut binary = BinaryGroupBy::new(&slice, |a, b| a == b);
-    assert_eq!(rt; binary.remainder_len(), 5);
-    assert!(rt; binary.next().is_some_and(|group| group.len() == 5));
-    assert!(rt; binary.next().is_none());
-    let mut exponential = ExponentialGroupBy::new(&slice, |a, b| a == b);
-    assert_eq!(rt; exponential.remainder_len(), 5);
-    assert!(rt; exponential.next().is_some_and(|group| group.len() == 5));
-    assert!(rt; exponential.next().is_none());
+    let binary = BinaryGroupBy::new(&slice, equal);
+    assert!(rt; binary.remainder_len() == 5 && answers(binary, &WHOLE));
+    let exponential = ExponentialGroupBy::new(&slice, equal);
+    assert!(rt; exponential.remainder_len() == 5 && answers(exponential, &WHOLE));
 }

@@ -1,9 +1,9 @@
 //! Groups of texts, case by case.
 ghost use Rattle.std.specs.Prelude.{◌<◌};
 
-use slice_group_by::{
-    End, LinearStrGroup, LinearStrGroupBy, LinearStrGroupByKey, StrGroupBy, walk,
-};
+use case_queues::answers;
+use slice_group_by::End::{self, Back, Front};
+use slice_group_by::{LinearStrGroup, LinearStrGroupBy, LinearStrGroupByKey, StrGroupBy, walk};
 
 // Characters of Chinese, Japanese and Korean, by their blocks.
 pub(crate) fn is_cjk(c: char) -> bool {
@@ -21,109 +21,137 @@ pub(crate) fn is_cjk(c: char) -> bool {
     )
 }
 
+fn both_cjk_or_neither(a: char, b: char) -> bool {
+    is_cjk(a) == is_cjk(b)
+}
+
+fn ascends(a: char, b: char) -> bool {
+    a < b
+}
+
+fn is_digit(c: char) -> bool {
+    c >= '0' && c <= '9'
+}
+
+fn itself(c: char) -> char {
+    c
+}
+
+type Call = (End, Option<&'static str>);
+
+const EASY: [Call; 5] = [
+    (Front, Some("aaaa")),
+    (Front, Some("bbbbb")),
+    (Front, Some("aa")),
+    (Front, Some("cccc")),
+    (Front, None),
+];
+
 #[test]
 fn str_easy(rt: HostRuntime) {
-    let mut groups = LinearStrGroup::new("aaaabbbbbaacccc");
-    assert_eq!(rt; groups.next(), Some("aaaa"));
-    assert_eq!(rt; groups.next(), Some("bbbbb"));
-    assert_eq!(rt; groups.next(), Some("aa"));
-    assert_eq!(rt; groups.next(), Some("cccc"));
-    assert_eq!(rt; groups.next(), None);
+    assert!(rt; answers(LinearStrGroup::new("aaaabbbbbaacccc"), &EASY));
 }
+
+const EASY_FROM_BACK: [Call; 5] = [
+    (Back, Some("cccc")),
+    (Back, Some("aa")),
+    (Back, Some("bbbbb")),
+    (Back, Some("aaaa")),
+    (Back, None),
+];
 
 #[test]
 fn str_rev_easy(rt: HostRuntime) {
-    let mut groups = LinearStrGroup::new("aaaabbbbbaacccc");
-    assert_eq!(rt; groups.next_back(), Some("cccc"));
-    assert_eq!(rt; groups.next_back(), Some("aa"));
-    assert_eq!(rt; groups.next_back(), Some("bbbbb"));
-    assert_eq!(rt; groups.next_back(), Some("aaaa"));
-    assert_eq!(rt; groups.next_back(), None);
+    assert!(rt; answers(LinearStrGroup::new("aaaabbbbbaacccc"), &EASY_FROM_BACK));
 }
+
+const KANJI: [Call; 7] = [
+    (Front, Some("包包")),
+    (Front, Some("饰饰")),
+    (Front, Some("与与")),
+    (Front, Some("钥钥")),
+    (Front, Some("匙匙")),
+    (Front, Some("扣扣")),
+    (Front, None),
+];
 
 #[test]
 fn str_kanji(rt: HostRuntime) {
-    let mut groups = LinearStrGroup::new("包包饰饰与与钥钥匙匙扣扣");
-    assert_eq!(rt; groups.next(), Some("包包"));
-    assert_eq!(rt; groups.next(), Some("饰饰"));
-    assert_eq!(rt; groups.next(), Some("与与"));
-    assert_eq!(rt; groups.next(), Some("钥钥"));
-    assert_eq!(rt; groups.next(), Some("匙匙"));
-    assert_eq!(rt; groups.next(), Some("扣扣"));
-    assert_eq!(rt; groups.next(), None);
+    assert!(rt; answers(LinearStrGroup::new("包包饰饰与与钥钥匙匙扣扣"), &KANJI));
 }
+
+const ASCII_AND_CJK: &str = "abc包包bbccdd饰饰";
+
+const ASCII_CJK: [Call; 5] = [
+    (Front, Some("abc")),
+    (Front, Some("包包")),
+    (Front, Some("bbccdd")),
+    (Front, Some("饰饰")),
+    (Front, None),
+];
 
 #[test]
 fn str_ascii_cjk(rt: HostRuntime) {
-    let mut groups = LinearStrGroupBy::new("abc包包bbccdd饰饰", |a, b| is_cjk(a) == is_cjk(b));
-    assert_eq!(rt; groups.next(), Some("abc"));
-    assert_eq!(rt; groups.next(), Some("包包"));
-    assert_eq!(rt; groups.next(), Some("bbccdd"));
-    assert_eq!(rt; groups.next(), Some("饰饰"));
-    assert_eq!(rt; groups.next(), None);
+    let groups = LinearStrGroupBy::new(ASCII_AND_CJK, both_cjk_or_neither);
+    assert!(rt; answers(groups, &ASCII_CJK));
 }
+
+const ASCII_CJK_FROM_BACK: [Call; 5] = [
+    (Back, Some("饰饰")),
+    (Back, Some("bbccdd")),
+    (Back, Some("包包")),
+    (Back, Some("abc")),
+    (Back, None),
+];
 
 #[test]
 fn str_rev_ascii_cjk(rt: HostRuntime) {
-    let mut groups = LinearStrGroupBy::new("abc包包bbccdd饰饰", |a, b| is_cjk(a) == is_cjk(b));
-    assert_eq!(rt; groups.next_back(), Some("饰饰"));
-    assert_eq!(rt; groups.next_back(), Some("bbccdd"));
-    assert_eq!(rt; groups.next_back(), Some("包包"));
-    assert_eq!(rt; groups.next_back(), Some("abc"));
-    assert_eq!(rt; groups.next_back(), None);
+    let groups = LinearStrGroupBy::new(ASCII_AND_CJK, both_cjk_or_neither);
+    assert!(rt; answers(groups, &ASCII_CJK_FROM_BACK));
 }
+
+const LETTERS_AND_A_DIGIT: [Call; 4] = [
+    (Front, Some("aB")),
+    (Back, Some("b")),
+    (Front, Some("1")),
+    (Front, None),
+];
 
 #[test]
 fn by_key_from_both_ends(rt: HostRuntime) {
     let text = "aB1b";
-    let mut groups = text.linear_group_by_key(|c| c >= '0' && c <= '9');
-    assert_eq!(rt; groups.next(), Some("aB"));
-    assert_eq!(rt; groups.next_back(), Some("b"));
-    assert_eq!(rt; groups.next(), Some("1"));
-    assert_eq!(rt; groups.next(), None);
+    assert!(rt; answers(text.linear_group_by_key(is_digit), &LETTERS_AND_A_DIGIT));
 }
 
 #[test]
 fn views_of_the_remainder(rt: HostRuntime) {
-    let text = "aaaabbbbb饰饰cccc";
-    let mut groups = LinearStrGroup::new(text);
+    let mut groups = LinearStrGroup::new("aaaabbbbb饰饰cccc");
     assert_eq!(rt; groups.remainder_len(), 19);
-    assert_eq!(rt; groups.next(), Some("aaaa"));
-    assert_eq!(rt; groups.next_back(), Some("cccc"));
-    assert_eq!(rt; groups.as_str(), "bbbbb饰饰");
-    assert_eq!(rt; groups.remainder_len(), 11);
-    assert!(rt; !groups.is_empty());
-    assert_eq!(rt; groups.next_back(), Some("饰饰"));
-    assert_eq!(rt; groups.next_back(), Some("bbbbb"));
-    assert!(rt; groups.is_empty());
-    assert_eq!(rt; groups.as_str(), "");
-    assert_eq!(rt; groups.remainder_len(), 0);
+    assert!(rt; groups.next() == Some("aaaa") && groups.next_back() == Some("cccc"));
+    assert!(rt; groups.as_str() == "bbbbb饰饰" && groups.remainder_len() == 11 && !groups.is_empty());
+    assert!(rt; groups.next_back() == Some("饰饰") && groups.next_back() == Some("bbbbb"));
+    assert!(rt; groups.as_str() == "" && groups.remainder_len() == 0 && groups.is_empty());
 }
 
 #[test]
 fn size_hint_and_last(rt: HostRuntime) {
     let text = "ab";
-    let groups = text.linear_group();
-    assert_eq!(rt; groups.size_hint(), (0, None));
-    assert_eq!(rt; groups.last(), Some("b"));
-    let none = "";
-    assert_eq!(rt; LinearStrGroup::new(none).last(), None);
-    assert_eq!(rt; text.linear_group_by(|a, b| a < b).last(), Some("ab"));
-    assert_eq!(rt; text.linear_group_by_key(|c| c).last(), Some("b"));
+    assert_eq!(rt; text.linear_group().size_hint(), (0, None));
+    assert!(rt; text.linear_group().last() == Some("b") && LinearStrGroup::new("").last() == None);
+    assert!(rt; text.linear_group_by(ascends).last() == Some("ab"));
+    assert!(rt; text.linear_group_by_key(itself).last() == Some("b"));
 }
+
+const ASCENDING: [Call; 3] = [(Front, Some("abc")), (Front, Some("ab")), (Front, None)];
+
+const ASCENDING_FROM_BACK: [Call; 3] = [(Back, Some("ab")), (Back, Some("abc")), (Back, None)];
 
 // A test that is not symmetric has the same groups from both ends.
 #[test]
 fn ascending_from_both_ends(rt: HostRuntime) {
     let text = "abcab";
-    let mut groups = text.linear_group_by(|a, b| a < b);
-    assert_eq!(rt; groups.next(), Some("abc"));
-    assert_eq!(rt; groups.next(), Some("ab"));
-    assert_eq!(rt; groups.next(), None);
-    let mut groups = text.linear_group_by(|a, b| a < b);
-    assert_eq!(rt; groups.next_back(), Some("ab"));
-    assert_eq!(rt; groups.next_back(), Some("abc"));
-    assert_eq!(rt; groups.next_back(), None);
+    assert!(rt; answers(text.linear_group_by(ascends), &ASCENDING));
+    assert!(rt; answers(text.linear_group_by(ascends), &ASCENDING_FROM_BACK));
 }
 
 // The key function is called on the left character first, from the back too.
@@ -136,9 +164,8 @@ fn calls_of_the_key_function(rt: HostRuntime) {
         second = c;
         c
     });
-    assert_eq!(rt; groups.next_back(), Some("y"));
-    assert_eq!(rt; first, 'x');
-    assert_eq!(rt; second, 'y');
+    let last = groups.next_back();
+    assert!(rt; last == Some("y") && first == 'x' && second == 'y');
 }
 
 // A predicate that may be called only where the left character is below the right one.
@@ -154,8 +181,8 @@ fn predicate_call_param_order(rt: HostRuntime) {
             true
         },
     );
-    assert_eq!(rt; groups.next_back(), Some("abcde"));
-    assert_eq!(rt; questions, 4);
+    let last = groups.next_back();
+    assert!(rt; last == Some("abcde") && questions == 4);
 }
 
 #[test]
@@ -166,28 +193,16 @@ fn questions_of_a_walk(rt: HostRuntime) {
         questions = questions.wrapping_add(1);
         a == b
     });
-    walk(
-        &mut groups,
-        &[End::Front, End::Back, End::Back, End::Front, End::Front],
-        &mut out,
-    );
-    assert_eq!(rt; out[0], Some("aaaa"));
-    assert_eq!(rt; out[1], Some("cccc"));
-    assert_eq!(rt; out[2], Some("饰饰"));
-    assert_eq!(rt; out[3], Some("bbbbb"));
-    assert_eq!(rt; out[4], None);
+    walk(&mut groups, &[Front, Back, Back, Front, Front], &mut out);
+    assert!(rt; out == [Some("aaaa"), Some("cccc"), Some("饰饰"), Some("bbbbb"), None]);
     assert_eq!(rt; questions, 14);
 }
 
-fn call<'a>(groups: &mut LinearStrGroup<'a>, back: bool) -> Option<&'a str> {
-    if back {
-        groups.next_back()
-    } else {
-        groups.next()
-    }
+fn end(back: bool) -> End {
+    if back { Back } else { Front }
 }
 
-// Characters of one, two, three and four bytes.
+// Characters of one, two, three and four bytes. The fourth call takes what is left, from either end.
 #[test]
 fn every_order_of_four_calls(rt: HostRuntime) {
     let orders = [
@@ -200,15 +215,16 @@ fn every_order_of_four_calls(rt: HostRuntime) {
         ([false, true, true], ["a", "𝄞𝄞", "饰", "éé"]),
         ([true, true, true], ["𝄞𝄞", "饰", "éé", "a"]),
     ];
-    for ([back_1, back_2, back_3], wanted) in orders {
-        // The fourth call takes what is left, from either end.
-        for back_4 in [false, true] {
-            let mut groups = LinearStrGroup::new("aéé饰𝄞𝄞");
-            assert_eq!(rt; call(&mut groups, back_1), Some(wanted[0]));
-            assert_eq!(rt; call(&mut groups, back_2), Some(wanted[1]));
-            assert_eq!(rt; call(&mut groups, back_3), Some(wanted[2]));
-            assert_eq!(rt; call(&mut groups, back_4), Some(wanted[3]));
-            assert_eq!(rt; groups.next(), None);
+    for ([first, second, third], [a, b, c, d]) in orders {
+        for fourth in [false, true] {
+            let calls = [
+                (end(first), Some(a)),
+                (end(second), Some(b)),
+                (end(third), Some(c)),
+                (end(fourth), Some(d)),
+                (Front, None),
+            ];
+            assert!(rt; answers(LinearStrGroup::new("aéé饰𝄞𝄞"), &calls));
         }
     }
 }

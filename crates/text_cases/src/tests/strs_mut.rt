@@ -1,37 +1,64 @@
 //! Groups of a text's bytes for writing, case by case.
+use case_queues::{answers_mut, holds};
+use slice_group_by::End::{self, Back, Front};
 use slice_group_by::{
-    End, LinearStrGroupByKeyMut, LinearStrGroupByMut, LinearStrGroupMut, StrGroupByMut, walk,
+    LinearStrGroupByKeyMut, LinearStrGroupByMut, LinearStrGroupMut, StrGroupByMut, walk,
 };
 use std::slice::from_mut;
 use std::test::Fail;
 
-fn holds(group: Option<&mut [u8]>, wanted: &str) -> bool {
+fn ascends(a: char, b: char) -> bool {
+    a < b
+}
+
+fn is_digit(c: char) -> bool {
+    c >= '0' && c <= '9'
+}
+
+fn itself(c: char) -> char {
+    c
+}
+
+// Whether the group is what is wanted, which it is no more: it is filled.
+fn filled(group: Option<&mut [u8]>, wanted: &[u8], with: u8) -> bool {
     match group {
-        Some(group) => *group == *wanted.as_bytes(),
+        Some(group) => {
+            let same = *group == *wanted;
+            group.fill(with);
+            same
+        }
         None => false,
     }
 }
 
+type Call = (End, Option<&'static [u8]>);
+
+const EASY: [Call; 5] = [
+    (Front, Some(b"aaaa")),
+    (Front, Some(b"bbbbb")),
+    (Front, Some(b"aa")),
+    (Front, Some(b"cccc")),
+    (Front, None),
+];
+
 #[test]
 fn str_mut_easy(rt: HostRuntime) {
     let mut bytes = *b"aaaabbbbbaacccc";
-    let mut groups = LinearStrGroupMut::new(&mut bytes);
-    assert!(rt; holds(groups.next(), "aaaa"));
-    assert!(rt; holds(groups.next(), "bbbbb"));
-    assert!(rt; holds(groups.next(), "aa"));
-    assert!(rt; holds(groups.next(), "cccc"));
-    assert!(rt; groups.next().is_none());
+    assert!(rt; answers_mut(LinearStrGroupMut::new(&mut bytes), &EASY));
 }
+
+const EASY_FROM_BACK: [Call; 5] = [
+    (Back, Some(b"cccc")),
+    (Back, Some(b"aa")),
+    (Back, Some(b"bbbbb")),
+    (Back, Some(b"aaaa")),
+    (Back, None),
+];
 
 #[test]
 fn str_mut_rev_easy(rt: HostRuntime) {
     let mut bytes = *b"aaaabbbbbaacccc";
-    let mut groups = LinearStrGroupMut::new(&mut bytes);
-    assert!(rt; holds(groups.next_back(), "cccc"));
-    assert!(rt; holds(groups.next_back(), "aa"));
-    assert!(rt; holds(groups.next_back(), "bbbbb"));
-    assert!(rt; holds(groups.next_back(), "aaaa"));
-    assert!(rt; groups.next_back().is_none());
+    assert!(rt; answers_mut(LinearStrGroupMut::new(&mut bytes), &EASY_FROM_BACK));
 }
 
 #[test]
@@ -40,14 +67,9 @@ fn remainder_stays_text(rt: HostRuntime) -> Result<(), Fail> {
     std::str::from_utf8(&bytes)?;
     let mut groups = LinearStrGroupMut::new(&mut bytes);
     let first = groups.next();
-    assert_eq!(rt; groups.as_str(), "éé");
-    assert_eq!(rt; groups.remainder_len(), 4);
-    if let Some(first) = first {
-        assert_eq!(rt; &*first, b"a".as_slice());
-        first[0] = 0xFF;
-    }
-    assert!(rt; holds(groups.next(), "éé"));
-    assert!(rt; groups.next().is_none());
+    assert!(rt; groups.as_str() == "éé" && groups.remainder_len() == 4);
+    assert!(rt; filled(first, b"a", 0xFF));
+    assert!(rt; holds(groups.next(), Some("éé".as_bytes())) && groups.next().is_none());
     assert_eq!(rt; bytes, [0xFF, 0xC3, 0xA9, 0xC3, 0xA9]);
     Ok(())
 }
@@ -57,31 +79,34 @@ fn by_key_from_both_ends(rt: HostRuntime) -> Result<(), Fail> {
     let mut array = [0x61, 0x62, 0x31, 0x32, 0xC3, 0xA9];
     std::str::from_utf8(&array)?;
     let mut bytes: &mut [u8] = &mut array;
-    let mut groups = bytes.linear_group_by_key_mut(|c| c >= '0' && c <= '9');
-    assert!(rt; holds(groups.next(), "ab"));
-    assert_eq!(rt; groups.as_str(), "12é");
-    assert_eq!(rt; groups.remainder_len(), 4);
-    assert!(rt; holds(groups.next_back(), "é"));
-    assert!(rt; holds(groups.next(), "12"));
-    assert!(rt; groups.next_back().is_none());
-    assert!(rt; groups.is_empty());
+    let mut groups = bytes.linear_group_by_key_mut(is_digit);
+    assert!(rt; holds(groups.next(), Some(b"ab")));
+    assert!(rt; groups.as_str() == "12é" && groups.remainder_len() == 4);
+    assert!(rt;
+        answers_mut(
+            groups,
+            &[
+                (Back, Some("é".as_bytes())),
+                (Front, Some(b"12")),
+                (Back, None)
+            ]
+        )
+    );
     Ok(())
 }
+
+const ASCENDING: [Call; 3] = [(Front, Some(b"abc")), (Front, Some(b"ab")), (Front, None)];
+
+const ASCENDING_FROM_BACK: [Call; 3] = [(Back, Some(b"ab")), (Back, Some(b"abc")), (Back, None)];
 
 // A test that is not symmetric has the same groups from both ends.
 #[test]
 fn ascending_from_both_ends(rt: HostRuntime) {
-    let mut bytes = *b"abcab";
-    let mut groups = LinearStrGroupByMut::new(&mut bytes, |a, b| a < b);
-    assert!(rt; holds(groups.next(), "abc"));
-    assert!(rt; holds(groups.next(), "ab"));
-    assert!(rt; groups.next().is_none());
     let mut array = *b"abcab";
-    let mut bytes: &mut [u8] = &mut array;
-    let mut groups = bytes.linear_group_by_mut(|a, b| a < b);
-    assert!(rt; holds(groups.next_back(), "ab"));
-    assert!(rt; holds(groups.next_back(), "abc"));
-    assert!(rt; groups.next_back().is_none());
+    assert!(rt; answers_mut(LinearStrGroupByMut::new(&mut array, ascends), &ASCENDING));
+    let mut other = *b"abcab";
+    let mut bytes: &mut [u8] = &mut other;
+    assert!(rt; answers_mut(bytes.linear_group_by_mut(ascends), &ASCENDING_FROM_BACK));
 }
 
 #[test]
@@ -91,18 +116,9 @@ fn any_bytes_may_be_written(rt: HostRuntime) -> Result<(), Fail> {
     let mut groups = LinearStrGroupMut::new(&mut bytes);
     let first = groups.next();
     let last = groups.next_back();
-    if let Some(first) = first {
-        assert_eq!(rt; &*first, [0xC3, 0xA9].as_slice());
-        first.fill(0x80);
-    }
-    if let Some(last) = last {
-        assert_eq!(rt; &*last, [0xC3, 0xA9].as_slice());
-        last.fill(0x80);
-    }
-    assert_eq!(rt; groups.as_str(), "a");
-    assert_eq!(rt; groups.remainder_len(), 1);
-    assert!(rt; holds(groups.next(), "a"));
-    assert!(rt; groups.next().is_none());
+    assert!(rt; filled(first, "é".as_bytes(), 0x80) && filled(last, "é".as_bytes(), 0x80));
+    assert!(rt; groups.as_str() == "a" && groups.remainder_len() == 1);
+    assert!(rt; holds(groups.next(), Some(b"a")) && groups.next().is_none());
     assert_eq!(rt; bytes, [0x80, 0x80, 0x61, 0x80, 0x80]);
     Ok(())
 }
@@ -113,28 +129,30 @@ fn size_hint_and_last(rt: HostRuntime) {
     let mut bytes: &mut [u8] = &mut array;
     let groups = StrGroupByMut::linear_group_mut(&mut bytes);
     assert_eq!(rt; groups.size_hint(), (0, None));
-    assert!(rt; holds(groups.last(), "b"));
-    let mut none: [u8; 0] = [];
-    assert!(rt; LinearStrGroupMut::new(&mut none).last().is_none());
+    assert!(rt; holds(groups.last(), Some(b"b")));
+    assert!(rt; LinearStrGroupMut::new(&mut []).last().is_none());
 }
 
-// No contract says so: `last` leaves the bytes before its group, and a method of the trait leaves the variable's bytes. What
-// the bytes are after a method is not known, so they are tested again.
+// No contract says so: `last` leaves the bytes before its group.
 #[test]
-fn leaves_the_other_bytes(rt: HostRuntime) -> Result<(), Fail> {
+fn last_leaves_the_other_bytes(rt: HostRuntime) {
     let mut array = *b"abbcc";
     let groups = LinearStrGroupMut::new(&mut array);
-    if let Some(group) = groups.last() {
-        group.fill(b'-');
-    }
+    assert!(rt; filled(groups.last(), b"cc", b'-'));
     assert_eq!(rt; array, *b"abb--");
+}
+
+// No contract says so: a method leaves the variable's bytes. What they are after a method is not known, so they are tested
+// again.
+#[test]
+fn leaves_the_other_bytes(rt: HostRuntime) -> Result<(), Fail> {
+    let mut array = *b"abb--";
     let mut bytes: &mut [u8] = &mut array;
-    std::str::from_utf8(bytes)?;
     let _ = StrGroupByMut::linear_group_mut(&mut bytes).next();
     std::str::from_utf8(bytes)?;
-    let _ = bytes.linear_group_by_mut(|a, b| a < b).next_back();
+    let _ = bytes.linear_group_by_mut(ascends).next_back();
     std::str::from_utf8(bytes)?;
-    let _ = bytes.linear_group_by_key_mut(|c| c).last();
+    let _ = bytes.linear_group_by_key_mut(itself).last();
     assert_eq!(rt; &*bytes, b"abb--".as_slice());
     Ok(())
 }
@@ -151,12 +169,10 @@ fn walks_with_a_changing_predicate(rt: HostRuntime) {
     let mut last: Option<&mut [u8]> = None;
     let mut first: Option<&mut [u8]> = None;
     let mut none: Option<&mut [u8]> = None;
-    walk(&mut groups, &[End::Back], from_mut(&mut last));
-    walk(&mut groups, &[End::Front], from_mut(&mut first));
-    walk(&mut groups, &[End::Back], from_mut(&mut none));
-    assert!(rt; holds(last, "yz"));
-    assert!(rt; holds(first, "wx"));
-    assert!(rt; none.is_none());
+    walk(&mut groups, &[Back], from_mut(&mut last));
+    walk(&mut groups, &[Front], from_mut(&mut first));
+    walk(&mut groups, &[Back], from_mut(&mut none));
+    assert!(rt; holds(last, Some(b"yz")) && holds(first, Some(b"wx")) && none.is_none());
     assert_eq!(rt; questions, 3);
 }
 
@@ -174,7 +190,7 @@ fn first_len(bytes: &mut [u8]) -> Option<usize> {
 
 fn last_len(bytes: &mut [u8]) -> usize {
     if std::str::from_utf8(bytes).is_ok() {
-        let groups = LinearStrGroupByKeyMut::new(bytes, |c| c);
+        let groups = LinearStrGroupByKeyMut::new(bytes, itself);
         if let Some(last) = groups.last() {
             return last.len();
         }

@@ -1,35 +1,22 @@
 //! Predicates that may never be called, or that change their answers, over groups for writing.
-use super::holds;
+use case_queues::answers_mut;
+use slice_group_by::End::{self, Front};
 use slice_group_by::{BinaryGroupByMut, ExponentialGroupByMut, LinearGroupByMut};
 use std::cell::Cell;
 
 // A predicate that may never be called.
+fn never(_a: &i32, _b: &i32) -> bool
+    requires { ⊥ }
+{
+    true
+}
+
 #[test]
 fn one_element_asks_nothing(rt: HostRuntime) {
-    let mut slice = [1];
-    let mut linear = LinearGroupByMut::new(
-        &mut slice,
-        |_a: &i32, _b: &i32| -> bool
-            requires { ⊥ }
-        { true },
-    );
-    assert!(rt; holds(linear.next(), &[1]) && linear.next().is_none());
-    let mut slice = [1];
-    let mut binary = BinaryGroupByMut::new(
-        &mut slice,
-        |_a: &i32, _b: &i32| -> bool
-            requires { ⊥ }
-        { true },
-    );
-    assert!(rt; holds(binary.next(), &[1]) && binary.next().is_none());
-    let mut slice = [1];
-    let mut exponential = ExponentialGroupByMut::new(
-        &mut slice,
-        |_a: &i32, _b: &i32| -> bool
-            requires { ⊥ }
-        { true },
-    );
-    assert!(rt; holds(exponential.next(), &[1]) && exponential.next().is_none());
+    let calls: [(End, Option<&[i32]>); 2] = [(Front, Some(&[1])), (Front, None)];
+    assert!(rt; answers_mut(LinearGroupByMut::new(&mut [1], never), &calls));
+    assert!(rt; answers_mut(BinaryGroupByMut::new(&mut [1], never), &calls));
+    assert!(rt; answers_mut(ExponentialGroupByMut::new(&mut [1], never), &calls));
 }
 
 // How many questions are enough to halve so many elements, of at most four.

@@ -1,4 +1,6 @@
 //! The text of each iterator for writing that has one.
+use super::{equal, itself};
+use case_queues::writes;
 use slice_group_by::{
     BinaryGroupByKeyMut, BinaryGroupByMut, ExponentialGroupByKeyMut, ExponentialGroupByMut,
     LinearGroupByKeyMut, LinearGroupByMut,
@@ -7,42 +9,52 @@ use std::test::Fail;
 
 #[test]
 fn linear_texts(rt: HostRuntime) -> Result<(), Fail> {
-    let mut slice: [i32; 2] = [1, 2];
-    let mut none: [i32; 0] = [];
-    let by = LinearGroupByMut::new(&mut slice, |a, b| a == b);
-    let by_none = LinearGroupByMut::new(&mut none, |a, b| a == b);
-    let text = format!(in rt.alloc(); "{by:?} {by_none:?}")?;
-    assert_eq!(rt;
-        text.as_str(),
-        "LinearGroupByMut { slice: [1, 2] } LinearGroupByMut { slice: [] }"
+    let mut slice = [1, 2];
+    let by = LinearGroupByMut::new(&mut slice, equal);
+    assert!(rt; writes(rt.alloc(), &by, "LinearGroupByMut { slice: [1, 2] }")?);
+    let by_none = LinearGroupByMut::new(&mut [], equal);
+    assert!(rt; writes(rt.alloc(), &by_none, "LinearGroupByMut { slice: [] }")?);
+    let by_key = LinearGroupByKeyMut::new(&mut slice, itself);
+    assert!(rt;
+        writes(
+            rt.alloc(),
+            &by_key,
+            "LinearGroupByKeyMut { remainder: [1, 2] }"
+        )?
     );
-    let by_key = LinearGroupByKeyMut::new(&mut slice, |x| *x);
-    let by_key_none = LinearGroupByKeyMut::new(&mut none, |x| *x);
-    let text = format!(in rt.alloc(); "{by_key:?} {by_key_none:?}")?;
-    assert_eq!(rt;
-        text.as_str(),
-        "LinearGroupByKeyMut { remainder: [1, 2] } LinearGroupByKeyMut { remainder: [] }"
+    let by_key_none = LinearGroupByKeyMut::new(&mut [], itself);
+    assert!(rt;
+        writes(
+            rt.alloc(),
+            &by_key_none,
+            "LinearGroupByKeyMut { remainder: [] }"
+        )?
     );
     Ok(())
 }
 
 #[test]
 fn binary_texts(rt: HostRuntime) -> Result<(), Fail> {
-    let mut slice: [i32; 2] = [1, 2];
-    let mut none: [i32; 0] = [];
-    let by = BinaryGroupByMut::new(&mut slice, |a, b| a == b);
-    let by_none = BinaryGroupByMut::new(&mut none, |a, b| a == b);
-    let text = format!(in rt.alloc(); "{by:?} {by_none:?}")?;
-    assert_eq!(rt;
-        text.as_str(),
-        "BinaryGroupByMut { remainder: [1, 2] } BinaryGroupByMut { remainder: [] }"
+    let mut slice = [1, 2];
+    let by = BinaryGroupByMut::new(&mut slice, equal);
+    assert!(rt; writes(rt.alloc(), &by, "BinaryGroupByMut { remainder: [1, 2] }")?);
+    let by_none = BinaryGroupByMut::new(&mut [], equal);
+    assert!(rt; writes(rt.alloc(), &by_none, "BinaryGroupByMut { remainder: [] }")?);
+    let by_key = BinaryGroupByKeyMut::new(&mut slice, itself);
+    assert!(rt;
+        writes(
+            rt.alloc(),
+            &by_key,
+            "BinaryGroupByKeyMut { remainder: [1, 2] }"
+        )?
     );
-    let by_key = BinaryGroupByKeyMut::new(&mut slice, |x| *x);
-    let by_key_none = BinaryGroupByKeyMut::new(&mut none, |x| *x);
-    let text = format!(in rt.alloc(); "{by_key:?} {by_key_none:?}")?;
-    assert_eq!(rt;
-        text.as_str(),
-        "BinaryGroupByKeyMut { remainder: [1, 2] } BinaryGroupByKeyMut { remainder: [] }"
+    let by_key_none = BinaryGroupByKeyMut::new(&mut [], itself);
+    assert!(rt;
+        writes(
+            rt.alloc(),
+            &by_key_none,
+            "BinaryGroupByKeyMut { remainder: [] }"
+        )?
     );
     Ok(())
 }
@@ -50,21 +62,38 @@ fn binary_texts(rt: HostRuntime) -> Result<(), Fail> {
 // These two call the remainder `remaining`.
 #[test]
 fn exponential_texts(rt: HostRuntime) -> Result<(), Fail> {
-    let mut slice: [i32; 2] = [1, 2];
-    let mut none: [i32; 0] = [];
-    let by = ExponentialGroupByMut::new(&mut slice, |a, b| a == b);
-    let by_none = ExponentialGroupByMut::new(&mut none, |a, b| a == b);
-    let text = format!(in rt.alloc(); "{by:?} {by_none:?}")?;
-    assert_eq!(rt;
-        text.as_str(),
-        "ExponentialGroupByMut { remaining: [1, 2] } ExponentialGroupByMut { remaining: [] }"
+    let mut slice = [1, 2];
+    let by = ExponentialGroupByMut::new(&mut slice, equal);
+    assert!(rt;
+        writes(
+            rt.alloc(),
+            &by,
+            "ExponentialGroupByMut { remaining: [1, 2] }"
+        )?
     );
-    let by_key = ExponentialGroupByKeyMut::new(&mut slice, |x| *x);
-    let by_key_none = ExponentialGroupByKeyMut::new(&mut none, |x| *x);
-    let text = format!(in rt.alloc(); "{by_key:?} {by_key_none:?}")?;
-    assert_eq!(rt;
-        text.as_str(),
-        "ExponentialGroupByKeyMut { remaining: [1, 2] } ExponentialGroupByKeyMut { remaining: [] }"
+    let by_none = ExponentialGroupByMut::new(&mut [], equal);
+    assert!(rt;
+        writes(
+            rt.alloc(),
+            &by_none,
+            "ExponentialGroupByMut { remaining: [] }"
+        )?
+    );
+    let by_key = ExponentialGroupByKeyMut::new(&mut slice, itself);
+    assert!(rt;
+        writes(
+            rt.alloc(),
+            &by_key,
+            "ExponentialGroupByKeyMut { remaining: [1, 2] }"
+        )?
+    );
+    let by_key_none = ExponentialGroupByKeyMut::new(&mut [], itself);
+    assert!(rt;
+        writes(
+            rt.alloc(),
+            &by_key_none,
+            "ExponentialGroupByKeyMut { remaining: [] }"
+        )?
     );
     Ok(())
 }

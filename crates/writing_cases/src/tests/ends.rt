@@ -1,5 +1,5 @@
 //! Groups for writing from both ends, case by case.
-use super::holds;
+use super::{fill, holds};
 use slice_group_by::{BinaryGroupMut, ExponentialGroupByMut, ExponentialGroupMut};
 use std::cell::Cell;
 
@@ -26,11 +26,8 @@ fn group_outlives_the_iterator(rt: HostRuntime) {
         let mut groups = BinaryGroupMut::new(&mut slice);
         groups.next()
     };
-    if let Some(group) = group {
-        assert_eq!(rt; &*group, [1, 1].as_slice());
-        group[0] = 7;
-    }
-    assert_eq!(rt; slice, [7, 1, 2, 2]);
+    fill(group, 7);
+    assert_eq!(rt; slice, [7, 7, 2, 2]);
 }
 
 #[test]
@@ -46,6 +43,5 @@ fn size_hints(rt: HostRuntime) {
 fn last_groups(rt: HostRuntime) {
     let mut slice = [1, 1, 1, 2, 2, 2, 3, 3];
     assert!(rt; holds(ExponentialGroupMut::new(&mut slice).last(), &[3, 3]));
-    let mut none: [i32; 0] = [];
-    assert!(rt; ExponentialGroupMut::new(&mut none).last().is_none());
+    assert!(rt; ExponentialGroupMut::<i32>::new(&mut []).last().is_none());
 }

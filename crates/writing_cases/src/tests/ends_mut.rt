@@ -1,5 +1,5 @@
 //! Groups for writing from both ends, once for each family.
-use super::holds;
+use super::{holds, tens};
 use slice_group_by::{
     BinaryGroupByKeyMut, BinaryGroupMut, ExponentialGroupByKeyMut, ExponentialGroupMut, GroupQueue,
     LinearGroupByKeyMut, LinearGroupMut,
@@ -19,11 +19,11 @@ fn come_from_both_ends<'a, Q: GroupQueue<Item = &'a mut [i32]>>(
 #[test]
 fn by_key_from_both_ends(rt: HostRuntime) {
     let mut slice = [10, 11, 20, 21, 22];
-    let mut linear = LinearGroupByKeyMut::new(&mut slice, |x| *x / 10);
+    let mut linear = LinearGroupByKeyMut::new(&mut slice, tens);
     assert!(rt; come_from_both_ends(&mut linear, &[10, 11], &[20, 21, 22]));
-    let mut binary = BinaryGroupByKeyMut::new(&mut slice, |x| *x / 10);
+    let mut binary = BinaryGroupByKeyMut::new(&mut slice, tens);
     assert!(rt; come_from_both_ends(&mut binary, &[10, 11], &[20, 21, 22]));
-    let mut exponential = ExponentialGroupByKeyMut::new(&mut slice, |x| *x / 10);
+    let mut exponential = ExponentialGroupByKeyMut::new(&mut slice, tens);
     assert!(rt; come_from_both_ends(&mut exponential, &[10, 11], &[20, 21, 22]));
 }
 
@@ -37,11 +37,14 @@ fn equal_from_both_ends(rt: HostRuntime) {
 
 // Fills a group with twos, and says whether there is one, of these numbers.
 fn fill(group: Option<&mut [i32]>, wanted: &[i32]) -> bool {
-    group.is_some_and(|group| {
-        let holds = *group == *wanted;
-        group.fill(2);
-        holds
-    })
+    match group {
+        Some(group) => {
+            let holds = *group == *wanted;
+            group.fill(2);
+            holds
+        }
+        None => false,
+    }
 }
 
 // Takes two groups from both ends, and fills them when both are out, which changes nothing of the one between them.

@@ -1,31 +1,38 @@
 //! Linear groups for writing, case by case.
-use super::holds;
+use super::{ascend, fill, holds, itself, tens};
+use case_queues::answers_mut;
+use slice_group_by::End::{self, Back, Front};
 use slice_group_by::laws::rank_groups;
-use slice_group_by::{
-    End, GroupByMut, LinearGroupByKeyMut, LinearGroupByMut, LinearGroupMut, walk,
-};
+use slice_group_by::{GroupByMut, LinearGroupByKeyMut, LinearGroupByMut, LinearGroupMut, walk};
 use std::slice::from_mut;
-use std::test::Fail;
+
+fn parity(x: &i32) -> i32 {
+    *x % 2
+}
 
 #[test]
 fn group_by_key_mut(rt: HostRuntime) {
     let mut slice = [1, 2, 4, 5, 7, 8, 8];
-    let mut groups = LinearGroupByKeyMut::new(&mut slice, |i| i % 2);
-    assert!(rt; holds(groups.next(), &[1]));
-    assert!(rt; holds(groups.next(), &[2, 4]));
-    assert!(rt; holds(groups.next(), &[5, 7]));
-    assert!(rt; holds(groups.next(), &[8, 8]));
-    assert!(rt; groups.next().is_none());
+    let calls: [(End, Option<&[i32]>); 5] = [
+        (Front, Some(&[1])),
+        (Front, Some(&[2, 4])),
+        (Front, Some(&[5, 7])),
+        (Front, Some(&[8, 8])),
+        (Front, None),
+    ];
+    assert!(rt; answers_mut(LinearGroupByKeyMut::new(&mut slice, parity), &calls));
 }
 
 #[test]
 fn by_predicate_from_both_ends(rt: HostRuntime) {
     let mut array = [1, 2, 3, 2, 3];
     let mut slice = array.as_mut_slice();
-    let mut groups = slice.linear_group_by_mut(|a, b| a < b);
-    assert!(rt; holds(groups.next_back(), &[2, 3]));
-    assert!(rt; holds(groups.next(), &[1, 2, 3]));
-    assert!(rt; groups.next_back().is_none());
+    let calls: [(End, Option<&[i32]>); 3] = [
+        (Back, Some(&[2, 3])),
+        (Front, Some(&[1, 2, 3])),
+        (Back, None),
+    ];
+    assert!(rt; answers_mut(slice.linear_group_by_mut(ascend), &calls));
 }
 
 #[test]
@@ -35,21 +42,16 @@ fn group_outlives_the_iterator(rt: HostRuntime) {
         let mut groups = LinearGroupMut::new(&mut slice);
         groups.next()
     };
-    if let Some(group) = group {
-        assert_eq!(rt; group.len(), 2);
-        group[0] = 7;
-    }
-    assert_eq!(rt; slice, [7, 1, 2, 2]);
+    fill(group, 7);
+    assert_eq!(rt; slice, [7, 7, 2, 2]);
 }
 
 #[test]
 fn remainder_is_for_writing(rt: HostRuntime) {
     let mut slice = [1, 1, 2, 2];
-    let mut groups = LinearGroupByKeyMut::new(&mut slice, |x| *x);
-    assert_eq!(rt; groups.remainder_len(), 4);
-    assert!(rt; holds(groups.next(), &[1, 1]));
-    assert_eq!(rt; groups.remainder_len(), 2);
-    assert!(rt; !groups.is_empty());
+    let mut groups = LinearGroupByKeyMut::new(&mut slice, itself);
+    assert!(rt; groups.remainder_len() == 4 && holds(groups.next(), &[1, 1]));
+    assert!(rt; groups.remainder_len() == 2 && !groups.is_empty());
     let remainder = groups.into_remainder();
     assert_eq!(rt; &*remainder, [2, 2].as_slice());
     remainder.fill(9);
@@ -59,66 +61,38 @@ fn remainder_is_for_writing(rt: HostRuntime) {
 #[test]
 fn empty_when_all_are_out(rt: HostRuntime) {
     let mut slice = [1, 1];
-    let mut groups = LinearGroupByKeyMut::new(&mut slice, |x| *x);
+    let mut groups = LinearGroupByKeyMut::new(&mut slice, itself);
     let _group = groups.next();
-    assert!(rt; groups.is_empty());
-    assert_eq!(rt; groups.remainder_len(), 0);
-    assert_eq!(rt; groups.into_remainder().len(), 0);
+    assert!(rt; groups.is_empty() && groups.remainder_len() == 0);
+    assert!(rt; groups.into_remainder().is_empty());
 }
 
 #[test]
 fn size_hint_and_last(rt: HostRuntime) {
     let mut slice = [1, 1, 2];
     let mut groups = LinearGroupMut::new(&mut slice);
-    assert_eq!(rt; groups.size_hint(), (1, Some(3)));
-    assert!(rt; holds(groups.next(), &[1, 1]));
-    assert_eq!(rt; groups.size_hint(), (1, Some(1)));
-    assert!(rt; holds(groups.last(), &[2]));
-    let mut none: [i32; 0] = [];
-    let groups = LinearGroupMut::new(&mut none);
-    assert_eq!(rt; groups.size_hint(), (0, Some(0)));
-    assert!(rt; groups.last().is_none());
+    assert!(rt; groups.size_hint() == (1, Some(3)) && holds(groups.next(), &[1, 1]));
+    assert!(rt; groups.size_hint() == (1, Some(1)) && holds(groups.last(), &[2]));
+    let groups = LinearGroupMut::<i32>::new(&mut []);
+    assert!(rt; groups.size_hint() == (0, Some(0)) && groups.last().is_none());
 }
 
 // No contract says so: `last` leaves the elements before its group, and a method of the trait leaves the variable's slice.
 #[test]
 fn leaves_the_other_elements(rt: HostRuntime) {
     let mut array = [1, 2, 2, 3, 3];
-    let groups = LinearGroupMut::new(&mut array);
-    if let Some(group) = groups.last() {
-        group.fill(9);
-    }
+    fill(LinearGroupMut::new(&mut array).last(), 9);
     assert_eq!(rt; array, [1, 2, 2, 9, 9]);
     let mut slice: &mut [i32] = &mut array;
     let _ = slice.linear_group_mut().next();
-    let _ = slice.linear_group_by_mut(|a, b| a < b).next_back();
-    let _ = slice.linear_group_by_key_mut(|x| *x).last();
+    let _ = slice.linear_group_by_mut(ascend).next_back();
+    let _ = slice.linear_group_by_key_mut(itself).last();
     assert_eq!(rt; &*slice, [1, 2, 2, 9, 9].as_slice());
 }
 
 #[test]
-fn debug_texts(rt: HostRuntime) -> Result<(), Fail> {
-    let mut slice = [1, 2];
-    let mut none: [i32; 0] = [];
-    let by = LinearGroupByMut::new(&mut slice, |a, b| a == b);
-    let by_none = LinearGroupByMut::new(&mut none, |a, b| a == b);
-    let text = format!(in rt.alloc(); "{by:?} {by_none:?}")?;
-    assert_eq!(rt;
-        text.as_str(),
-        "LinearGroupByMut { slice: [1, 2] } LinearGroupByMut { slice: [] }"
-    );
-    let mut slice = [1, 2];
-    let by_key = LinearGroupByKeyMut::new(&mut slice, |x: &i32| *x);
-    let text = format!(in rt.alloc(); "{by_key:?}")?;
-    assert_eq!(rt; text.as_str(), "LinearGroupByKeyMut { remainder: [1, 2] }");
-    Ok(())
-}
-
-#[test]
 fn ranks(rt: HostRuntime) {
-    let mut none: [usize; 0] = [];
-    rank_groups(&mut none);
-    assert_eq!(rt; none.len(), 0);
+    rank_groups(&mut []);
     let mut one = [9];
     rank_groups(&mut one);
     assert_eq!(rt; one, [0]);
@@ -142,20 +116,15 @@ fn walks_with_a_changing_predicate(rt: HostRuntime) {
     let mut last: Option<&mut [i32]> = None;
     let mut first: Option<&mut [i32]> = None;
     let mut none: Option<&mut [i32]> = None;
-    walk(&mut groups, &[End::Back], from_mut(&mut last));
-    walk(&mut groups, &[End::Front], from_mut(&mut first));
-    walk(&mut groups, &[End::Back], from_mut(&mut none));
-    assert!(rt; holds(first, &[7, 8]));
-    assert!(rt; none.is_none());
-    if let Some(last) = last {
-        assert_eq!(rt; &*last, [9, 10].as_slice());
-        last.fill(0);
-    }
-    assert_eq!(rt; slice, [7, 8, 0, 0]);
-    assert_eq!(rt; questions, 3);
+    walk(&mut groups, &[Back], from_mut(&mut last));
+    walk(&mut groups, &[Front], from_mut(&mut first));
+    walk(&mut groups, &[Back], from_mut(&mut none));
+    assert!(rt; holds(first, &[7, 8]) && none.is_none());
+    fill(last, 0);
+    assert!(rt; slice == [7, 8, 0, 0] && questions == 3);
 }
 
-fn call<'a>(groups: &mut LinearGroupMut<'a, usize>, back: bool) -> Option<&'a mut [usize]> {
+fn call<'a>(groups: &mut LinearGroupMut<'a, i32>, back: bool) -> Option<&'a mut [i32]> {
     if back {
         groups.next_back()
     } else {
@@ -163,14 +132,8 @@ fn call<'a>(groups: &mut LinearGroupMut<'a, usize>, back: bool) -> Option<&'a mu
     }
 }
 
-fn fill(group: Option<&mut [usize]>, with: usize) {
-    if let Some(group) = group {
-        group.fill(with);
-    }
-}
-
 // Makes four calls over four groups, keeps all the groups, and then fills each with the number of its call.
-fn fill_in_order(slice: &mut [usize], backs: [bool; 4]) {
+fn fill_in_order(slice: &mut [i32], backs: [bool; 4]) {
     let mut groups = LinearGroupMut::new(slice);
     let [back_1, back_2, back_3, back_4] = backs;
     let first = call(&mut groups, back_1);
@@ -208,47 +171,32 @@ fn every_order_of_four_calls(rt: HostRuntime) {
 #[test]
 fn documentation_examples(rt: HostRuntime) {
     let mut array = [1, 1, 2, 3, 3];
-    let mut groups = LinearGroupMut::new(&mut array);
-    if let Some(group) = groups.next() {
-        group.fill(7);
-    }
+    fill(LinearGroupMut::new(&mut array).next(), 7);
     assert_eq!(rt; array, [7, 7, 2, 3, 3]);
-
     let mut array = [1, 2, 3, 2, 3];
-    let mut groups = LinearGroupByMut::new(&mut array, |a, b| a < b);
-    if let Some(group) = groups.next_back() {
-        group.fill(0);
-    }
+    fill(LinearGroupByMut::new(&mut array, ascend).next_back(), 0);
     assert_eq!(rt; array, [1, 2, 3, 0, 0]);
-
     let mut array = [10, 11, 20, 21, 22];
-    let mut groups = LinearGroupByKeyMut::new(&mut array, |x| *x / 10);
-    if let Some(group) = groups.next() {
-        group.fill(0);
-    }
+    fill(LinearGroupByKeyMut::new(&mut array, tens).next(), 0);
     assert_eq!(rt; array, [0, 0, 20, 21, 22]);
+    let mut slice = [3, 3, 5, 3, 7, 7];
+    rank_groups(&mut slice);
+    assert_eq!(rt; slice, [0, 0, 1, 2, 3, 3]);
+}
 
+#[test]
+fn documentation_examples_of_loops(rt: HostRuntime) {
     let mut array = [1, 1, 2, 3, 3];
     let mut slice: &mut [i32] = &mut array;
     for group in slice.linear_group_mut() {
         group.fill(0);
     }
-    assert_eq!(rt; &*slice, [0, 0, 0, 0, 0].as_slice());
     assert_eq!(rt; array, [0, 0, 0, 0, 0]);
-
     let mut array = [1, 1, 2, 3, 3];
     let mut groups = LinearGroupMut::new(&mut array);
     let first = groups.next();
     let last = groups.next_back();
-    if let Some(group) = first {
-        group.fill(7);
-    }
-    if let Some(group) = last {
-        group.fill(9);
-    }
+    fill(first, 7);
+    fill(last, 9);
     assert_eq!(rt; array, [7, 7, 2, 9, 9]);
-
-    let mut slice = [3, 3, 5, 3, 7, 7];
-    rank_groups(&mut slice);
-    assert_eq!(rt; slice, [0, 0, 1, 2, 3, 3]);
 }

@@ -15,3 +15,25 @@ fn holds(group: Option<&mut [i32]>, wanted: &[i32]) -> bool {
         None => false,
     }
 }
+
+fn fill(group: Option<&mut [i32]>, with: i32) {
+    if let Some(group) = group {
+        group.fill(with);
+    }
+}
+
+fn equal(a: &i32, b: &i32) -> bool {
+    *a == *b
+}
+
+fn ascend(a: &i32, b: &i32) -> bool {
+    *a < *b
+}
+
+fn itself(x: &i32) -> i32 {
+    *x
+}
+
+fn tens(x: &i32) -> i32 {
+    *x / 10
+}

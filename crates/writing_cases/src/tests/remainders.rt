@@ -1,5 +1,5 @@
 //! What no call has handed out yet, and the caller's writes to it.
-use super::holds;
+use super::{equal, holds, itself, tens};
 use slice_group_by::{
     BinaryGroupByKeyMut, BinaryGroupByMut, ExponentialGroupByKeyMut, ExponentialGroupByMut,
 };
@@ -14,7 +14,7 @@ fn fill_twos(remainder: &mut [i32]) {
 #[test]
 fn remainder_of_exponential_by_predicate_is_for_writing(rt: HostRuntime) {
     let mut slice = [1, 1, 2, 2];
-    let mut groups = ExponentialGroupByMut::new(&mut slice, |a, b| a == b);
+    let mut groups = ExponentialGroupByMut::new(&mut slice, equal);
     assert!(rt; groups.remainder_len() == 4 && holds(groups.next(), &[1, 1]));
     assert!(rt; groups.remainder_len() == 2 && !groups.is_empty());
     fill_twos(groups.into_remainder());
@@ -24,7 +24,7 @@ fn remainder_of_exponential_by_predicate_is_for_writing(rt: HostRuntime) {
 #[test]
 fn remainder_of_exponential_by_key_is_for_writing(rt: HostRuntime) {
     let mut slice = [1, 1, 2, 2];
-    let mut groups = ExponentialGroupByKeyMut::new(&mut slice, |x| *x);
+    let mut groups = ExponentialGroupByKeyMut::new(&mut slice, itself);
     assert!(rt; groups.remainder_len() == 4 && holds(groups.next(), &[1, 1]));
     assert!(rt; groups.remainder_len() == 2 && !groups.is_empty());
     fill_twos(groups.into_remainder());
@@ -35,7 +35,7 @@ fn remainder_of_exponential_by_key_is_for_writing(rt: HostRuntime) {
 #[test]
 fn remainder_of_binary_by_key_is_seen(rt: HostRuntime) {
     let mut slice = [10, 11, 20];
-    let mut groups = BinaryGroupByKeyMut::new(&mut slice, |x| *x / 10);
+    let mut groups = BinaryGroupByKeyMut::new(&mut slice, tens);
     if let Some(group) = groups.next() {
         assert_eq!(rt; &*group, [10, 11].as_slice());
         group.fill(0);
@@ -49,11 +49,11 @@ fn remainder_of_binary_by_key_is_seen(rt: HostRuntime) {
 #[test]
 fn nothing_remains_when_all_are_out(rt: HostRuntime) {
     let mut slice = [1, 1, 2];
-    let mut binary = BinaryGroupByMut::new(&mut slice, |a, b| a == b);
+    let mut binary = BinaryGroupByMut::new(&mut slice, equal);
     assert!(rt; holds(binary.next(), &[1, 1]) && holds(binary.next(), &[2]));
     assert!(rt; binary.is_empty() && binary.remainder_len() == 0);
     assert!(rt; binary.into_remainder().is_empty());
-    let mut exponential = ExponentialGroupByMut::new(&mut slice, |a, b| a == b);
+    let mut exponential = ExponentialGroupByMut::new(&mut slice, equal);
     assert!(rt; holds(exponential.next(), &[1, 1]) && holds(exponential.next(), &[2]));
     assert!(rt; exponential.is_empty() && exponential.remainder_len() == 0);
     assert!(rt; exponential.into_remainder().is_empty());
