@@ -9,6 +9,7 @@ ghost use Rattle.sgb_loans.specs.Loans.{NothingOut};
 use crate::by_equality::{LinearStrGroup, LinearStrGroupMut};
 use crate::by_key::{LinearStrGroupByKey, LinearStrGroupByKeyMut};
 use crate::by_predicate::{LinearStrGroupBy, LinearStrGroupByMut};
+use std::alloc::Allocator;
 use std::convert::AsStr;
 
 /// Groups of neighbouring characters, for reading.
@@ -69,6 +70,8 @@ pub trait StrGroupBy: AsStr {
 }
 
 impl StrGroupBy for &str {}
+
+impl<A: Allocator> StrGroupBy for String<A> {}
 
 /// Groups of neighbouring characters of a text's bytes, for writing.
 ///
@@ -150,5 +153,23 @@ impl StrGroupByMut for &mut [u8] {
     #[inline]
     fn as_mut_bytes(&mut self) -> &mut [u8] {
         *self
+    }
+}
+
+impl<const N: usize> StrGroupByMut for [u8; N] {
+    ghost text = { λ bytes. bytes };
+
+    #[inline]
+    fn as_mut_bytes(&mut self) -> &mut [u8] {
+        &mut self[..]
+    }
+}
+
+impl<A: Allocator> StrGroupByMut for Vec<u8, A> {
+    ghost text = { λ bytes. bytes.items };
+
+    #[inline]
+    fn as_mut_bytes(&mut self) -> &mut [u8] {
+        self.as_mut_slice()
     }
 }

@@ -1,7 +1,7 @@
 //! The two ends of a list.
 
 /// An end of a slice, of a text, or of a queue of groups.
-#[derive(Drop)]
+#[derive(Clone, Copy, PartialEq, Eq, Debug)]
 pub enum End {
     Front,
     Back,

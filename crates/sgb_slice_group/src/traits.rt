@@ -10,6 +10,7 @@ ghost use Rattle.sgb_slice_group.specs.Gives.{shown};
 use crate::binary_group::{BinaryGroup, BinaryGroupBy, BinaryGroupByKey};
 use crate::exponential_group::{ExponentialGroup, ExponentialGroupBy, ExponentialGroupByKey};
 use crate::linear_group::{LinearGroup, LinearGroupBy, LinearGroupByKey};
+use std::alloc::Allocator;
 use std::convert::AsSlice;
 
 /// Groups of neighbouring elements, for reading.
@@ -172,3 +173,9 @@ pub trait GroupBy<T>: AsSlice<T> {
 }
 
 impl<T> GroupBy<T> for &[T] {}
+
+impl<T> GroupBy<T> for &mut [T] {}
+
+impl<T, const N: usize> GroupBy<T> for [T; N] {}
+
+impl<T, A: Allocator> GroupBy<T> for Vec<T, A> {}

@@ -13,6 +13,7 @@ use crate::exponential_group::{
     ExponentialGroupByKeyMut, ExponentialGroupByMut, ExponentialGroupMut,
 };
 use crate::linear_group::{LinearGroupByKeyMut, LinearGroupByMut, LinearGroupMut};
+use std::alloc::Allocator;
 
 /// Groups of neighbouring elements, for writing.
 ///
@@ -204,5 +205,23 @@ impl<T> GroupByMut<T> for &mut [T] {
     #[inline]
     fn as_mut_slice(&mut self) -> &mut [T] {
         *self
+    }
+}
+
+impl<T, const N: usize> GroupByMut<T> for [T; N] {
+    ghost elements = { λ array. array };
+
+    #[inline]
+    fn as_mut_slice(&mut self) -> &mut [T] {
+        &mut self[..]
+    }
+}
+
+impl<T, A: Allocator> GroupByMut<T> for Vec<T, A> {
+    ghost elements = { λ vec. vec.items };
+
+    #[inline]
+    fn as_mut_slice(&mut self) -> &mut [T] {
+        Vec::as_mut_slice(self)
     }
 }

@@ -8,4 +8,5 @@ mod guarded;
 mod linear;
 mod linear_by;
 mod methods;
+mod owners;
 mod walks;
