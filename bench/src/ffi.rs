@@ -3,6 +3,9 @@
 /// A function of a slice for reading, as C has it.
 pub type Read = unsafe extern "C" fn(*const u32, usize) -> usize;
 
+/// A function of a text's bytes.
+pub type Text = unsafe extern "C" fn(*const u8, usize) -> usize;
+
 /// A function of a slice for writing.
 pub type Write = unsafe extern "C" fn(*mut u32, usize) -> usize;
 
@@ -18,6 +21,7 @@ reading! {
     linear_front linear_back linear_by_front linear_by_back linear_by_key_front linear_by_key_back
     binary_front binary_back binary_by_front binary_by_back binary_by_key_front binary_by_key_back
     exponential_front exponential_back exponential_by_front exponential_by_back exponential_by_key_front exponential_by_key_back
+    linear_both_ends linear_questions binary_questions exponential_questions
 }
 
 writing! {
@@ -30,6 +34,7 @@ writing! {
 extern "C" {
     pub fn text_front(bytes: *const u8, len: usize) -> usize;
     pub fn text_back(bytes: *const u8, len: usize) -> usize;
+    pub fn text_both_ends(bytes: *const u8, len: usize) -> usize;
     pub fn text_mut_front(bytes: *mut u8, len: usize) -> usize;
     pub fn text_mut_back(bytes: *mut u8, len: usize) -> usize;
     pub fn searches(xs: *const u32, len: usize, keys: *const u32, count: usize) -> usize;

@@ -150,14 +150,15 @@ fn joins(rounds: usize) {
     }
 }
 
-/// Time an element from 10^3 to 10^7 elements, in groups of eight, and of one.
+/// Time an element from 10^3 to 10^7 elements, in groups of eight, and of one; and the same of texts in groups of one character.
 fn growth(rounds: usize) {
-    println!("\n## Growth\n\nNanoseconds an element, least of the rounds, in groups of one and of eight.\n");
+    println!("\n## Growth\n\nNanoseconds an element or a character, least of the rounds.\n");
     println!("| walk | 10^3 | 10^4 | 10^5 | 10^6 | 10^7 | 10^6 / 10^4 |");
     println!("|---|---|---|---|---|---|---|");
-    let walks: [(&str, ffi::Read); 6] = [
+    let walks: [(&str, ffi::Read); 7] = [
         ("linear, front", ffi::linear_front),
         ("linear, back", ffi::linear_back),
+        ("linear, both ends in turn", ffi::linear_both_ends),
         ("binary, front", ffi::binary_front),
         ("binary, back", ffi::binary_back),
         ("exponential, front", ffi::exponential_front),
@@ -166,22 +167,72 @@ fn growth(rounds: usize) {
     let mut lines = Vec::new();
     for len in [1, 8] {
         for (name, walk) in walks {
-            let mut points = Vec::new();
-            for power in 3..=7 {
-                let count = 10usize.pow(power);
-                let xs = slice(count, Lengths::Each(len));
-                let rounds = if power < 7 { rounds } else { rounds.min(7) };
-                let time = in_turn(rounds, &mut [&mut || read(walk, &xs)])[0];
-                points.push((count, time.least / count as f64));
-            }
-            let cells: Vec<String> = points.iter().map(|p| format!("{:.3}", p.1)).collect();
-            println!("| {name}, groups of {len} | {} | {:.2} |", cells.join(" | "), points[3].1 / points[1].1);
+            let points = grown(rounds, &|count| slice(count, Lengths::Each(len)), &|xs| read(walk, xs));
+            print_growth(&format!("{name}, groups of {len}"), &points);
             if len == 8 {
                 lines.push(Line { name: name.to_string(), points });
             }
         }
     }
+    let walks: [(&str, ffi::Text); 3] =
+        [("text, front", ffi::text_front), ("text, back", ffi::text_back), ("text, both ends in turn", ffi::text_both_ends)];
+    for (name, walk) in walks {
+        let points = grown(rounds, &|count| text(count, Lengths::Each(1), true), &|s| unsafe { walk(s.as_ptr(), s.len()) });
+        print_growth(&format!("{name}, groups of 1"), &points);
+    }
     std::fs::write("growth.svg", picture::svg("Walks over groups of eight", &lines)).expect("growth.svg");
+}
+
+/// The number of elements, from 10^3 to 10^7, and the least time of a walk over so many, an element.
+fn grown<T>(rounds: usize, input: &dyn Fn(usize) -> T, walk: &dyn Fn(&T) -> usize) -> Vec<(usize, f64)> {
+    let mut points = Vec::new();
+    for power in 3..=7 {
+        let count = 10usize.pow(power);
+        let xs = input(count);
+        let rounds = if power < 7 { rounds } else { rounds.min(7) };
+        let time = in_turn(rounds, &mut [&mut || walk(&xs)])[0];
+        points.push((count, time.least / count as f64));
+    }
+    points
+}
+
+fn print_growth(name: &str, points: &[(usize, f64)]) {
+    let cells: Vec<String> = points.iter().map(|p| format!("{:.3}", p.1)).collect();
+    println!("| {name} | {} | {:.2} |", cells.join(" | "), points[3].1 / points[1].1);
+}
+
+/// How many binary digits the number has.
+fn digits(n: usize) -> usize {
+    (usize::BITS - n.leading_zeros()) as usize
+}
+
+/// How many questions a whole walk asks, and how many it may by the contracts.
+fn questions() {
+    println!("\n## Questions\n\nQuestions of a walk from the front, an element, and the most that the contracts allow.\n");
+    println!("| groups of | linear | exactly | binary | at most | exponential | at most |");
+    println!("|---|---|---|---|---|---|---|");
+    for lengths in LENGTHS {
+        let xs = slice(COUNT, lengths);
+        let groups: Vec<usize> = xs.chunk_by(|a, b| a == b).map(<[u32]>::len).collect();
+        let mut left = COUNT;
+        let mut halvings = 0;
+        for len in &groups {
+            halvings += digits(left - 1);
+            left -= len;
+        }
+        let gallops: usize = groups.iter().map(|len| 2 * digits(*len) + 1).sum();
+        let counts = [
+            read(ffi::linear_questions, &xs),
+            COUNT - 1,
+            read(ffi::binary_questions, &xs),
+            halvings,
+            read(ffi::exponential_questions, &xs),
+            gallops,
+        ];
+        assert!(counts[0] == counts[1] && counts[2] <= counts[3] && counts[4] <= counts[5]);
+        let cells: Vec<String> = counts.iter().map(|count| format!("{:.5}", *count as f64 / COUNT as f64)).collect();
+        println!("| {} | {} |", lengths.name(), cells.join(" | "));
+    }
 }
 
 /// A walk's peers of one end, by their names.
@@ -237,5 +288,6 @@ fn main() {
     texts(rounds);
     searches(rounds);
     joins(rounds);
+    questions();
     growth(rounds);
 }

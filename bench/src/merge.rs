@@ -6,11 +6,14 @@ pub fn merged(files: &[String]) -> String {
     let lines: Vec<Vec<&str>> = texts.iter().map(|text| text.lines().collect()).collect();
     let mut merged = String::new();
     let mut is_growth = false;
+    let mut is_count = false;
     for (at, line) in lines[0].iter().enumerate() {
         let rows: Vec<Vec<f64>> = lines.iter().filter_map(|lines| numbers(lines.get(at)?)).collect();
         let name = line.split('|').nth(1).unwrap_or("").trim();
         is_growth |= name == "walk";
+        is_count = (is_count || name == "groups of") && !line.is_empty();
         let row = match rows.first().map(Vec::len) {
+            Some(6) if is_count => line.to_string(),
             Some(6) if is_growth => {
                 let times: Vec<f64> = (0..5).map(|column| least(&rows, column)).collect();
                 let cells: Vec<String> = times.iter().map(|time| format!("{time:.3}")).collect();

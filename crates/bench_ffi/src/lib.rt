@@ -25,6 +25,35 @@ macro_rules! lengths {
     }};
 }
 
+macro_rules! lengths_from_both_ends {
+    ($groups:expr, $most:expr) => {{
+        let mut groups = $groups;
+        let mut sum = 0usize;
+        for _ in 0..$most {
+            let Some(first) = groups.next() else {
+                break;
+            };
+            sum = sum.wrapping_mul(31).wrapping_add(first.len());
+            let Some(last) = groups.next_back() else {
+                break;
+            };
+            sum = sum.wrapping_mul(31).wrapping_add(last.len());
+        }
+        sum
+    }};
+}
+
+macro_rules! questions {
+    ($groups:ident, $xs:expr) => {{
+        let mut questions = 0usize;
+        for _ in $groups::new($xs, |a, b| {
+            questions = questions.wrapping_add(1);
+            a == b
+        }) {}
+        questions
+    }};
+}
+
 // Bytes that are known to be UTF-8, as a text: the walk is timed, and not the test.
 #[inline]
 fn text_of(bytes: &[u8]) -> &str
@@ -264,4 +293,31 @@ pub extern "C" fn merge_join(left: &[u32], right: &[u32]) -> usize {
         sum = sum.wrapping_mul(31).wrapping_add(partner.len());
     }
     sum
+}
+
+#[unsafe(no_mangle)]
+pub extern "C" fn linear_both_ends(xs: &[u32]) -> usize {
+    lengths_from_both_ends!(LinearGroup::new(xs), xs.len())
+}
+
+#[unsafe(no_mangle)]
+pub extern "C" fn text_both_ends(bytes: &[u8]) -> usize
+    requires { IsUtf8 bytes.now }
+{
+    lengths_from_both_ends!(LinearStrGroup::new(text_of(bytes)), bytes.len())
+}
+
+#[unsafe(no_mangle)]
+pub extern "C" fn linear_questions(xs: &[u32]) -> usize {
+    questions!(LinearGroupBy, xs)
+}
+
+#[unsafe(no_mangle)]
+pub extern "C" fn binary_questions(xs: &[u32]) -> usize {
+    questions!(BinaryGroupBy, xs)
+}
+
+#[unsafe(no_mangle)]
+pub extern "C" fn exponential_questions(xs: &[u32]) -> usize {
+    questions!(ExponentialGroupBy, xs)
 }
