@@ -1,0 +1,35 @@
+//! Bytes, which are a slice and may be a text.
+use slice_group_by::{GroupByMut, LinearStrGroupByKeyMut, StrGroupByMut};
+
+/// Clears all but the first of each run of bytes.
+pub fn clear_repeats(mut bytes: &mut [u8]) {
+    for run in GroupByMut::linear_group_mut(&mut bytes) {
+        if let Some((_, others)) = run.split_first_mut() {
+            others.fill(0);
+        }
+    }
+}
+
+/// Makes dashes of each run of equal characters that has several bytes, and says whether the bytes were a text.
+pub fn cross_out(mut bytes: &mut [u8]) -> bool {
+    if std::str::from_utf8(bytes).is_err() {
+        return false;
+    }
+    for run in StrGroupByMut::linear_group_mut(&mut bytes) {
+        if run.len() > 1 {
+            run.fill(b'-');
+        }
+    }
+    true
+}
+
+/// Makes the first letter of each word a capital.
+pub fn capitalize(bytes: &mut [u8]) {
+    if std::str::from_utf8(bytes).is_ok() {
+        for word in LinearStrGroupByKeyMut::new(bytes, |c| c.is_alphabetic()) {
+            if let Some(first) = word.first_mut() {
+                first.make_ascii_uppercase();
+            }
+        }
+    }
+}

@@ -1,0 +1,84 @@
+//! Small programs over groups, each proved with no proof file, which `docs/CALLING.md` shows. Each line that is printed belongs
+//! to one module.
+#![tactic(auto)]
+
+mod bytes;
+mod closures;
+mod inputs;
+mod loops;
+mod rest;
+mod returned;
+
+use closures::{Entry, Within};
+use returned::RunReader;
+use std::io;
+
+fn main(rt: HostRuntime) -> io::Result<()> {
+    let mut vec = vec![in rt.alloc(); 7, 7, 8, 1]?;
+    let string = format!(in rt.alloc(); "aab")?;
+    let mut array = [1, 2, 3, 2, 3];
+    let by_new = inputs::runs_by_new([7, 7, 8, 1], &vec, &string);
+    let by_methods = inputs::runs_by_methods(&[7, 7, 8, 1], &vec, string.as_str());
+    inputs::turn_stretches(&mut array, &mut vec);
+    println!(rt; "inputs: {by_new:?} {by_methods:?} {array:?} {vec:?}")?;
+
+    let mut reader = RunReader::new(&[1, 1, 2]);
+    let reads = (reader.next_run(), reader.next_run(), reader.next_run());
+    let longest = returned::longest_run(&[1, 1, 2, 3, 3]);
+    println!(rt;
+        "returned: {longest:?} {:?} {reads:?}",
+        returned::all_runs(rt.alloc(), "aab")?
+    )?;
+
+    let (left, right) = ([1, 1, 2, 4], [1, 2, 2, 3, 4]);
+    let shared = (
+        loops::shared(&left, &right),
+        loops::shared_by_join(&left, &right),
+    );
+    let runs = [1, 2, 2, 2, 3, 4];
+    let (longer, equal) = (
+        loops::longer_than_before(&runs),
+        loops::as_long_as_next(&runs),
+    );
+    println!(rt;
+        "loops: {shared:?} {longer} {equal} {:?}",
+        loops::two_and_rest(&runs)
+    )?;
+
+    let near = [1, 2, 4, 9, 9, 20];
+    let counts = (
+        closures::stretches(&near, 2),
+        closures::questions(&near),
+        closures::count_groups(&near, |a, b| a <= b),
+        closures::count_together(&near, &Within(5)),
+    );
+    let mut index = Vec::new(rt.alloc());
+    for (word, page) in [("ant", 2), ("ant", 9), ("bee", 4)] {
+        index.push(Entry {
+            word: format!(in rt.alloc(); "{word}")?,
+            page,
+        })?;
+    }
+    let found = (
+        closures::find_page(&index, "bee"),
+        closures::find_page(&index, "cat"),
+    );
+    println!(rt;
+        "closures: {counts:?} {} {found:?}",
+        closures::count_words(&index)
+    )?;
+
+    println!(rt;
+        "rest: {:?} {:?}",
+        rest::after_first_run(&[1, 1, 2]),
+        rest::after_first_letters("aab")
+    )?;
+
+    let mut repeats = [5, 5, 5, 6, 7, 7];
+    bytes::clear_repeats(&mut repeats);
+    let mut words = *b"one two";
+    bytes::capitalize(&mut words);
+    let mut crossed = *b"aab";
+    let was_text = (bytes::cross_out(&mut crossed), bytes::cross_out(&mut [255]));
+    println!(rt; "bytes: {repeats:?} {words:?} {crossed:?} {was_text:?}")
+}

@@ -1,0 +1,18 @@
+//! What remains after some groups.
+use slice_group_by::{LinearGroup, LinearStrGroup};
+
+/// What stands after the first run.
+pub fn after_first_run(slice: &[u32]) -> &[u32] {
+    let mut runs = LinearGroup::new(slice);
+    runs.next();
+    runs.remainder()
+}
+
+/// What stands after the first run of a text.
+pub fn after_first_letters(text: &str) -> &str {
+    let mut runs = LinearStrGroup::new(text);
+    let Some(run) = runs.next() else {
+        return text;
+    };
+    text.get(run.len()..).unwrap_or("")
+}
