@@ -1,5 +1,7 @@
 //! What to call on an array, a `Vec`, a `String`, and on what is borrowed of them.
-use slice_group_by::{GroupBy, LinearGroup, LinearGroupByMut, LinearStrGroup, StrGroupBy};
+use slice_group_by::{
+    GroupBy, GroupByMut, LinearGroup, LinearGroupByMut, LinearStrGroup, StrGroupBy,
+};
 
 /// How many runs there are in each: `new` takes a borrow of whatever holds the elements.
 pub fn runs_by_new(array: [u32; 4], vec: &Vec<u32>, string: &String) -> [usize; 3] {
@@ -10,12 +12,12 @@ pub fn runs_by_new(array: [u32; 4], vec: &Vec<u32>, string: &String) -> [usize; 
     ]
 }
 
-/// The same by methods, which slices and texts have.
-pub fn runs_by_methods(slice: &[u32], vec: &Vec<u32>, text: &str) -> [usize; 3] {
+/// The same by methods.
+pub fn runs_by_methods(array: [u32; 4], vec: &Vec<u32>, string: &String) -> [usize; 3] {
     [
-        slice.linear_group().count(),
-        vec.as_slice().linear_group().count(),
-        text.linear_group().count(),
+        array.linear_group().count(),
+        vec.linear_group().count(),
+        string.linear_group().count(),
     ]
 }
 
@@ -24,7 +26,7 @@ pub fn turn_stretches(array: &mut [u32; 5], vec: &mut Vec<u32>) {
     for stretch in LinearGroupByMut::new(array, |a, b| a < b) {
         stretch.reverse();
     }
-    for stretch in LinearGroupByMut::new(vec, |a, b| a < b) {
+    for stretch in vec.linear_group_by_mut(|a, b| a < b) {
         stretch.reverse();
     }
 }

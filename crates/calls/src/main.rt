@@ -18,7 +18,7 @@ fn main(rt: HostRuntime) -> io::Result<()> {
     let string = format!(in rt.alloc(); "aab")?;
     let mut array = [1, 2, 3, 2, 3];
     let by_new = inputs::runs_by_new([7, 7, 8, 1], &vec, &string);
-    let by_methods = inputs::runs_by_methods(&[7, 7, 8, 1], &vec, string.as_str());
+    let by_methods = inputs::runs_by_methods([7, 7, 8, 1], &vec, &string);
     inputs::turn_stretches(&mut array, &mut vec);
     println!(rt; "inputs: {by_new:?} {by_methods:?} {array:?} {vec:?}")?;
 
