@@ -1,0 +1,27 @@
+use Rattle.std.proofs.Common.{◌≡◌, None, refl, map, nat_eq, ap, ◌∙◌, sym}
+use Rattle.std.proofs.lemmas.Iterator.Consumers.{YieldsList-end}
+use Rattle.std.proofs.lemmas.List.Folds.{flat_map-map}
+use Rattle.slice_group_by.specs.End.TheVariants.{Front}
+use Rattle.slice_group_by.specs.Split.{split, concat}
+use Rattle.run_length_coder.specs.Runs.{copies}
+use Rattle.run_length_coder.proofs.Copies.{pieces_copied, run_of}
+use Rattle.run_length_coder.proofs.coder.encode.Goals as goal
+
+-- at the end the runs are those of the pieces
+module _ (c : goal.In-None) where
+  pieces : map copies c.loop-group.runs.items ≡ split nat_eq c.args.bytes.now
+  pieces =
+      let seen = c.sees_pieces.ensures.pieces nat_eq Front c.new-groups.result (c.new-groups.ensures.settled tt) in
+      let yielded = rw c.into_iter-group-iterator.ensures.into_iter_gives at c.loop-group.yielded_by in
+      let drained = YieldsList-end seen _ _ yielded None _ refl c.in-None.ensures.steps in
+      let is_split = c.one_split.ensures.exists nat_eq c.args.bytes.now in
+      ap (map copies) (c.loop-group.invariant ∙ ap (map run_of) (rw c.new-groups.ensures.remainder at drained.0))
+      ∙ pieces_copied _ is_split.nonempty is_split.accepted
+
+pub returns-clause-longest : goal.returns-clause-longest
+returns-clause-longest c = pieces c
+
+pub returns-clause-decodes : goal.returns-clause-decodes
+returns-clause-decodes c =
+    sym (flat_map-map (λ g. g) copies c.loop-group.runs.items) ∙ ap concat (pieces c)
+    ∙ (c.one_split.ensures.exists nat_eq c.args.bytes.now).joins
