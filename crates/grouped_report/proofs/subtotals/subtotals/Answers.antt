@@ -1,0 +1,59 @@
+use Rattle.std.proofs.Common.{rules, ◌≡◌, ℕ, min, List, None, refl, map, nat_eq, sum_by, ap, ◌∙◌}
+use Rattle.std.proofs.lemmas.Fn.{always_returns_same}
+use Rattle.std.proofs.lemmas.Iterator.Consumers.{YieldsList-end}
+use Rattle.std.proofs.lemmas.List.Sorted.{sum_by-IsPermutation}
+use Rattle.std.specs.Cmp.{unsigned_ties}
+use Rattle.std.specs.Ordering.{nat_cmp}
+use Rattle.std.proofs.lemmas.Cmp.{nat_cmp_total}
+use Rattle.slice_group_by.specs.Search.{NeverDescends}
+use Rattle.slice_group_by.proofs.Joins.{split_ascends}
+use Rattle.slice_group_by.specs.End.TheVariants.{Front}
+use Rattle.slice_group_by.specs.Split.{split, IsSplit}
+use Rattle.grouped_report.specs.declared.rows.Entry.{Entry}
+use Rattle.grouped_report.specs.Departments.{department, amount, amount_of, count_of}
+use Rattle.grouped_report.proofs.Lines.{line_of, same, ascending, once, amounts, totals}
+use Rattle.grouped_report.proofs.subtotals.subtotals.Goals as goal
+
+-- at the end the lines are those of the pieces of the sorted rows
+module _ (c : goal.After-drop-rows-2) where
+  abbrev sorted : List (Entry ℕ)
+  sorted = c.sort_by_key.new.self.items
+
+  never_descends : NeverDescends nat_cmp (map department sorted)
+  never_descends =
+      c.sorts_ascend.ensures.by_key department sorted
+      (c.in_ok-sort_by_key.ensures.sorted department (always_returns_same _ _ _ (λ a r f' k. search rules)))
+
+  is_split : IsSplit same sorted (split same sorted)
+  is_split = c.one_split.ensures.exists same sorted
+
+  lines : c.loop-group.lines.items ≡ map line_of (split same sorted)
+  lines =
+      let settled = c.new-groups.ensures.settled department (always_returns_same _ _ _ (λ a r f' k. search rules)) tt in
+      let seen = c.sees_pieces.ensures.pieces same Front c.new-groups.result settled in
+      let yielded = rw c.into_iter-group-iterator.ensures.into_iter_gives at c.loop-group.yielded_by in
+      let drained = YieldsList-end seen _ _ yielded None _ refl c.in-None.ensures.steps in
+      c.loop-group.invariant ∙ ap (map line_of) (rw (c.new-groups.ensures.remainder, c.deref.ensures.value) at drained.0)
+
+pub returns-clause-ascending : goal.returns-clause-ascending
+returns-clause-ascending c =
+    let ascends = split_ascends nat_cmp department nat_cmp_total nat_eq unsigned_ties (sorted c) (never_descends c) in
+    rw (lines c) (ascending (split same (sorted c)) ascends)
+
+pub returns-clause-once : goal.returns-clause-once
+returns-clause-once c d =
+    ap (count_of d) (lines c)
+    ∙ once d _ (is_split c).nonempty (is_split c).accepted
+    (c.partners_are_unique.ensures.right department department _ (never_descends c))
+    ∙ ap (λ rows. min 1 (count_of d rows)) (is_split c).joins
+    ∙ ap (λ n. min 1 n) (sum_by-IsPermutation _ _ _ c.in_ok-sort_by_key.ensures.permutation)
+
+pub returns-clause-amounts : goal.returns-clause-amounts
+returns-clause-amounts c d =
+    ap (amount_of d) (lines c) ∙ amounts d _ (is_split c).nonempty (is_split c).accepted ∙ ap (amount_of d) (is_split c).joins
+    ∙ sum_by-IsPermutation _ _ _ c.in_ok-sort_by_key.ensures.permutation
+
+pub returns-clause-total : goal.returns-clause-total
+returns-clause-total c =
+    ap (sum_by amount) (lines c) ∙ totals (split same (sorted c)) ∙ ap (sum_by amount) (is_split c).joins
+    ∙ sum_by-IsPermutation amount _ _ c.in_ok-sort_by_key.ensures.permutation
