@@ -1,7 +1,7 @@
 //! Codes the bytes of standard input as runs, prints a line a run, and decodes the runs again.
 //!
-//! The stored input is a portable bitmap of 96 by 64 pixels, in which a pixel is black where it lies within 30 pixels of the
-//! middle: `1` in column x of row y where (x - 48)^2 + (y - 32)^2 <= 900, and else `0`.
+//! The stored input is a portable bitmap of 96 by 64 pixels, in which a pixel is black where it lies within 30 pixels
+//! of the middle: `1` in column x of row y where (x - 48)^2 + (y - 32)^2 <= 900, and else `0`.
 #![tactic(auto)]
 
 mod coder;

@@ -1,0 +1,20 @@
+//! Cuts the text of standard input into tokens, the longest runs of characters of one class, and prints how many there
+//! are of each class.
+//!
+//! The stored input is a copy of a source file of this repository, `families.rt` of the crate `users`.
+#![tactic(auto)]
+
+mod class;
+mod tokens;
+
+use class::Class;
+use std::io;
+use tokens::count_tokens;
+
+fn main(rt: HostRuntime) -> io::Result<()> {
+    let text = io::read_to_string(rt.alloc(), rt.reader())?;
+    for class in [Class::Letter, Class::Digit, Class::Space, Class::Other] {
+        println!(rt; "{class}: {}", count_tokens(&text, class))?;
+    }
+    Ok(())
+}
