@@ -1,4 +1,6 @@
 //! Rows of a table, as they stand in its lines.
+ghost use Rattle.std.specs.Prelude.{◌≡◌, ℕ, ◌<◌, ◌^◌, List, ◌++◌, codes, decimal, IfOk};
+ghost use Rattle.std.specs.Str.Parse.{ParsesUnsigned};
 
 use std::fmt;
 
@@ -30,8 +32,14 @@ impl fmt::Display for RowError {
     }
 }
 
-/// The row that a line `department,amount` is.
-pub fn parse_row(line: &str) -> Result<Row, RowError> {
+/// The row that a line is: two numbers with a comma between them. Each row that is written as `department,amount` is
+/// read.
+pub fn parse_row(line: &str) -> Result<Row, RowError>
+    ensures written { (d a : ℕ) → d < 2 ^ 32 → a < 2 ^ 64 → line.now ≡ decimal d ++ codes "," ++ decimal a
+        → result ≡ Ok (record { department = d; amount = a }) }
+    ensures read { IfOk result (λ row. (d a : List ℕ) × (line.now ≡ d ++ codes "," ++ a)
+        × ParsesUnsigned {E = Unit {0}} 32 10 d (Ok row.department) × ParsesUnsigned {E = Unit {0}} 64 10 a (Ok row.amount)) }
+{
     let Some((department, amount)) = line.split_once(',') else {
         return Err(RowError::NoComma);
     };
