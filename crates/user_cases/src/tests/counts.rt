@@ -1,7 +1,7 @@
 //! Counts of the questions that a walk asks.
 use users::counts::{
-    binary_questions, exponential_questions, first_exponential_group, linear_keys, linear_questions, linear_questions_of_for,
-    linear_questions_of_rev, longest_and_questions,
+    binary_questions, exponential_questions, first_exponential_group, linear_keys,
+    linear_questions, linear_questions_of_for, linear_questions_of_rev, longest_and_questions,
 };
 
 #[test]
