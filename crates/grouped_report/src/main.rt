@@ -1,9 +1,9 @@
 //! Reads rows `department,amount`, and prints a line a department, with the sum of its amounts, and the total at the
 //! end. A line that is no row is named by its number, with what is wrong with it, and left out; the status is then 1.
 //!
-//! The stored input has 3000 rows: row i, from 0 on, is of the department that is the square root of i, rounded down,
-//! and its amount is the rest of 7919 i by 10007. After row 999 stands a line with no comma, and after row 1999 one with
-//! a negative amount.
+//! The stored input has 3000 rows: row i, from 0 on, is of the department that is the square root of i, rounded
+//! down, and its amount is the rest of 7919 i by 10007. After row 999 stands a line with no comma, and after row 1999
+//! one with a negative amount.
 #![tactic(auto)]
 
 mod rows;

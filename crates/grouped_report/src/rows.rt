@@ -38,7 +38,8 @@ pub fn parse_row(line: &str) -> Result<Row, RowError>
     ensures written { (d a : ℕ) → d < 2 ^ 32 → a < 2 ^ 64 → line.now ≡ decimal d ++ codes "," ++ decimal a
         → result ≡ Ok (record { department = d; amount = a }) }
     ensures read { IfOk result (λ row. (d a : List ℕ) × (line.now ≡ d ++ codes "," ++ a)
-        × ParsesUnsigned {E = Unit {0}} 32 10 d (Ok row.department) × ParsesUnsigned {E = Unit {0}} 64 10 a (Ok row.amount)) }
+        × ParsesUnsigned {E = Unit {0}} 32 10 d (Ok row.department)
+        × ParsesUnsigned {E = Unit {0}} 64 10 a (Ok row.amount)) }
 {
     let Some((department, amount)) = line.split_once(',') else {
         return Err(RowError::NoComma);
