@@ -137,8 +137,8 @@ impl<'a, J: Judge<char> + Drop> LinearStrGroups<'a, J> {
         self.next_back()
     }
 
-    // The group at the end.
-    #[inline]
+    // The group at the end. Each caller names its end, and gets a copy for that end alone.
+    #[inline(always)]
     fn take(&mut self, end: &End) -> Option<&'a str>
         requires { IsCallableText J.Judge (shown_text self.old) }
         ensures gives { GivesText J.Judge end.now self.old result self.new }

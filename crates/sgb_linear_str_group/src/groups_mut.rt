@@ -222,8 +222,8 @@ impl<'a, J: Judge<char> + Drop> LinearStrGroupsMut<'a, J> {
         self.next_back()
     }
 
-    // The group at the end.
-    #[inline]
+    // The group at the end. Each caller names its end, and gets a copy for that end alone.
+    #[inline(always)]
     fn take(&mut self, end: &End) -> Option<&'a mut [u8]>
         requires { IsCallableText J.Judge (seen_text self.old) }
         ensures gives { GivesTextMut J.Judge end.now self.old result self.new }

@@ -7,4 +7,3 @@ pub mod by_predicate;
 pub mod groups;
 pub mod groups_mut;
 mod scan;
-pub mod traits;

@@ -2,6 +2,7 @@
 ghost use Rattle.std.specs.Prelude.{◌≡◌, ℕ, ◌+◌, ◌-◌, ◌^◌, ◌<◌, ◌≤◌, ◌++◌, Bool, List, length, map};
 ghost use Rattle.std.specs.Fn.{ComputesKey, TakesAt, TakesAtTwo};
 ghost use Rattle.std.specs.List.{Contains};
+ghost use Rattle.std.specs.Ordering.{flip_args};
 ghost use Rattle.sgb_search.specs.declared.end.End.{End};
 ghost use Rattle.sgb_search.specs.Searching.{digits, MayAskApart, AnswersApart};
 ghost use Rattle.sgb_search.specs.Split.{AreApart, neighbours, AreNeighbours, IsGrouped, IsSplit, split, refused_pairs};
@@ -137,6 +138,13 @@ pub fn ascending_is_grouped<T, K: Ord>()
     ensures by_key { (key : T → K) (xs : List T) → NeverDescends K.cmp (map key xs)
         → IsGrouped (λ x y. K.eq (key x) (key y)) xs }
     ensures by_itself { (xs : List K) → NeverDescends K.cmp xs → IsGrouped K.eq xs }
+{}
+
+/// So is one that descends.
+pub fn descending_is_grouped<T, K: Ord>()
+    ensures by_key { (key : T → K) (xs : List T) → NeverDescends (flip_args K.cmp) (map key xs)
+        → IsGrouped (λ x y. K.eq (key x) (key y)) xs }
+    ensures by_itself { (xs : List K) → NeverDescends (flip_args K.cmp) xs → IsGrouped K.eq xs }
 {}
 
 /// A part of a grouped list is grouped.

@@ -208,8 +208,8 @@ impl<'a, T, J: Judge<T> + Drop, C: GroupEnd> SliceGroups<'a, T, J, C> {
         self.next_back()
     }
 
-    // The group at the end.
-    #[inline]
+    // The group at the end. Each caller names its end, and gets a copy for that end alone.
+    #[inline(always)]
     fn take(&mut self, end: &End) -> Option<&'a [T]>
         requires { IsCallableBy (C.allowed T) J.Judge (shown self.old) }
         ensures gives { Gives (C.asks T J J.Judge) end.now self.old result self.new }

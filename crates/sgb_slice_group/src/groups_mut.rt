@@ -214,8 +214,8 @@ impl<'a, T, J: Judge<T> + Drop, C: GroupEnd> SliceGroupsMut<'a, T, J, C> {
         self.next_back()
     }
 
-    // The group at the end.
-    #[inline]
+    // The group at the end. Each caller names its end, and gets a copy for that end alone.
+    #[inline(always)]
     fn take(&mut self, end: &End) -> Option<&'a mut [T]>
         requires { IsCallableByMut (C.allowed T) J.Judge self.old }
         ensures gives { GivesMut (C.asks T J J.Judge) end.now self.old result self.new }

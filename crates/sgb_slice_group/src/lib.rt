@@ -12,5 +12,3 @@ pub mod groups;
 pub mod groups_mut;
 pub mod linear_group;
 pub mod searching;
-pub mod traits;
-pub mod traits_mut;

@@ -38,6 +38,7 @@ pub use crate::families::{
 pub use crate::join::{
     joins_may_go_on, pairs_ascend, pairs_match, partners_are_unique, sees_pairs,
 };
+pub use crate::pieces::{equal_pieces_are_copies, pieces_add_up, pieces_by_key};
 pub use crate::plans::{Plan, refute};
 use crate::queue::GroupQueue;
 pub use crate::ranks::rank_groups;
@@ -49,8 +50,8 @@ pub use sgb_search::laws::{
     always_callable, always_callable_apart, always_callable_char_key, always_callable_chars,
     always_callable_key, always_callable_key_apart, always_callable_on_elements, always_computes,
     ascending_is_grouped, callable_now, callable_now_on_pairs, callable_on_elements,
-    callable_on_pairs, computes_on_elements, digits_is_least, equality_judges, one_split,
-    parts_are_grouped, question_count,
+    callable_on_pairs, computes_on_elements, descending_is_grouped, digits_is_least,
+    equality_judges, one_split, parts_are_grouped, question_count,
 };
 use sgb_slice_group::groups::LinearGroups;
 use sgb_slice_group::groups_mut::LinearGroupsMut;

@@ -19,6 +19,7 @@ mod families;
 mod join;
 pub mod laws;
 pub mod loans;
+mod pieces;
 mod plans;
 mod queue;
 mod ranks;
@@ -33,7 +34,9 @@ pub use ranks::rank_groups;
 pub use sgb_linear_str_group::by_equality::{LinearStrGroup, LinearStrGroupMut};
 pub use sgb_linear_str_group::by_key::{LinearStrGroupByKey, LinearStrGroupByKeyMut};
 pub use sgb_linear_str_group::by_predicate::{LinearStrGroupBy, LinearStrGroupByMut};
-pub use sgb_linear_str_group::traits::{StrGroupBy, StrGroupByMut};
+pub use sgb_methods::slices::GroupBy;
+pub use sgb_methods::slices_mut::GroupByMut;
+pub use sgb_methods::texts::{StrGroupBy, StrGroupByMut};
 pub use sgb_search::search::{
     exponential_search, exponential_search_by, exponential_search_by_key,
 };
@@ -49,6 +52,4 @@ pub use sgb_slice_group::linear_group::{
     LinearGroup, LinearGroupBy, LinearGroupByKey, LinearGroupByKeyMut, LinearGroupByMut,
     LinearGroupMut,
 };
-pub use sgb_slice_group::traits::GroupBy;
-pub use sgb_slice_group::traits_mut::GroupByMut;
 pub use sorted::is_sorted_for_groups;

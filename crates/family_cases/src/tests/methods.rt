@@ -137,21 +137,30 @@ fn exponential_asks_no_element_about_itself(rt: HostRuntime) {
     assert!(rt; next == 4);
 }
 
-// A predicate that may never be called.
-fn never(_a: &u8, _b: &u8) -> bool
-    requires { ⊥ }
-{
-    true
-}
-
 const ALONE: [(End, Option<&'static [u8]>); 2] = [(End::Front, Some(&[1])), (End::Front, None)];
 
+// A predicate that may never be called.
 #[test]
 fn one_element_asks_nothing(rt: HostRuntime) {
     let slice: &[u8] = &[1];
-    assert!(rt; answers(slice.linear_group_by(never), &ALONE));
-    assert!(rt; answers(slice.binary_group_by(never), &ALONE));
-    assert!(rt; answers(slice.exponential_group_by(never), &ALONE));
+    let linear = slice.linear_group_by(
+        |_a: &u8, _b: &u8| -> bool
+            requires { ⊥ }
+        { true },
+    );
+    assert!(rt; answers(linear, &ALONE));
+    let binary = slice.binary_group_by(
+        |_a: &u8, _b: &u8| -> bool
+            requires { ⊥ }
+        { true },
+    );
+    assert!(rt; answers(binary, &ALONE));
+    let exponential = slice.exponential_group_by(
+        |_a: &u8, _b: &u8| -> bool
+            requires { ⊥ }
+        { true },
+    );
+    assert!(rt; answers(exponential, &ALONE));
 }
 
 // How many binary digits the number has.

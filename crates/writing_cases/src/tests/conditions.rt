@@ -5,18 +5,33 @@ use slice_group_by::{BinaryGroupByMut, ExponentialGroupByMut, LinearGroupByMut};
 use std::cell::Cell;
 
 // A predicate that may never be called.
-fn never(_a: &i32, _b: &i32) -> bool
-    requires { ⊥ }
-{
-    true
-}
-
 #[test]
 fn one_element_asks_nothing(rt: HostRuntime) {
     let calls: [(End, Option<&[i32]>); 2] = [(Front, Some(&[1])), (Front, None)];
-    assert!(rt; answers_mut(LinearGroupByMut::new(&mut [1], never), &calls));
-    assert!(rt; answers_mut(BinaryGroupByMut::new(&mut [1], never), &calls));
-    assert!(rt; answers_mut(ExponentialGroupByMut::new(&mut [1], never), &calls));
+    let mut slice = [1];
+    let linear = LinearGroupByMut::new(
+        &mut slice,
+        |_a: &i32, _b: &i32| -> bool
+            requires { ⊥ }
+        { true },
+    );
+    assert!(rt; answers_mut(linear, &calls));
+    let mut slice = [1];
+    let binary = BinaryGroupByMut::new(
+        &mut slice,
+        |_a: &i32, _b: &i32| -> bool
+            requires { ⊥ }
+        { true },
+    );
+    assert!(rt; answers_mut(binary, &calls));
+    let mut slice = [1];
+    let exponential = ExponentialGroupByMut::new(
+        &mut slice,
+        |_a: &i32, _b: &i32| -> bool
+            requires { ⊥ }
+        { true },
+    );
+    assert!(rt; answers_mut(exponential, &calls));
 }
 
 // How many questions are enough to halve so many elements, of at most four.

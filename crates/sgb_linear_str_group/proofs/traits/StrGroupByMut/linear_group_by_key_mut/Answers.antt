@@ -1,4 +1,0 @@
-use Rattle.sgb_linear_str_group.proofs.traits.StrGroupByMut.linear_group_by_key_mut.Goals as goal
-
-pub new-requires-clause-callable : goal.new-requires-clause-callable
-new-requires-clause-callable g c = rw c.as_mut_bytes.ensures c.requires.callable

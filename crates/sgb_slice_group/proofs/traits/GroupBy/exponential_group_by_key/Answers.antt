@@ -1,4 +1,0 @@
-use Rattle.sgb_slice_group.proofs.traits.GroupBy.exponential_group_by_key.Goals as goal
-
-pub new-requires : goal.new-requires
-new-requires g c = rw c.as_slice.ensures c.requires

@@ -1,0 +1,29 @@
+//! Laws of the pieces of a list.
+ghost use Rattle.std.specs.Prelude.{◌≡◌, ℕ, ◌<◌, Bool, true, List, length, map, replicate, sum_by, Some, slice_get};
+ghost use Rattle.std.specs.List.{Contains};
+ghost use Rattle.std.specs.declared.cmp.Ordering.TheVariants.{Less};
+ghost use Rattle.sgb_search.specs.Search.{NeverDescends};
+ghost use Rattle.sgb_search.specs.Split.{first, split};
+
+/// The elements of a piece by keys have one key. In a list that ascends by that key the pieces ascend strictly: each element of
+/// a piece has a lesser key than each of a later one, so that no key has two pieces.
+pub fn pieces_by_key<T, K: Ord>()
+    ensures alike { (key : T → K) (xs g : List T) (x y : T) → Contains (split (λ a b. K.eq (key a) (key b)) xs) g
+        → Contains g x → Contains g y → K.eq (key x) (key y) ≡ true }
+    ensures ascend { (key : T → K) (xs : List T) → NeverDescends K.cmp (map key xs)
+        → (i j : ℕ) (g h : List T) (x y : T) → i < j → slice_get (split (λ a b. K.eq (key a) (key b)) xs) i ≡ Some g
+        → slice_get (split (λ a b. K.eq (key a) (key b)) xs) j ≡ Some h → Contains g x → Contains h y
+        → K.cmp (key x) (key y) ≡ Less }
+{}
+
+/// A piece by a test that accepts equal elements alone is its first element, so many times.
+pub fn equal_pieces_are_copies<T>()
+    ensures { (p : T → T → Bool) → ((x y : T) → p x y ≡ true → x ≡ y) → (xs g : List T) (x : T) → Contains (split p xs) g
+        → first g ≡ Some x → g ≡ replicate (length g) x }
+{}
+
+/// The pieces of a list have its length together, and a sum over them is the sum over the list.
+pub fn pieces_add_up<T>()
+    ensures lengths { (p : T → T → Bool) (xs : List T) → sum_by length (split p xs) ≡ length xs }
+    ensures sums { (p : T → T → Bool) (f : T → ℕ) (xs : List T) → sum_by (λ g. sum_by f g) (split p xs) ≡ sum_by f xs }
+{}
