@@ -7,13 +7,12 @@ ghost use Rattle.sgb_search.specs.Linear.{IsCallable, IsSettled};
 ghost use Rattle.sgb_search.specs.Searching.{IsCallableApart, ComputesApart, IsSettledApart};
 ghost use Rattle.sgb_slice_group.specs.Gives.{shown};
 
+use crate::holders::Elements;
 use sgb_slice_group::binary_group::{BinaryGroup, BinaryGroupBy, BinaryGroupByKey};
 use sgb_slice_group::exponential_group::{
     ExponentialGroup, ExponentialGroupBy, ExponentialGroupByKey,
 };
 use sgb_slice_group::linear_group::{LinearGroup, LinearGroupBy, LinearGroupByKey};
-use std::alloc::Allocator;
-use std::convert::AsSlice;
 
 /// Groups of neighbouring elements, for reading.
 ///
@@ -26,7 +25,7 @@ use std::convert::AsSlice;
 /// groups.next();      // Some([1, 1, 1])
 /// groups.next_back(); // Some([2, 2, 2])
 /// ```
-pub trait GroupBy<T>: AsSlice<T> {
+pub trait GroupBy<T>: Elements<T> {
     /// Groups by a key: neighbours whose keys are equal belong together.
     #[inline]
     fn linear_group_by_key<F, K>(&self, func: F) -> LinearGroupByKey<'_, T, F, K>
@@ -174,10 +173,4 @@ pub trait GroupBy<T>: AsSlice<T> {
     }
 }
 
-impl<T> GroupBy<T> for &[T] {}
-
-impl<T> GroupBy<T> for &mut [T] {}
-
-impl<T, const N: usize> GroupBy<T> for [T; N] {}
-
-impl<T, A: Allocator> GroupBy<T> for Vec<T, A> {}
+impl<T, S: Elements<T>> GroupBy<T> for S {}

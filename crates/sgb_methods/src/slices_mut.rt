@@ -1,5 +1,5 @@
 //! Groups for writing by a method of the slice.
-ghost use Rattle.std.specs.Prelude.{◌≡◌, Bool, List};
+ghost use Rattle.std.specs.Prelude.{◌≡◌, Bool};
 ghost use Rattle.std.specs.Fn.{ComputesOnPairs, ComputesKey};
 ghost use Rattle.sgb_search.specs.Judges.{by_predicate, predicate_judge, by_key, key_judge, by_equality};
 ghost use Rattle.sgb_search.specs.Split.{IsGrouped};
@@ -8,12 +8,12 @@ ghost use Rattle.sgb_search.specs.Searching.{IsCallableApart, ComputesApart, IsS
 ghost use Rattle.sgb_slice_group.specs.Gives.{seen};
 ghost use Rattle.sgb_loans.specs.Loans.{NothingOut};
 
+use crate::holders::AsMutSlice;
 use sgb_slice_group::binary_group::{BinaryGroupByKeyMut, BinaryGroupByMut, BinaryGroupMut};
 use sgb_slice_group::exponential_group::{
     ExponentialGroupByKeyMut, ExponentialGroupByMut, ExponentialGroupMut,
 };
 use sgb_slice_group::linear_group::{LinearGroupByKeyMut, LinearGroupByMut, LinearGroupMut};
-use std::alloc::Allocator;
 
 /// Groups of neighbouring elements, for writing.
 ///
@@ -27,22 +27,16 @@ use std::alloc::Allocator;
 ///     group.fill(0);
 /// }
 /// ```
-pub trait GroupByMut<T> {
-    // The elements that are grouped.
-    ghost elements: { Self → List T };
-
-    /// The elements, for writing.
-    fn as_mut_slice(&mut self) -> &mut [T]
-        ensures { result.now ≡ elements self.entry.now };
-
+pub trait GroupByMut<T>: AsMutSlice<T> {
     /// Groups by a key: neighbours whose keys are equal belong together.
     #[inline]
     fn linear_group_by_key_mut<F, K>(&mut self, func: F) -> LinearGroupByKeyMut<'_, T, F, K>
     where
         F: FnMut(&T) -> K,
         K: PartialEq + Drop,
-        requires { IsCallable (by_key F.FnMut K.eq) (record { remainder = elements self.old; judge = key_judge func }) }
-        ensures remainder { result.remainder ≡ elements self.entry.now }
+        requires { IsCallable (by_key F.FnMut K.eq)
+            (record { remainder = Self.elements self.old; judge = key_judge func }) }
+        ensures remainder { result.remainder ≡ Self.elements self.entry.now }
         ensures judge { result.judge ≡ key_judge func }
         ensures callable { IsCallable (by_key F.FnMut K.eq) (seen result) }
         ensures settled { (key : T → K) → ComputesKey F.FnMut key func
@@ -58,8 +52,8 @@ pub trait GroupByMut<T> {
     where
         P: FnMut(&T, &T) -> bool,
         requires { IsCallable (by_predicate P.FnMut)
-            (record { remainder = elements self.old; judge = predicate_judge predicate }) }
-        ensures remainder { result.remainder ≡ elements self.entry.now }
+            (record { remainder = Self.elements self.old; judge = predicate_judge predicate }) }
+        ensures remainder { result.remainder ≡ Self.elements self.entry.now }
         ensures judge { result.judge ≡ predicate_judge predicate }
         ensures callable { IsCallable (by_predicate P.FnMut) (seen result) }
         ensures settled { (p : T → T → Bool) → ComputesOnPairs P.FnMut p predicate
@@ -74,7 +68,7 @@ pub trait GroupByMut<T> {
     fn linear_group_mut(&mut self) -> LinearGroupMut<'_, T>
     where
         T: PartialEq,
-        ensures remainder { result.remainder ≡ elements self.entry.now }
+        ensures remainder { result.remainder ≡ Self.elements self.entry.now }
         ensures asked { result.judge.asked ≡ 0 }
         ensures callable { IsCallable (by_equality T.eq) (seen result) }
         ensures settled { IsSettled (by_equality T.eq) (seen result) T.eq }
@@ -90,14 +84,14 @@ pub trait GroupByMut<T> {
         F: FnMut(&T) -> K,
         K: PartialEq + Drop,
         requires { IsCallableApart (by_key F.FnMut K.eq)
-            (record { remainder = elements self.old; judge = key_judge func }) }
-        ensures remainder { result.remainder ≡ elements self.entry.now }
+            (record { remainder = Self.elements self.old; judge = key_judge func }) }
+        ensures remainder { result.remainder ≡ Self.elements self.entry.now }
         ensures judge { result.judge ≡ key_judge func }
         ensures callable { IsCallableApart (by_key F.FnMut K.eq) (seen result) }
         ensures computes { (key : T → K) → ComputesKey F.FnMut key func
             → ComputesApart (by_key F.FnMut K.eq) (seen result) (λ x y. K.eq (key x) (key y)) }
         ensures settled { (key : T → K) → ComputesKey F.FnMut key func
-            → IsGrouped (λ x y. K.eq (key x) (key y)) (elements self.entry.now)
+            → IsGrouped (λ x y. K.eq (key x) (key y)) (Self.elements self.entry.now)
             → IsSettledApart (by_key F.FnMut K.eq) (seen result) (λ x y. K.eq (key x) (key y)) }
         ensures loans { NothingOut result.loans.root result.loans }
     {
@@ -110,14 +104,14 @@ pub trait GroupByMut<T> {
     where
         P: FnMut(&T, &T) -> bool,
         requires { IsCallableApart (by_predicate P.FnMut)
-            (record { remainder = elements self.old; judge = predicate_judge predicate }) }
-        ensures remainder { result.remainder ≡ elements self.entry.now }
+            (record { remainder = Self.elements self.old; judge = predicate_judge predicate }) }
+        ensures remainder { result.remainder ≡ Self.elements self.entry.now }
         ensures judge { result.judge ≡ predicate_judge predicate }
         ensures callable { IsCallableApart (by_predicate P.FnMut) (seen result) }
         ensures computes { (p : T → T → Bool) → ComputesOnPairs P.FnMut p predicate
             → ComputesApart (by_predicate P.FnMut) (seen result) p }
         ensures settled { (p : T → T → Bool) → ComputesOnPairs P.FnMut p predicate
-            → IsGrouped p (elements self.entry.now) → IsSettledApart (by_predicate P.FnMut) (seen result) p }
+            → IsGrouped p (Self.elements self.entry.now) → IsSettledApart (by_predicate P.FnMut) (seen result) p }
         ensures loans { NothingOut result.loans.root result.loans }
     {
         BinaryGroupByMut::new(self.as_mut_slice(), predicate)
@@ -128,11 +122,11 @@ pub trait GroupByMut<T> {
     fn binary_group_mut(&mut self) -> BinaryGroupMut<'_, T>
     where
         T: PartialEq,
-        ensures remainder { result.remainder ≡ elements self.entry.now }
+        ensures remainder { result.remainder ≡ Self.elements self.entry.now }
         ensures asked { result.judge.asked ≡ 0 }
         ensures callable { IsCallableApart (by_equality T.eq) (seen result) }
         ensures computes { ComputesApart (by_equality T.eq) (seen result) T.eq }
-        ensures settled { IsGrouped T.eq (elements self.entry.now)
+        ensures settled { IsGrouped T.eq (Self.elements self.entry.now)
             → IsSettledApart (by_equality T.eq) (seen result) T.eq }
         ensures loans { NothingOut result.loans.root result.loans }
     {
@@ -149,14 +143,14 @@ pub trait GroupByMut<T> {
         F: Fn(&T) -> K,
         K: PartialEq + Drop,
         requires { IsCallableApart (by_key F.FnMut K.eq)
-            (record { remainder = elements self.old; judge = key_judge func }) }
-        ensures remainder { result.remainder ≡ elements self.entry.now }
+            (record { remainder = Self.elements self.old; judge = key_judge func }) }
+        ensures remainder { result.remainder ≡ Self.elements self.entry.now }
         ensures judge { result.judge ≡ key_judge func }
         ensures callable { IsCallableApart (by_key F.FnMut K.eq) (seen result) }
         ensures computes { (key : T → K) → ComputesKey F.FnMut key func
             → ComputesApart (by_key F.FnMut K.eq) (seen result) (λ x y. K.eq (key x) (key y)) }
         ensures settled { (key : T → K) → ComputesKey F.FnMut key func
-            → IsGrouped (λ x y. K.eq (key x) (key y)) (elements self.entry.now)
+            → IsGrouped (λ x y. K.eq (key x) (key y)) (Self.elements self.entry.now)
             → IsSettledApart (by_key F.FnMut K.eq) (seen result) (λ x y. K.eq (key x) (key y)) }
         ensures loans { NothingOut result.loans.root result.loans }
     {
@@ -169,14 +163,14 @@ pub trait GroupByMut<T> {
     where
         P: FnMut(&T, &T) -> bool,
         requires { IsCallableApart (by_predicate P.FnMut)
-            (record { remainder = elements self.old; judge = predicate_judge predicate }) }
-        ensures remainder { result.remainder ≡ elements self.entry.now }
+            (record { remainder = Self.elements self.old; judge = predicate_judge predicate }) }
+        ensures remainder { result.remainder ≡ Self.elements self.entry.now }
         ensures judge { result.judge ≡ predicate_judge predicate }
         ensures callable { IsCallableApart (by_predicate P.FnMut) (seen result) }
         ensures computes { (p : T → T → Bool) → ComputesOnPairs P.FnMut p predicate
             → ComputesApart (by_predicate P.FnMut) (seen result) p }
         ensures settled { (p : T → T → Bool) → ComputesOnPairs P.FnMut p predicate
-            → IsGrouped p (elements self.entry.now) → IsSettledApart (by_predicate P.FnMut) (seen result) p }
+            → IsGrouped p (Self.elements self.entry.now) → IsSettledApart (by_predicate P.FnMut) (seen result) p }
         ensures loans { NothingOut result.loans.root result.loans }
     {
         ExponentialGroupByMut::new(self.as_mut_slice(), predicate)
@@ -187,11 +181,11 @@ pub trait GroupByMut<T> {
     fn exponential_group_mut(&mut self) -> ExponentialGroupMut<'_, T>
     where
         T: PartialEq,
-        ensures remainder { result.remainder ≡ elements self.entry.now }
+        ensures remainder { result.remainder ≡ Self.elements self.entry.now }
         ensures asked { result.judge.asked ≡ 0 }
         ensures callable { IsCallableApart (by_equality T.eq) (seen result) }
         ensures computes { ComputesApart (by_equality T.eq) (seen result) T.eq }
-        ensures settled { IsGrouped T.eq (elements self.entry.now)
+        ensures settled { IsGrouped T.eq (Self.elements self.entry.now)
             → IsSettledApart (by_equality T.eq) (seen result) T.eq }
         ensures loans { NothingOut result.loans.root result.loans }
     {
@@ -199,29 +193,4 @@ pub trait GroupByMut<T> {
     }
 }
 
-impl<T> GroupByMut<T> for &mut [T] {
-    ghost elements = { λ slice. slice.now };
-
-    #[inline]
-    fn as_mut_slice(&mut self) -> &mut [T] {
-        *self
-    }
-}
-
-impl<T, const N: usize> GroupByMut<T> for [T; N] {
-    ghost elements = { λ array. array };
-
-    #[inline]
-    fn as_mut_slice(&mut self) -> &mut [T] {
-        &mut self[..]
-    }
-}
-
-impl<T, A: Allocator> GroupByMut<T> for Vec<T, A> {
-    ghost elements = { λ vec. vec.items };
-
-    #[inline]
-    fn as_mut_slice(&mut self) -> &mut [T] {
-        Vec::as_mut_slice(self)
-    }
-}
+impl<T, S: AsMutSlice<T>> GroupByMut<T> for S {}

@@ -6,10 +6,10 @@ ghost use Rattle.sgb_linear_str_group.specs.Texts.{shown_text, IsCallableText, I
 ghost use Rattle.sgb_linear_str_group.specs.TextsMut.{seen_text};
 ghost use Rattle.sgb_loans.specs.Loans.{NothingOut};
 
+use crate::holders::AsMutSlice;
 use sgb_linear_str_group::by_equality::{LinearStrGroup, LinearStrGroupMut};
 use sgb_linear_str_group::by_key::{LinearStrGroupByKey, LinearStrGroupByKeyMut};
 use sgb_linear_str_group::by_predicate::{LinearStrGroupBy, LinearStrGroupByMut};
-use std::alloc::Allocator;
 use std::convert::AsStr;
 
 /// Groups of neighbouring characters, for reading.
@@ -69,9 +69,7 @@ pub trait StrGroupBy: AsStr {
     }
 }
 
-impl StrGroupBy for &str {}
-
-impl<A: Allocator> StrGroupBy for String<A> {}
+impl<S: AsStr> StrGroupBy for S {}
 
 /// Groups of neighbouring characters of a text's bytes, for writing.
 ///
@@ -88,31 +86,24 @@ impl<A: Allocator> StrGroupBy for String<A> {}
 ///     group.fill(b'-');
 /// }
 /// ```
-pub trait StrGroupByMut {
-    // The bytes of the text that is grouped.
-    ghost text: { Self → List ℕ };
-
-    /// The bytes, for writing.
-    fn as_mut_bytes(&mut self) -> &mut [u8]
-        ensures { result.now ≡ text self.entry.now };
-
+pub trait StrGroupByMut: AsMutSlice<u8> {
     /// Groups by a key: neighbours whose keys are equal belong together.
     #[inline]
     fn linear_group_by_key_mut<F, K>(&mut self, func: F) -> LinearStrGroupByKeyMut<'_, F, K>
     where
         F: FnMut(char) -> K,
         K: PartialEq + Drop,
-        requires utf8 { IsUtf8 (text self.old) }
+        requires utf8 { IsUtf8 (Self.elements self.old) }
         requires callable { IsCallableText (by_char_key F.FnMut K.eq)
-            (record { text = text self.old; judge = char_key_judge func }) }
-        ensures text { result.text ≡ text self.entry.now }
+            (record { text = Self.elements self.old; judge = char_key_judge func }) }
+        ensures text { result.text ≡ Self.elements self.entry.now }
         ensures judge { result.judge ≡ char_key_judge func }
         ensures callable { IsCallableText (by_char_key F.FnMut K.eq) (seen_text result) }
         ensures settled { (key : ℕ → K) → ComputesCharKey F.FnMut key func
             → IsSettledText (by_char_key F.FnMut K.eq) (seen_text result) (λ x y. K.eq (key x) (key y)) }
         ensures loans { NothingOut result.loans.root result.loans }
     {
-        LinearStrGroupByKeyMut::new(self.as_mut_bytes(), func)
+        LinearStrGroupByKeyMut::new(self.as_mut_slice(), func)
     }
 
     /// Groups by a predicate: neighbours of which it says yes, the left one first, belong together.
@@ -120,56 +111,31 @@ pub trait StrGroupByMut {
     fn linear_group_by_mut<P>(&mut self, predicate: P) -> LinearStrGroupByMut<'_, P>
     where
         P: FnMut(char, char) -> bool,
-        requires utf8 { IsUtf8 (text self.old) }
+        requires utf8 { IsUtf8 (Self.elements self.old) }
         requires callable { IsCallableText (by_char_predicate P.FnMut)
-            (record { text = text self.old; judge = char_predicate_judge predicate }) }
-        ensures text { result.text ≡ text self.entry.now }
+            (record { text = Self.elements self.old; judge = char_predicate_judge predicate }) }
+        ensures text { result.text ≡ Self.elements self.entry.now }
         ensures judge { result.judge ≡ char_predicate_judge predicate }
         ensures callable { IsCallableText (by_char_predicate P.FnMut) (seen_text result) }
         ensures settled { (p : ℕ → ℕ → Bool) → ComputesOnChars P.FnMut p predicate
             → IsSettledText (by_char_predicate P.FnMut) (seen_text result) p }
         ensures loans { NothingOut result.loans.root result.loans }
     {
-        LinearStrGroupByMut::new(self.as_mut_bytes(), predicate)
+        LinearStrGroupByMut::new(self.as_mut_slice(), predicate)
     }
 
     /// Groups of equal characters.
     #[inline]
     fn linear_group_mut(&mut self) -> LinearStrGroupMut<'_>
-        requires { IsUtf8 (text self.old) }
-        ensures text { result.text ≡ text self.entry.now }
+        requires { IsUtf8 (Self.elements self.old) }
+        ensures text { result.text ≡ Self.elements self.entry.now }
         ensures asked { result.judge.asked ≡ 0 }
         ensures callable { IsCallableText (by_equality nat_eq) (seen_text result) }
         ensures settled { IsSettledText (by_equality nat_eq) (seen_text result) nat_eq }
         ensures loans { NothingOut result.loans.root result.loans }
     {
-        LinearStrGroupMut::new(self.as_mut_bytes())
+        LinearStrGroupMut::new(self.as_mut_slice())
     }
 }
 
-impl StrGroupByMut for &mut [u8] {
-    ghost text = { λ bytes. bytes.now };
-
-    #[inline]
-    fn as_mut_bytes(&mut self) -> &mut [u8] {
-        *self
-    }
-}
-
-impl<const N: usize> StrGroupByMut for [u8; N] {
-    ghost text = { λ bytes. bytes };
-
-    #[inline]
-    fn as_mut_bytes(&mut self) -> &mut [u8] {
-        &mut self[..]
-    }
-}
-
-impl<A: Allocator> StrGroupByMut for Vec<u8, A> {
-    ghost text = { λ bytes. bytes.items };
-
-    #[inline]
-    fn as_mut_bytes(&mut self) -> &mut [u8] {
-        self.as_mut_slice()
-    }
-}
+impl<S: AsMutSlice<u8>> StrGroupByMut for S {}

@@ -34,6 +34,7 @@ pub use ranks::rank_groups;
 pub use sgb_linear_str_group::by_equality::{LinearStrGroup, LinearStrGroupMut};
 pub use sgb_linear_str_group::by_key::{LinearStrGroupByKey, LinearStrGroupByKeyMut};
 pub use sgb_linear_str_group::by_predicate::{LinearStrGroupBy, LinearStrGroupByMut};
+pub use sgb_methods::holders::{AsMutSlice, Elements};
 pub use sgb_methods::slices::GroupBy;
 pub use sgb_methods::slices_mut::GroupByMut;
 pub use sgb_methods::texts::{StrGroupBy, StrGroupByMut};

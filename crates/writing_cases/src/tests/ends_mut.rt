@@ -71,3 +71,20 @@ fn groups_from_both_ends_at_once(rt: HostRuntime) {
     assert!(rt; fill_outer_groups(&mut ExponentialGroupMut::new(&mut slice)));
     assert_eq!(rt; slice, [2, 2, 2, 2, 2]);
 }
+
+// The iterator and its array are used again, where the borrow of the groups that were out has ended.
+#[test]
+fn two_groups_at_once(rt: HostRuntime) {
+    let mut array = [1, 1, 2];
+    let mut groups = LinearGroupMut::new(&mut array);
+    let first = groups.next();
+    let last = groups.next_back();
+    if let Some(last) = last {
+        last.fill(0);
+    }
+    if let Some(first) = first {
+        first.fill(0);
+    }
+    array[0] = 7;
+    assert_eq!(rt; array, [7, 0, 0]);
+}

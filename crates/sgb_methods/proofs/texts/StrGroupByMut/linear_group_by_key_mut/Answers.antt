@@ -1,4 +1,4 @@
 use Rattle.sgb_methods.proofs.texts.StrGroupByMut.linear_group_by_key_mut.Goals as goal
 
 pub new-requires-clause-callable : goal.new-requires-clause-callable
-new-requires-clause-callable g c = rw c.as_mut_bytes.ensures c.requires.callable
+new-requires-clause-callable g c = rw c.as_mut_slice.ensures c.requires.callable
