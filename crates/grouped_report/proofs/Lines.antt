@@ -90,10 +90,11 @@ module _ (d : ℕ) where
       let h = counts gs n a in
       least _ _ (omega (arith, alone, length-filter partners gs, lines_of gs n)) h.0 h.1
 
-pub totals : (gs : List (List (Entry ℕ))) → sum_by amount (map line_of gs) ≡ sum_by amount (concat gs)
-totals [] = refl
-totals (g ∷ gs) =
-    sum_by-cons amount (line_of g) (map line_of gs) ∙ ap (λ m. sum_by amount g + m) (totals gs) ∙ sym (sum_by-append amount g (concat gs))
+pub sums_of_lines : (gs : List (List (Entry ℕ))) → sum_by amount (map line_of gs) ≡ sum_by (λ g. sum_by amount g) gs
+sums_of_lines [] = refl
+sums_of_lines (g ∷ gs) =
+    sum_by-cons amount (line_of g) (map line_of gs) ∙ ap (λ m. sum_by amount g + m) (sums_of_lines gs)
+    ∙ sym (sum_by-cons (λ h. sum_by amount h) g gs)
 
 pub ascending : (gs : List (List (Entry ℕ))) → Ascends nat_cmp department gs → NeverDescends nat_cmp (map department (map line_of gs))
 ascending [] a = tt

@@ -6,7 +6,9 @@ ghost use Rattle.grouped_report.specs.Departments.{department, amount, count_of,
 
 use crate::rows::{Entry, Row};
 use slice_group_by::LinearGroupByKey;
-use slice_group_by::laws::{one_split, partners_are_unique, sees_pieces, sorts_ascend};
+use slice_group_by::laws::{
+    one_split, partners_are_unique, pieces_add_up, sees_pieces, sorts_ascend,
+};
 use std::alloc::{AllocError, Global};
 
 /// A department, and the sum of the amounts of its rows.
@@ -28,6 +30,7 @@ pub fn subtotals(alloc: Global, mut rows: Vec<Row>) -> Result<Vec<Subtotal>, All
 {
     sorts_ascend::<Row, u32>();
     one_split::<Row>();
+    pieces_add_up::<Row>();
     partners_are_unique::<Row, Row, u32>();
     rows.sort_by_key(|row| row.department)?;
     let groups = LinearGroupByKey::new(&rows, |row: &Row| row.department);

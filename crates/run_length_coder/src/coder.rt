@@ -4,7 +4,7 @@ ghost use Rattle.slice_group_by.specs.Split.{split};
 ghost use Rattle.run_length_coder.specs.Runs.{copies, decoded};
 
 use slice_group_by::LinearGroup;
-use slice_group_by::laws::{one_split, sees_pieces};
+use slice_group_by::laws::{equal_pieces_are_copies, one_split, sees_pieces};
 use std::alloc::{AllocError, Global};
 use std::{fmt, iter};
 
@@ -29,6 +29,7 @@ pub fn encode(alloc: Global, bytes: &[u8]) -> Result<Vec<Run>, AllocError>
     let groups = LinearGroup::new(bytes);
     sees_pieces(&groups);
     one_split::<u8>();
+    equal_pieces_are_copies::<u8>();
     let mut runs = Vec::new(alloc);
     for group in groups {
         runs.push(Run {

@@ -25,3 +25,4 @@ pub mod Readings
 pub mod Order
 pub mod Ascending
 pub mod AscendingGroups
+pub mod Gaps

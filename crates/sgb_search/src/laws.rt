@@ -1,12 +1,14 @@
 //! Laws of the definitions. Each is a function that does nothing: its contract is the law, and a caller cites it.
-ghost use Rattle.std.specs.Prelude.{◌≡◌, ℕ, ◌+◌, ◌-◌, ◌^◌, ◌<◌, ◌≤◌, ◌++◌, Bool, List, length, map};
+ghost use Rattle.std.specs.Prelude.{◌≡◌, ℕ, ◌+◌, ◌-◌, ◌^◌, ◌<◌, ◌≤◌, ◌++◌, Bool, List, length, map, take, drop};
 ghost use Rattle.std.specs.Fn.{ComputesKey, TakesAt, TakesAtTwo};
-ghost use Rattle.std.specs.List.{Contains};
+ghost use Rattle.std.specs.List.{AllByRecursion, Contains};
 ghost use Rattle.std.specs.Ordering.{flip_args};
+ghost use Rattle.std.specs.declared.cmp.Ordering.{Ordering};
+ghost use Rattle.std.specs.declared.cmp.Ordering.TheVariants.{Less, Greater};
 ghost use Rattle.sgb_search.specs.declared.end.End.{End};
 ghost use Rattle.sgb_search.specs.Searching.{digits, MayAskApart, AnswersApart};
 ghost use Rattle.sgb_search.specs.Split.{AreApart, neighbours, AreNeighbours, IsGrouped, IsSplit, split, refused_pairs};
-ghost use Rattle.sgb_search.specs.Search.{MayCall, Computes, NeverDescends};
+ghost use Rattle.sgb_search.specs.Search.{MayCall, Computes, IsGap, NeverDescends};
 ghost use Rattle.sgb_search.specs.Linear.{questions, MayAskAlong, AnswersAlong};
 ghost use Rattle.sgb_search.specs.Judges.{IsRunOf, by_predicate, predicate_judge, MayCallOnPairs, by_key, key_judge, by_char_predicate, char_predicate_judge, by_char_key, char_key_judge, by_equality};
 ghost use Rattle.sgb_search.specs.declared.judge.EqualityJudge.{EqualityJudge};
@@ -157,4 +159,12 @@ pub fn parts_are_grouped<T>()
 pub fn digits_is_least()
     ensures above { (m : ℕ) → m < 2 ^ digits m }
     ensures least { (m d : ℕ) → m < 2 ^ d → digits m ≤ d }
+{}
+
+/// What an `Err(i)` of a search says, as two facts: the comparator answers `Less` of the first i elements, and `Greater` of the
+/// others.
+pub fn gap_parts<T>()
+    ensures before { (ord : T → Ordering) (xs : List T) (i : ℕ) → IsGap ord xs i → AllByRecursion (λ x. ord x ≡ Less) (take i xs) }
+    ensures after { (ord : T → Ordering) (xs : List T) (i : ℕ) → IsGap ord xs i
+        → AllByRecursion (λ x. ord x ≡ Greater) (drop i xs) }
 {}

@@ -1,6 +1,6 @@
 -- What holds of each two elements side by side, by their places and by the list of neighbours.
 use Rattle.std.specs.Prelude.{◌≡◌, ◌≢◌, ℕ, ◌+◌, ◌<◌, Bool, true, false, List, [], ◌∷◌, length, Option, Some, map}
-use Rattle.std.proofs.Common.{zero, suc, refl, ap, ◌∙◌, arith, subst}
+use Rattle.std.proofs.Common.{zero, suc, refl, sym, ap, ◌∙◌, arith, subst}
 use Rattle.std.specs.List.{AllByRecursion, IsAllAdjacentAnswer, slice_index_or}
 use Rattle.std.specs.List.Sorted.{IsSortedByKey}
 use Rattle.std.specs.Cmp.{IsTotalOrder}
@@ -73,3 +73,31 @@ module _ {T K : Type 0} (cmp : K → K → Ordering) (total : IsTotalOrder cmp) 
   keys_of_neighbours [] h = tt
   keys_of_neighbours (x ∷ []) h = tt
   keys_of_neighbours (x ∷ y ∷ ys) h = (h.0, keys_of_neighbours (y ∷ ys) h.1)
+
+-- neither does a list of which the standard library says that it is sorted by a key
+module _ {T K : Type 0} (compare : K → K → Option Ordering) (cmp : K → K → Ordering) (total : IsTotalOrder cmp)
+    (agree : (x y : K) → compare x y ≡ Some (cmp x y)) (key : T → K) where
+  pub sorted_by_key : (xs : List T) (r : Bool) → IsAllAdjacentAnswer (λ x y b. b ≡ partial_le compare (key x) (key y)) xs r → r ≡ true
+      → NeverDescends cmp (map key xs)
+  sorted_by_key xs true h e =
+      keys_of_neighbours cmp total key xs
+      (neighbours_by_place (λ x y. cmp (key x) (key y) ≢ Greater) xs
+      (λ k j d e l. not_greater compare cmp agree _ _
+      (subst (λ (m : ℕ). partial_le compare (key (slice_index_or xs k d)) (key (slice_index_or xs m d)) ≡ true) {x = k + 1} {y = j}
+      (omega arith) (sym (h k d (omega arith))))))
+  sorted_by_key xs false h e = cc e
+
+  neighbours_of_keys : (xs : List T) → NeverDescends cmp (map key xs)
+      → AllByRecursion (λ q. cmp (key q.0) (key q.1) ≢ Greater) (neighbours xs)
+  neighbours_of_keys [] h = tt
+  neighbours_of_keys (x ∷ []) h = tt
+  neighbours_of_keys (x ∷ y ∷ ys) h = (h.0, neighbours_of_keys (y ∷ ys) h.1)
+
+  pub sorted_by_key_only : (xs : List T) (r : Bool) → IsAllAdjacentAnswer (λ x y b. b ≡ partial_le compare (key x) (key y)) xs r
+      → NeverDescends cmp (map key xs) → r ≡ true
+  sorted_by_key_only xs true h all = refl
+  sorted_by_key_only [] false h all = absurd (omega (arith, h.1))
+  sorted_by_key_only (x ∷ xs) false h all =
+      absurd (greater compare cmp agree _ _ (sym (h.2 x)) _ refl
+      (place_by_neighbours (λ x y. cmp (key x) (key y) ≢ Greater) (x ∷ xs) (neighbours_of_keys (x ∷ xs) all) h.0 (h.0 + 1) x
+      (omega arith) h.1))

@@ -1,14 +1,15 @@
 -- What the pieces of a list share with the list, and with each other.
-use Rattle.std.specs.Prelude.{◌≡◌, ℕ, ◌+◌, Bool, true, List, [], ◌∷◌, length, map, replicate, sum_by, Some}
+use Rattle.std.specs.Prelude.{◌≡◌, ℕ, ◌+◌, Bool, true, false, cond, List, [], ◌∷◌, length, map, replicate, sum_by, Some}
 use Rattle.std.proofs.Common.{refl, sym, ap, ◌∙◌, subst, length-append}
+use Rattle.std.proofs.lemmas.List.{length-map}
 use Rattle.std.proofs.lemmas.List.Sums.{sum_by-cons, sum_by-append}
-use Rattle.std.specs.List.{AllByRecursion, Contains}
-use Rattle.std.specs.Cmp.{IsTotalOrder, tied_itself}
+use Rattle.std.specs.List.{AllByRecursion, Contains, dedup, dedup_from}
+use Rattle.std.specs.Cmp.{IsTotalOrder, IsPartialEquivalence, per_alike, tied_itself}
 use Rattle.std.specs.Ordering.{is_eq}
 use Rattle.std.specs.declared.cmp.Ordering.{Ordering}
 use Rattle.std.specs.declared.cmp.Ordering.TheVariants.{Less, Equal}
 use Rattle.sgb_search.specs.Search.{NeverDescends}
-use Rattle.sgb_search.specs.Split.{IsAccepted, concat, first, split}
+use Rattle.sgb_search.specs.Split.{IsAccepted, concat, first, without_first, put_before, split}
 use Rattle.sgb_search.proofs.Each.{all_contains}
 use Rattle.sgb_search.proofs.Order.{equal_if_tied}
 use Rattle.sgb_search.proofs.Splits.{split_is}
@@ -42,6 +43,73 @@ module _ {T : Type 0} where
 
     pub piece_copied : (xs g : List T) (x : T) → Contains (split p xs) g → first g ≡ Some x → g ≡ replicate (length g) x
     piece_copied xs g x c = copies g x (all_contains (IsAccepted p) (split p xs) g (split_is p xs).accepted c)
+
+    each_copied : (gs : List (List T)) → AllByRecursion (IsAccepted p) gs
+        → AllByRecursion (λ g. (x : T) → first g ≡ Some x → g ≡ replicate (length g) x) gs
+    each_copied [] a = tt
+    each_copied (g ∷ gs) a = (λ x. copies g x a.0, each_copied gs a.1)
+
+    pub pieces_copied : (xs : List T) → AllByRecursion (λ g. (x : T) → first g ≡ Some x → g ≡ replicate (length g) x) (split p xs)
+    pieces_copied xs = each_copied (split p xs) (split_is p xs).accepted
+
+-- a test of keys is one of the elements
+pub by_keys : {T K : Type 0} (eq : K → K → Bool) → IsPartialEquivalence eq → (key : T → K) → IsPartialEquivalence (λ x y. eq (key x) (key y))
+by_keys eq per key = record {
+  symm = λ x y. per.symm (key x) (key y);
+  trans = λ x y z. per.trans (key x) (key y) (key z);
+}
+
+-- the first elements of the pieces, for a test that is symmetric and transitive
+module _ {T : Type 0} (p : T → T → Bool) (per : IsPartialEquivalence p) where
+  firsts_put : (b : Bool) (x : T) (gs : List (List T))
+      → map first (put_before p b x gs) ≡ Some x ∷ without_first (map first (put_before p b x gs))
+  firsts_put true x [] = refl
+  firsts_put true x (g ∷ gs) = refl
+  firsts_put false x gs = refl
+
+  firsts_split : (x : T) (xs : List T) → map first (split p (x ∷ xs)) ≡ Some x ∷ without_first (map first (split p (x ∷ xs)))
+  firsts_split x [] = refl
+  firsts_split x (y ∷ ys) = firsts_put (p x y) x (split p (y ∷ ys))
+
+  -- those after the first do not depend on the element that is put before the pieces
+  later_put : (b : Bool) (x y : T) (gs : List (List T))
+      → without_first (map first (put_before p b x gs)) ≡ without_first (map first (put_before p b y gs))
+  later_put true x y [] = refl
+  later_put true x y (g ∷ gs) = refl
+  later_put false x y gs = refl
+
+  later_alike : (x y : T) (zs : List T) → p x y ≡ true
+      → without_first (map first (split p (x ∷ zs))) ≡ without_first (map first (split p (y ∷ zs)))
+  later_alike x y [] e = refl
+  later_alike x y (z ∷ zs) e =
+      later_put (p x z) x y (split p (z ∷ zs))
+      ∙ ap (λ b. without_first (map first (put_before p b y (split p (z ∷ zs))))) (per_alike per x y z e)
+
+  later_joined : (x : T) (gs : List (List T)) → without_first (map first (put_before p true x gs)) ≡ without_first (map first gs)
+  later_joined x [] = refl
+  later_joined x (g ∷ gs) = refl
+
+  firsts_from : (x : T) (xs : List T) → map first (split p (x ∷ xs)) ≡ map Some (dedup_from p x xs)
+  firsts_from x [] = refl
+  firsts_from x (y ∷ ys) =
+      by (p x y) refl (firsts_from x ys) (firsts_from y ys)
+      ∙ ap (λ b. map Some (cond b (dedup_from p x ys) (x ∷ dedup_from p y ys))) (per.symm x y)
+    where
+      by : (b : Bool) → p x y ≡ b → map first (split p (x ∷ ys)) ≡ map Some (dedup_from p x ys)
+          → map first (split p (y ∷ ys)) ≡ map Some (dedup_from p y ys)
+          → map first (put_before p b x (split p (y ∷ ys))) ≡ map Some (cond b (dedup_from p x ys) (x ∷ dedup_from p y ys))
+      by true e same other =
+          firsts_put true x (split p (y ∷ ys))
+          ∙ ap (λ os. Some x ∷ os) (later_joined x (split p (y ∷ ys)) ∙ sym (later_alike x y ys e))
+          ∙ sym (firsts_split x ys) ∙ same
+      by false e same other = ap (λ os. Some x ∷ os) other
+
+  pub firsts : (xs : List T) → map first (split p xs) ≡ map Some (dedup p xs)
+  firsts [] = refl
+  firsts (x ∷ xs) = firsts_from x xs
+
+  pub as_many : (xs : List T) → length (split p xs) ≡ length (dedup p xs)
+  as_many xs = sym (length-map (split p xs) first) ∙ ap length (firsts xs) ∙ length-map (dedup p xs) Some
 
 module _ {K : Type 0} (cmp : K → K → Ordering) (o : IsTotalOrder cmp) (eq : K → K → Bool)
     (ties : (x y : K) → eq x y ≡ is_eq (cmp x y)) {T : Type 0} (key : T → K) where

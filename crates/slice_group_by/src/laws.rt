@@ -38,11 +38,13 @@ pub use crate::families::{
 pub use crate::join::{
     joins_may_go_on, pairs_ascend, pairs_match, partners_are_unique, sees_pairs,
 };
-pub use crate::pieces::{equal_pieces_are_copies, pieces_add_up, pieces_by_key};
+pub use crate::pieces::{
+    equal_pieces_are_copies, pieces_add_up, pieces_begin_as_dedup, pieces_by_key,
+};
 pub use crate::plans::{Plan, refute};
 use crate::queue::GroupQueue;
 pub use crate::ranks::rank_groups;
-pub use crate::sorted::{is_sorted_for_groups, sorts_ascend};
+pub use crate::sorted::{is_sorted_for_groups, sorted_by_key_ascends, sorts_ascend};
 use sgb_linear_str_group::groups::LinearStrGroups;
 use sgb_linear_str_group::groups_mut::LinearStrGroupsMut;
 use sgb_search::judge::Judge;
@@ -51,7 +53,7 @@ pub use sgb_search::laws::{
     always_callable_key, always_callable_key_apart, always_callable_on_elements, always_computes,
     ascending_is_grouped, callable_now, callable_now_on_pairs, callable_on_elements,
     callable_on_pairs, computes_on_elements, descending_is_grouped, digits_is_least,
-    equality_judges, one_split, parts_are_grouped, question_count,
+    equality_judges, gap_parts, one_split, parts_are_grouped, question_count,
 };
 use sgb_slice_group::groups::LinearGroups;
 use sgb_slice_group::groups_mut::LinearGroupsMut;

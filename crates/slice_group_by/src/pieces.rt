@@ -1,6 +1,6 @@
 //! Laws of the pieces of a list.
 ghost use Rattle.std.specs.Prelude.{◌≡◌, ℕ, ◌<◌, Bool, true, List, length, map, replicate, sum_by, Some, slice_get};
-ghost use Rattle.std.specs.List.{Contains};
+ghost use Rattle.std.specs.List.{AllByRecursion, Contains, dedup};
 ghost use Rattle.std.specs.declared.cmp.Ordering.TheVariants.{Less};
 ghost use Rattle.sgb_search.specs.Search.{NeverDescends};
 ghost use Rattle.sgb_search.specs.Split.{first, split};
@@ -18,8 +18,19 @@ pub fn pieces_by_key<T, K: Ord>()
 
 /// A piece by a test that accepts equal elements alone is its first element, so many times.
 pub fn equal_pieces_are_copies<T>()
-    ensures { (p : T → T → Bool) → ((x y : T) → p x y ≡ true → x ≡ y) → (xs g : List T) (x : T) → Contains (split p xs) g
+    ensures one { (p : T → T → Bool) → ((x y : T) → p x y ≡ true → x ≡ y) → (xs g : List T) (x : T) → Contains (split p xs) g
         → first g ≡ Some x → g ≡ replicate (length g) x }
+    ensures each { (p : T → T → Bool) → ((x y : T) → p x y ≡ true → x ≡ y) → (xs : List T)
+        → AllByRecursion (λ g. (x : T) → first g ≡ Some x → g ≡ replicate (length g) x) (split p xs) }
+{}
+
+/// The first elements of the pieces by keys are what the standard library's `dedup` by these keys leaves; so there are as many
+/// pieces. With the elements themselves as keys these are the pieces by `==`.
+pub fn pieces_begin_as_dedup<T, K: PartialEq>()
+    ensures firsts { (key : T → K) (xs : List T) → map first (split (λ a b. K.eq (key a) (key b)) xs)
+        ≡ map Some (dedup (λ a b. K.eq (key a) (key b)) xs) }
+    ensures count { (key : T → K) (xs : List T) → length (split (λ a b. K.eq (key a) (key b)) xs)
+        ≡ length (dedup (λ a b. K.eq (key a) (key b)) xs) }
 {}
 
 /// The pieces of a list have its length together, and a sum over them is the sum over the list.

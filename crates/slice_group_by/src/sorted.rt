@@ -1,6 +1,8 @@
 //! Whether a slice is sorted, and so grouped.
-ghost use Rattle.std.specs.Prelude.{◌≡◌, List, map, true};
+ghost use Rattle.std.specs.Prelude.{◌≡◌, Bool, List, map, true};
+ghost use Rattle.std.specs.List.{IsAllAdjacentAnswer};
 ghost use Rattle.std.specs.List.Sorted.{IsSorted, IsSortedByKey};
+ghost use Rattle.std.specs.Ordering.{partial_le};
 ghost use Rattle.sgb_search.specs.Split.{IsGrouped};
 ghost use Rattle.sgb_search.specs.Search.{NeverDescends};
 
@@ -25,4 +27,15 @@ pub fn is_sorted_for_groups<T: Ord>(slice: &[T]) -> bool
 pub fn sorts_ascend<T, K: Ord>()
     ensures by_itself { (xs : List K) → IsSorted K.cmp xs → NeverDescends K.cmp xs }
     ensures by_key { (key : T → K) (xs : List T) → IsSortedByKey key K.cmp xs → NeverDescends K.cmp (map key xs) }
+{}
+
+/// The standard library's `is_sorted_by_key` says yes exactly of the slices that never descend by the key, which its function
+/// computes: from what `is_sorted_by_key` ensures.
+pub fn sorted_by_key_ascends<T, K: Ord>()
+    ensures ascends { (key : T → K) (xs : List T) (sorted : Bool)
+        → IsAllAdjacentAnswer (λ x y b. b ≡ partial_le K.partial_cmp (key x) (key y)) xs sorted
+        → sorted ≡ true → NeverDescends K.cmp (map key xs) }
+    ensures only { (key : T → K) (xs : List T) (sorted : Bool)
+        → IsAllAdjacentAnswer (λ x y b. b ≡ partial_le K.partial_cmp (key x) (key y)) xs sorted
+        → NeverDescends K.cmp (map key xs) → sorted ≡ true }
 {}

@@ -4,7 +4,7 @@ ghost use Rattle.std.specs.List.{AllByRecursion};
 ghost use Rattle.std.specs.List.Sorted.{IsNonDecreasingBy};
 
 use slice_group_by::exponential_search_by;
-use slice_group_by::laws::always_computes;
+use slice_group_by::laws::{always_computes, gap_parts};
 use std::cmp::Ordering;
 
 /// The entries from a key on.
@@ -21,6 +21,7 @@ pub fn entries_from(index: &[(u32, u32)], key: u32) -> &[(u32, u32)]
         }
     };
     always_computes(&below);
+    gap_parts::<(u32, u32)>();
     match exponential_search_by(index, below) {
         Ok(place) => &index[place..],
         Err(place) => &index[place..],

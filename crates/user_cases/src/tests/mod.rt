@@ -9,6 +9,7 @@ mod index_reader;
 mod joins;
 mod joins_by_key;
 mod loops;
+mod pieces;
 mod restricted;
 mod texts;
 mod tokens;

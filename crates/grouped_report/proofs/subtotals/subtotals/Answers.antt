@@ -11,7 +11,7 @@ use Rattle.slice_group_by.specs.End.TheVariants.{Front}
 use Rattle.slice_group_by.specs.Split.{split, IsSplit}
 use Rattle.grouped_report.specs.declared.rows.Entry.{Entry}
 use Rattle.grouped_report.specs.Departments.{department, amount, amount_of, count_of}
-use Rattle.grouped_report.proofs.Lines.{line_of, same, ascending, once, amounts, totals}
+use Rattle.grouped_report.proofs.Lines.{line_of, same, ascending, once, amounts, sums_of_lines}
 use Rattle.grouped_report.proofs.subtotals.subtotals.Goals as goal
 
 -- at the end the lines are those of the pieces of the sorted rows
@@ -55,5 +55,5 @@ returns-clause-amounts c d =
 
 pub returns-clause-total : goal.returns-clause-total
 returns-clause-total c =
-    ap (sum_by amount) (lines c) ∙ totals (split same (sorted c)) ∙ ap (sum_by amount) (is_split c).joins
-    ∙ sum_by-IsPermutation amount _ _ c.in_ok-sort_by_key.ensures.permutation
+    ap (sum_by amount) (lines c) ∙ sums_of_lines (split same (sorted c))
+    ∙ c.pieces_add_up.ensures.sums same amount (sorted c) ∙ sum_by-IsPermutation amount _ _ c.in_ok-sort_by_key.ensures.permutation

@@ -1,5 +1,6 @@
 use Rattle.std.proofs.Common.{◌≡◌, None, refl, map, nat_eq, ap, ◌∙◌, sym}
 use Rattle.std.proofs.lemmas.Iterator.Consumers.{YieldsList-end}
+use Rattle.std.proofs.lemmas.Bool.{eqb-true}
 use Rattle.std.proofs.lemmas.List.Folds.{flat_map-map}
 use Rattle.slice_group_by.specs.End.TheVariants.{Front}
 use Rattle.slice_group_by.specs.Split.{split, concat}
@@ -16,7 +17,7 @@ module _ (c : goal.In-None) where
       let drained = YieldsList-end seen _ _ yielded None _ refl c.in-None.ensures.steps in
       let is_split = c.one_split.ensures.exists nat_eq c.args.bytes.now in
       ap (map copies) (c.loop-group.invariant ∙ ap (map run_of) (rw c.new-groups.ensures.remainder at drained.0))
-      ∙ pieces_copied _ is_split.nonempty is_split.accepted
+      ∙ pieces_copied _ is_split.nonempty (c.equal_pieces_are_copies.ensures.each nat_eq eqb-true c.args.bytes.now)
 
 pub returns-clause-longest : goal.returns-clause-longest
 returns-clause-longest c = pieces c

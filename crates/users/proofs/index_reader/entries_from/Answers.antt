@@ -1,4 +1,4 @@
-use Rattle.std.proofs.Common.{rules, ℕ, zero, suc, ◌≡◌, ◌<◌, ◌≤◌, ◌-◌, Bool, cond, nat_lt, List, [], ◌∷◌, sym, ap, arith, inl, inr}
+use Rattle.std.proofs.Common.{rules, ℕ, ◌≡◌, ◌<◌, ◌≤◌, ◌-◌, Bool, cond, nat_lt, List, [], ◌∷◌, sym, ap, arith, inl, inr}
 use Rattle.std.proofs.Common.{length, take, drop, get_or, take_all, length-drop}
 use Rattle.std.specs.Prelude.{◌⊎◌}
 use borrow.Author.Tests.{lt-ltb, le-ltb}
@@ -15,20 +15,9 @@ use Rattle.users.proofs.index_reader.entries_from.Goals as goal
 abbrev side : ℕ → ℕ × ℕ → Ordering
 side key e = cond (nat_lt e.0 key) Less Greater
 
-module _ (P : ℕ × ℕ → Type 0) where
-  before_all : (xs : List (ℕ × ℕ)) (i : ℕ)
-      → ((k : ℕ) (d : ℕ × ℕ) → 0 ≤ k → k < i → P (get_or xs k d)) → i ≤ length xs → AllByRecursion P (take i xs)
-  before_all xs zero h l = tt
-  before_all [] (suc i) h l = tt
-  before_all (x ∷ xs) (suc i) h l =
-      (h 0 x (omega arith) (omega arith), before_all xs i (λ k d a b. h (suc k) d (omega arith) (omega arith)) (omega arith))
-
-  after_all : (xs : List (ℕ × ℕ)) (i : ℕ)
-      → ((k : ℕ) (d : ℕ × ℕ) → i ≤ k → k < length xs → P (get_or xs k d)) → AllByRecursion P (drop i xs)
-  after_all [] zero h = tt
-  after_all [] (suc i) h = tt
-  after_all (x ∷ xs) zero h = (h 0 x (omega arith) (omega arith), after_all xs zero (λ k d a b. h (suc k) d (omega arith) (omega arith)))
-  after_all (x ∷ xs) (suc i) h = after_all xs i (λ k d a b. h (suc k) d (omega arith) (omega arith))
+each_follows : {P Q : ℕ × ℕ → Type 0} → ((e : ℕ × ℕ) → P e → Q e) → (xs : List (ℕ × ℕ)) → AllByRecursion P xs → AllByRecursion Q xs
+each_follows f [] h = tt
+each_follows f (e ∷ es) h = (f e h.0, each_follows f es h.1)
 
 module _ (key : ℕ) where
   side_less : (e : ℕ × ℕ) → e.0 < key → side key e ≡ Less
@@ -86,6 +75,6 @@ returns-in-Err c =
     rw rest (
       take i xs,
       sym (take-append-drop i xs),
-      before_all (λ e. e.0 < key) xs i (λ k d a b. below key (get_or xs k d) (gap.between.0 k d a b)) c.in-Err.ensures.bound,
-      after_all (λ e. key ≤ e.0) xs i (λ k d a b. not_below key (get_or xs k d) (gap.between.1 k d a b)),
+      each_follows (below key) (take i xs) (c.gap_parts.ensures.before (side key) xs i gap),
+      each_follows (not_below key) (drop i xs) (c.gap_parts.ensures.after (side key) xs i gap),
     )

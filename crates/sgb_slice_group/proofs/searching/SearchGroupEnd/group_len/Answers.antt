@@ -27,7 +27,8 @@ returns-clause-asked g c =
     (λ _. SearchRun (from c.args.end.now xs) g.J.Judge g.S.GroupSearch.cost c.args.judge.now (c.in-Ok.place + 1) c.match-end.judge) [
       | in-Front w ↦
           rw (w.in-Front.is, w.judge-is)
-          (search_run g.J.Judge xs _ (length xs - 1) _ _ _ _ (rw w.found-is at c.in-Ok.is) (omega (arith, c.requires.nonempty)) w.search-found.ensures)
+          (search_run g.J.Judge xs _ (length xs - 1) _ _ _ _ (rw w.found-is at c.in-Ok.is) (omega (arith, c.requires.nonempty))
+          w.search-found.ensures)
       | in-Back w ↦
           rw (w.in-Back.is, w.judge-is)
           (search_run g.J.Judge (reverse xs) _ (length xs - 1) _ _ _ _ (rw w.found-is at c.in-Ok.is)

@@ -1,0 +1,23 @@
+//! Numbers of groups, as `dedup` has them, from a descending slice, and of two slices that may not be sorted.
+use users::pieces::{common_keys_if_sorted, count_descending, deduped_len};
+
+#[test]
+fn as_dedup_counts(rt: HostRuntime) {
+    assert_eq!(rt; deduped_len(&[]), 0);
+    assert_eq!(rt; deduped_len(&[1, 1, 2, 2, 1]), 3);
+}
+
+#[test]
+fn descending_slice_by_halving(rt: HostRuntime) {
+    assert_eq!(rt; count_descending(&[5, 5, 3, 3, 3, 1]), 3);
+}
+
+#[test]
+fn common_keys_of_sorted_slices_alone(rt: HostRuntime) {
+    assert_eq!(rt;
+        common_keys_if_sorted(&[(1, 10), (1, 11), (3, 12)], &[(1, 0), (2, 0), (3, 0)]),
+        Some(2)
+    );
+    assert!(rt; common_keys_if_sorted(&[(3, 10), (1, 11)], &[(1, 0)]).is_none());
+    assert!(rt; common_keys_if_sorted(&[(1, 10)], &[(2, 0), (1, 0)]).is_none());
+}
