@@ -1,7 +1,9 @@
 -- A call on a text, by its bytes and by its questions, at each end.
-use Rattle.std.proofs.Common.{ℕ, List, [], ◌∷◌, Option, None, Some}
+use Rattle.std.proofs.Common.{◌≡◌, ℕ, List, [], ◌∷◌, Option, None, Some, map, refl, sym, ap, ◌∙◌}
+use Rattle.std.proofs.Math.Utf8.{encodes}
+use Rattle.std.proofs.lemmas.Str.{encodes-chars}
 use Rattle.std.specs.Prelude.{option_map, IfSome}
-use Rattle.std.specs.Str.{IsUtf8}
+use Rattle.std.specs.Str.{chars, IsUtf8}
 use Rattle.std.specs.List.{AllByRecursion}
 use Rattle.std.specs.Borrow.{Bor, MutBor}
 use Rattle.sgb_search.specs.declared.judge.Judge.{Ghosts}
@@ -31,6 +33,18 @@ module _ {J : Type 0} (g : Ghosts J ℕ) where
       → AsksEachOnce g (in_characters (seen_text s)) (in_characters (seen_text t))
   writing_once e s o t h = text_once g e (seen_text s) (seen_text t) (option_map (λ x. x.now) o) h.0
 
+  utf8_read : (e : End) (s : LinearStrGroups J) (o : Option (Bor (List ℕ))) (t : LinearStrGroups J) → GivesText g e s o t
+      → IfSome o (λ x. IsUtf8 x.now)
+  utf8_read e s None t h = tt
+  utf8_read e s (Some x) t h = h.group_utf8
+
+  pub utf8_reads : (s : LinearStrGroups J) (es : List End) (os : List (Option (Bor (List ℕ)))) (t : LinearStrGroups J)
+      → IsChain (GivesText g) s es os t → AllByRecursion (λ o. IfSome o (λ x. IsUtf8 x.now)) os
+  utf8_reads s [] [] t c = tt
+  utf8_reads s [] (o ∷ os) t c = absurd c
+  utf8_reads s (e ∷ es) [] t c = absurd c
+  utf8_reads s (e ∷ es) (o ∷ os) t c = (utf8_read e s o c.0 c.1, utf8_reads c.0 es os t c.2)
+
   utf8_group : (e : End) (s : TextGroupsMut J) (o : Option (MutBor (List ℕ))) (t : TextGroupsMut J) → GivesTextMut g e s o t
       → IfSome o (λ x. IsUtf8 x.now)
   utf8_group e s None t h = tt
@@ -42,3 +56,12 @@ module _ {J : Type 0} (g : Ghosts J ℕ) where
   utf8_groups s [] (o ∷ os) t c = absurd c
   utf8_groups s (e ∷ es) [] t c = absurd c
   utf8_groups s (e ∷ es) (o ∷ os) t c = (utf8_group e s o c.0 c.1, utf8_groups c.0 es os t c.2)
+
+-- bytes that are UTF-8 are the encodings of their characters
+pub encoded : {I : Type 0} (bytes : I → List ℕ) (os : List (Option I)) → AllByRecursion (λ o. IfSome o (λ x. IsUtf8 (bytes x))) os
+    → map (option_map bytes) os ≡ map (option_map encodes) (map (option_map (λ x. chars (bytes x))) os)
+encoded bytes [] h = refl
+encoded bytes (None ∷ os) h = ap (λ r. None ∷ r) (encoded bytes os h.1)
+encoded bytes (Some x ∷ os) h =
+    ap (λ b. Some b ∷ map (option_map bytes) os) (sym (encodes-chars (bytes x) h.0))
+    ∙ ap (λ r. Some (encodes (chars (bytes x))) ∷ r) (encoded bytes os h.1)

@@ -10,6 +10,7 @@ ghost use Rattle.std.specs.Iterator.Adapters.{rev_source, rev_steps};
 ghost use Rattle.std.specs.declared.iter.Rev.{Rev};
 ghost use Rattle.std.proofs.lemmas.Iterator.{YieldsList};
 ghost use Rattle.std.specs.Str.{chars, IsUtf8};
+ghost use Rattle.std.proofs.Math.Utf8.{encodes};
 ghost use Rattle.std.specs.List.{AllByRecursion};
 ghost use Rattle.sgb_search.specs.Split.{from, put_at, first, last, without, concat, IsAccepted, split};
 ghost use Rattle.sgb_search.specs.Judges.{IsRunOf, AsksWithin};
@@ -162,8 +163,12 @@ pub fn each_pair_asked_once_mut<T, J: Judge<T>>(_groups: &LinearGroupsMut<'_, T,
 {}
 
 /// The bytes of the groups of a text, joined, are what goes: of a list of calls at both ends, and of calls at one end, until nothing
-/// remains or not. What `groups_join` and `walk` say of characters, this says of bytes.
+/// remains or not. What `groups_join` and `walk` say of characters, this says of bytes. Those of each group of a list of calls are
+/// the encodings of its characters, and so of the piece that it is.
 pub fn texts_join<J: Judge<char>>(_groups: &LinearStrGroups<'_, J>)
+    ensures encodings { (s t : LinearStrGroups J) (ends : List End) (out : List (Option (Bor (List ℕ))))
+        → IsChain (GivesText J.Judge) s ends out t → map (option_map (λ group. group.now)) out
+        ≡ map (option_map encodes) (map (option_map (λ group. chars group.now)) out) }
     ensures calls { (s t : LinearStrGroups J) (ends : List End) (out : List (Option (Bor (List ℕ))))
         → IsChain (GivesText J.Judge) s ends out t
         → Partition ends (map (option_map (λ group. group.now)) out) (shown_text t).text (shown_text s).text }
@@ -180,6 +185,9 @@ pub fn texts_join_mut<J: Judge<char>>(_groups: &LinearStrGroupsMut<'_, J>)
     ensures utf8 { (s t : TextGroupsMut J) (ends : List End) (out : List (Option (MutBor (List ℕ))))
         → IsChain (GivesTextMut J.Judge) s ends out t
         → AllByRecursion (λ o. IfSome o (λ group. IsUtf8 group.now)) out }
+    ensures encodings { (s t : TextGroupsMut J) (ends : List End) (out : List (Option (MutBor (List ℕ))))
+        → IsChain (GivesTextMut J.Judge) s ends out t → map (option_map (λ group. group.now)) out
+        ≡ map (option_map encodes) (map (option_map (λ group. chars group.now)) out) }
     ensures calls { (s t : TextGroupsMut J) (ends : List End) (out : List (Option (MutBor (List ℕ))))
         → IsChain (GivesTextMut J.Judge) s ends out t
         → Partition ends (map (option_map (λ group. group.now)) out) t.text s.text }

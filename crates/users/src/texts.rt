@@ -1,21 +1,27 @@
 //! Groups of texts: walks by closures of characters, the number of runs, and the first run.
 ghost use Rattle.std.specs.Prelude.{◌≡◌, ℕ, Bool, List, [], ◌∷◌, ◌++◌, MatchOption, length, map, option_map, nat_eq, nat_lt};
 ghost use Rattle.std.specs.Str.{chars};
+ghost use Rattle.std.proofs.Math.Utf8.{encodes};
 ghost use Rattle.slice_group_by.specs.Judges.{ComputesOnChars, ComputesCharKey};
 ghost use Rattle.slice_group_by.specs.Split.{split};
 ghost use Rattle.slice_group_by.specs.Queue.{pops};
 
-use slice_group_by::laws::{always_callable_char_key, always_callable_chars, sees_pieces};
+use slice_group_by::laws::{
+    always_callable_char_key, always_callable_chars, sees_pieces, texts_join,
+};
 use slice_group_by::{
     End, LinearStrGroup, LinearStrGroupBy, LinearStrGroupByKey, StrGroupBy, walk,
 };
 
-/// Calls at these ends answer as the two-ended queue of the pieces of the split of the characters.
+/// Calls at these ends answer as the two-ended queue of the pieces of the split of the characters, by characters and by bytes.
 pub fn equal_runs<'a>(text: &'a str, ends: &[End], out: &mut [Option<&'a str>])
     requires { length out.old ≡ length ends.now }
-    ensures { map (option_map (λ group. chars group.now)) out.new ≡ pops (split nat_eq (chars text.now)) ends.now }
+    ensures characters { map (option_map (λ group. chars group.now)) out.new ≡ pops (split nat_eq (chars text.now)) ends.now }
+    ensures bytes { map (option_map (λ group. group.now)) out.new
+        ≡ map (option_map encodes) (pops (split nat_eq (chars text.now)) ends.now) }
 {
     let mut groups = LinearStrGroup::new(text);
+    texts_join(&groups);
     walk(&mut groups, ends, out);
 }
 

@@ -1,8 +1,11 @@
 use Rattle.sgb_linear_str_group.specs.Texts.{shown_text, GivesText}
-use Rattle.slice_group_by.proofs.TextParts.{text_part}
+use Rattle.slice_group_by.proofs.TextParts.{text_part, utf8_reads, encoded}
 use Rattle.slice_group_by.proofs.Chains.{chain_parts}
 use Rattle.slice_group_by.proofs.Seen.{yields_parts, drains_parts}
 use Rattle.slice_group_by.proofs.laws.texts_join.Goals as goal
+
+pub returns-clause-encodings : goal.returns-clause-encodings
+returns-clause-encodings g c s t ends out chain = encoded (λ x. x.now) out (utf8_reads g.J.Judge s ends out t chain)
 
 pub returns-clause-calls : goal.returns-clause-calls
 returns-clause-calls g c s t ends out =
