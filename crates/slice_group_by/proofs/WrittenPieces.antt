@@ -1,11 +1,12 @@
 -- Which piece a call on groups for writing gives, where the group is noted then: lemmas that a proof of a caller's loop cites.
 --     linear_piece, search_piece          the split of what remained is the group, at the call's end, and the split of what remains
 --     linear_settled, search_settled      the iterator stays settled
-use Rattle.std.proofs.Common.{◌≡◌, Bool, List, [], ◌∷◌, Some, sym, ap, ◌∙◌}
+--     noted_at_front                      a group from the front, noted as f leaves it, moves to what is done
+use Rattle.std.proofs.Common.{◌≡◌, Bool, List, [], ◌∷◌, ◌++◌, Some, map, sym, ap, ◌∙◌, append_assoc}
 use Rattle.std.specs.Borrow.{MutBor}
 use Rattle.sgb_search.specs.declared.end.End.{End}
 use Rattle.sgb_search.specs.declared.judge.Judge.{Ghosts}
-use Rattle.sgb_search.specs.Split.{put_at, split}
+use Rattle.sgb_search.specs.Split.{put_at, concat, split}
 use Rattle.sgb_search.specs.Calls.{Groups}
 use Rattle.sgb_search.specs.Searching.{SearchCost, IsSettledApart, SearchQuestions}
 use Rattle.sgb_search.specs.Linear.{IsSettled, LinearQuestions}
@@ -40,3 +41,13 @@ module _ {T J : Type 0} (g : Ghosts J T) (p : T → T → Bool) (e : End) (s t u
     pub search_settled : GivesMut (SearchQuestions g cost) e s (Some x) t → u.judge ≡ t.judge → IsSettledApart g (seen s) p
         → IsSettledApart g (seen u) p
     search_settled steps asked m = still (IsSettledApart g) asked (searched.piece g cost e (seen s) (Some x.now) (seen t) p steps.0 m).1
+
+-- what is done, and after it what f makes of each piece to come, stays the same list when a group from the front is noted as f leaves it:
+-- for every judge and every way to find a group's end
+module _ {T : Type 0} (p : T → T → Bool) (f : List T → List T) (remainder rest before value noted group whole : List T) where
+  pub noted_at_front : before ++ concat (map f (split p remainder)) ≡ whole → split p remainder ≡ group ∷ split p rest
+      → noted ≡ before ++ value → value ≡ f group → noted ++ concat (map f (split p rest)) ≡ whole
+  noted_at_front done cut note is =
+      ap (λ l. l ++ concat (map f (split p rest))) (note ∙ ap (λ l. before ++ l) is)
+      ∙ append_assoc before (f group) (concat (map f (split p rest)))
+      ∙ ap (λ gs. before ++ concat (map f gs)) (sym cut) ∙ done

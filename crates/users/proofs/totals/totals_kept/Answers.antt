@@ -1,8 +1,9 @@
 use Rattle.std.proofs.Common.{rules, arith, ap, ◌∙◌, ◌≡◌, ◌++◌}
 use Rattle.std.proofs.lemmas.List.Sums.{sum_by-append}
-use Rattle.slice_group_by.proofs.WrittenPieces.{search_piece, search_settled}
+use Rattle.slice_group_by.proofs.WrittenPieces.{noted_at_front, search_piece, search_settled}
+use Rattle.users.specs.Keys.{same_key}
 use Rattle.users.specs.Totals.{kept}
-use Rattle.users.proofs.KeptTotals.{one_more, set_is_kept}
+use Rattle.users.proofs.KeptTotals.{set_is_kept}
 use Rattle.slice_group_by.specs.End.TheVariants.{Front}
 use Rattle.users.proofs.totals.totals_kept.Goals as goal
 
@@ -26,7 +27,7 @@ loop-group-preserved g c =
       cuts = search rules;
       after = search rules;
       done =
-          one_more _ _ _ _ _ _ _ i.done
+          noted_at_front same_key kept c.loop-group.groups.remainder c.note_front.new.self.remainder _ _ _ _ _ i.done
           (search_piece _ _ Front c.loop-group.groups c.next.new.self c.note_front.new.self c.in-Some.group note.remainder _ steps
           i.settled) (note.before ∙ ap (λ l. l ++ c.of.result.value) steps.1.before) value;
     }
