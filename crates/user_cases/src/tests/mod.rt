@@ -10,6 +10,7 @@ mod joins;
 mod joins_by_key;
 mod loops;
 mod pieces;
+mod plans;
 mod restricted;
 mod texts;
 mod tokens;
