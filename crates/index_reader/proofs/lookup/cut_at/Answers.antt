@@ -1,0 +1,82 @@
+use Rattle.std.proofs.Common.{rules, ◌≡◌, ◌+◌, ◌*◌, ◌≤◌, ◌++◌, length, ℕ, nat_lt, List, Option, None, Some, sym, ap, ◌∙◌, arith}
+use Rattle.std.specs.Prelude.{MatchOption, option_map, unwrap_or}
+use Rattle.std.specs.Borrow.{Bor}
+use Rattle.std.proofs.lemmas.Fn.{answers_by}
+use Rattle.std.proofs.lemmas.List.{append_cancel_left}
+use Rattle.slice_group_by.specs.Searching.{digits}
+use Rattle.slice_group_by.specs.Split.{split, first}
+use Rattle.slice_group_by.specs.End.{End}
+use Rattle.slice_group_by.specs.End.TheVariants.{Front}
+use Rattle.slice_group_by.specs.Gives.{shown}
+use Rattle.slice_group_by.specs.Calls.{Groups, IsGroupAt}
+use Rattle.index_reader.specs.declared.entries.Entry.{Entry}
+use Rattle.index_reader.specs.Keys.{lower}
+use Rattle.index_reader.proofs.Cuts.{together, sides_descend, by_first, both_parts}
+use Rattle.index_reader.proofs.lookup.cut_at.Goals as goal
+
+-- the elements of a group
+abbrev elements : Bor (List Entry) → List Entry
+elements group = group.now
+
+-- what a call gave, where it gave a group
+given : (o : Option (Bor (List Entry))) (d : Bor (List Entry)) (g : List Entry) → option_map elements o ≡ Some g → (unwrap_or o d).now ≡ g
+given None d g e = absurd (cc)
+given (Some x) d g e = cc
+
+-- and how many questions it asked for it
+counted : (o : Option (Bor (List Entry))) (g : List Entry) (m n : ℕ) → option_map elements o ≡ Some g → m ≡ 0
+    → MatchOption o (n ≡ m) (λ x. n ≤ 2 * digits (length x.now) + 1) → n ≤ 2 * digits (length g) + 1
+counted None g m n e z h = absurd (cc)
+counted (Some x) g m n e z h = let k : x.now ≡ g = cc in rw k at h
+
+-- and what remains after it
+rest : {J : Type 0} (P : Type 0) (asks : End → List Entry → ℕ → J → J → Type 0) (s t : Groups Entry J) (o : Option (Bor (List Entry)))
+    (g : List Entry) → option_map elements o ≡ Some g → MatchOption o P (λ x. IsGroupAt asks Front s x.now t)
+    → s.remainder ≡ g ++ t.remainder
+rest P asks s t None g e h = absurd (cc)
+rest P asks s t (Some x) g e h = let k : x.now ≡ g = cc in rw k at h.cut
+
+pub returns-then-not-starts_below-clause-lower : goal.returns-then-not-starts_below-clause-lower
+returns-then-not-starts_below-clause-lower c =
+    let by = by_first c.args.limit c.args.index.now c.starts_below.result c.starts_below.ensures c.requires in
+    sym (by.0 c.if-not-starts_below.true).0
+
+pub returns-then-not-starts_below-clause-others : goal.returns-then-not-starts_below-clause-others
+returns-then-not-starts_below-clause-others c =
+    let by = by_first c.args.limit c.args.index.now c.starts_below.result c.starts_below.ensures c.requires in
+    sym (by.0 c.if-not-starts_below.true).1
+
+module _ (c : goal.After-comparisons-2-1) where
+  -- the call gave the first piece
+  taken : option_map elements c.next.result ≡ Some (lower c.args.limit c.args.index.now)
+  taken =
+      let by = by_first c.args.limit c.args.index.now c.starts_below.result c.starts_below.ensures c.requires in
+      let descends = sides_descend c.args.limit c.args.index.now c.requires in
+      let grouped = c.descending_is_grouped.ensures.by_key (λ x. nat_lt x.key c.args.limit) c.args.index.now descends in
+      let settled = c.new-groups.ensures.settled (together c.args.limit)
+      (answers_by _ _ (λ f. f.1.now ≡ c.args.limit) (λ f a r f' k i. search (rules, i)) _ (search rules)) grouped in
+      let front = c.calls_take_pieces.ensures.front (together c.args.limit) c.new-groups.result c.next.new.self c.next.result in
+      front c.next.ensures.steps settled
+      ∙ ap (λ xs. first (split (together c.args.limit) xs)) c.new-groups.ensures.remainder ∙ by.1 c.if-not-starts_below.false
+
+  part : c.unwrap_or-lower.result.now ≡ lower c.args.limit c.args.index.now
+  part = rw c.unwrap_or-lower.ensures (given c.next.result _ _ taken)
+
+pub returns-clause-lower : goal.returns-clause-lower
+returns-clause-lower c = part c
+
+pub returns-clause-others : goal.returns-clause-others
+returns-clause-others c =
+    let cut = rest _ _ (shown c.new-groups.result) (shown c.next.new.self) c.next.result _ (taken c) c.next.ensures.steps in
+    let whole = both_parts c.args.limit c.args.index.now c.requires in
+    c.remainder.ensures
+    ∙ append_cancel_left (lower c.args.limit c.args.index.now) _ _ (sym cut ∙ c.new-groups.ensures.remainder ∙ sym whole)
+
+pub returns-clause-comparisons : goal.returns-clause-comparisons
+returns-clause-comparisons c =
+    let none : c.new-groups.result.judge.predicate.0.now ≡ 0 = search rules in
+    let k = c.search_asks.ensures.counts (λ j. j.predicate.0) 1 (λ j k pair b h. search rules) Front c.new-groups.result
+    c.next.new.self c.next.result c.next.ensures.steps (λ g. 2 * digits g + 1) (λ g. omega (arith, none)) in
+    let most : c.next.new.self.judge.predicate.0.now ≤ 2 * digits (length (lower c.args.limit c.args.index.now)) + 1 =
+    counted c.next.result _ _ _ (taken c) none k.1 in
+    rw (part c) (search (rules, k.0, most))
