@@ -2,8 +2,8 @@
 use Rattle.std.specs.Prelude.{◌≡◌, ℕ, ◌+◌, ◌-◌, ◌<◌, ◌≤◌, List, [], ◌∷◌, ◌++◌, length, ◌⊎◌, true, refl, Result, Ok, Err, Some}
 use Rattle.std.specs.List.Sorted.{IsBinarySearchResult, IsNonDecreasingBy, IsPartitionPoint}
 use Rattle.std.specs.Ordering.{ordering_index}
-use Rattle.std.proofs.Common.{get_or, suc, sym, ap, subst, arith, ◌∙◌, inl, inr}
-use Rattle.std.specs.List.{AllByRecursion, Contains, slice_get}
+use Rattle.std.proofs.Common.{get_or, zero, suc, sym, ap, subst, arith, ◌∙◌, inl, inr}
+use Rattle.std.specs.List.{AllByRecursion, Contains, slice_get, slice_index_or}
 use Rattle.std.proofs.lemmas.List.Elements.{Contains-push}
 use Rattle.std.proofs.lemmas.Option.{slice_get_within, get_or_from_slice_get}
 use Rattle.std.specs.Fn.{Mut, TakesAt, CalledAt}
@@ -12,7 +12,7 @@ use Rattle.std.specs.declared.cmp.Ordering.{Ordering}
 use Rattle.std.specs.declared.cmp.Ordering.TheVariants.{Less, Equal, Greater}
 use Rattle.sgb_search.specs.Judges.{IsRun, MayAskAll, AnswersBy}
 use Rattle.sgb_search.specs.Searching.{exponential, Contradicts, Tells, place_of, MayCompareBetween, IsPlaceSearch, IsLowEnd, IsHighEnd}
-use Rattle.sgb_search.specs.Search.{AnswersAt, IsLocalAnswer, FindsIn, IsLessEqualGreater, MayCall, Computes, ComparesKey, EndsEqual, IsSearch}
+use Rattle.sgb_search.specs.Search.{AnswersAt, IsLocalAnswer, FindsIn, IsLessEqualGreater, MayCall, Computes, ComparesKey, WasAnswered, WasContradicted, ShowsAnswer, IsSearch}
 use Rattle.sgb_search.proofs.Each.{all_contains}
 use Rattle.sgb_search.proofs.Counting.{less_count}
 use Rattle.sgb_search.proofs.Digits.{digits_mono}
@@ -56,6 +56,24 @@ module _ {T : Type 0} (xs : List T) where
   read_last (r ∷ front) i o [] h = absurd h
   read_last (r ∷ front) i o (q ∷ qs) h =
       let k = read_last front i o qs h.2 in (q ∷ k.0, k.1, k.2, ap (λ (l : List (T × Ordering)). q ∷ l) k.3)
+
+  -- what was answered at a place was answered of the element there
+  pub read_asked : (i : ℕ) (o : Ordering) (rs : List (ℕ × Ordering)) (qs : List (T × Ordering)) → IsRead rs qs → Contains rs (i, o)
+      → WasAnswered xs qs i o
+  read_asked i o [] qs h c = absurd (omega (arith, c.1))
+  read_asked i o (r ∷ rs) [] h c = absurd h
+  read_asked i o (r ∷ rs) (q ∷ qs) h (k, l, e) = at k l e (λ m b f. read_asked i o rs qs h.2 (m, b, f))
+    where
+      later : WasAnswered xs qs i o → WasAnswered xs (q ∷ qs) i o
+      later (x, e, (k, l, f)) = (x, e, (suc k, omega (arith, l), f))
+
+      at : (k : ℕ) → k < length (r ∷ rs) → slice_index_or (r ∷ rs) k (i, o) ≡ (i, o)
+          → ((m : ℕ) → m < length rs → slice_index_or rs m (i, o) ≡ (i, o) → WasAnswered xs qs i o) → WasAnswered xs (q ∷ qs) i o
+      at zero l e f =
+          let here : slice_get xs i ≡ Some q.0 = subst (λ (p : ℕ × Ordering). slice_get xs p.0 ≡ Some q.0) e h.0 in
+          let answer : q.1 ≡ o = sym h.1 ∙ ap (λ (p : ℕ × Ordering). p.1) e in
+          (q.0, here, (0, omega arith, ap (λ (p : Ordering). (q.0, p)) answer))
+      at (suc k) l e f = later (f k (omega (arith, l)) e)
 
   pub one_answer : (ord : T → Ordering) (rs : List (ℕ × Ordering)) → AllByRecursion (λ r. AnswersAt ord xs r.0 r.1) rs → (i : ℕ)
       → Contradicts rs i → ⊥
@@ -158,17 +176,33 @@ module _ {F T : Type 0} (may : F → T → Type 0) (gives : F → T → Ordering
         elements = read_elements xs h.questions q.0 q.1;
         most = omega (arith, h.most.call, read_len xs h.questions q.0 q.1, digits_mono (place_of r - 0 + 1) (place_of r + 1) (omega arith));
         none = λ z. empty q.0 (read_elements xs h.questions q.0 q.1) z;
-        equal = last r q.0 h.tells q.1;
+        shows = shows r q.0 h.tells q.1;
       }
     where
       empty : (qs : List (T × Ordering)) → AllByRecursion (λ q. Contains xs q.0) qs → length xs ≡ 0 → qs ≡ []
       empty [] all z = refl
       empty (q ∷ qs) all z = absurd (omega (arith, all.0.1))
 
-      last : (r : Result ℕ ℕ) (qs : List (T × Ordering)) → Tells h.questions true 0 (length xs) r → IsRead xs h.questions qs
-          → EndsEqual may gives xs qs r
-      last (Ok i) qs p read = read_last xs p.1.0 i Equal qs (subst (λ (l : List (ℕ × Ordering)). IsRead xs l qs) p.1.1 read)
-      last (Err i) qs p read = tt
+      two : (i : ℕ) (qs : List (T × Ordering)) → IsRead xs h.questions qs → Contradicts h.questions i → WasContradicted xs qs i
+      two i qs read (a, b, first, second, apart) =
+          (a, b, read_asked xs i a h.questions qs read first, read_asked xs i b h.questions qs read second, apart)
+
+      low : (i : ℕ) (qs : List (T × Ordering)) → IsRead xs h.questions qs → IsLowEnd h.questions 0 i
+          → (i ≡ 0) ⊎ ((0 < i) × WasAnswered xs qs (i - 1) Less)
+      low i qs read (inl e) = inl e
+      low i qs read (inr p) = inr (p.0, read_asked xs (i - 1) Less h.questions qs read p.1)
+
+      high : (i : ℕ) (qs : List (T × Ordering)) → IsRead xs h.questions qs → IsHighEnd h.questions (length xs) i
+          → (i ≡ length xs) ⊎ WasAnswered xs qs i Greater
+      high i qs read (inl e) = inl e
+      high i qs read (inr p) = inr (read_asked xs i Greater h.questions qs read p.1)
+
+      shows : (r : Result ℕ ℕ) (qs : List (T × Ordering)) → Tells h.questions true 0 (length xs) r → IsRead xs h.questions qs
+          → ShowsAnswer xs qs r
+      shows (Ok i) qs p read = read_last xs p.1.0 i Equal qs (subst (λ (l : List (ℕ × Ordering)). IsRead xs l qs) p.1.1 read)
+      shows (Err i) qs (a, b, inl ends) read = inl (low i qs read ends.0, high i qs read ends.1)
+      shows (Err i) qs (a, b, inr (c, inl t)) read = inr (inl (t.0, two (i - 1) qs read t.1))
+      shows (Err i) qs (a, b, inr (c, inr t)) read = inr (inr (two i qs read t))
 
   pub search_boundary : (f : F) (r : Result ℕ ℕ) (t : F) → IsPlaceSearch may_at called_at exponential 0 (length xs) f r t →
       (ord : T → Ordering) → AnswersBy may gives (Contains xs) ord f → IsLocalAnswer ord xs r

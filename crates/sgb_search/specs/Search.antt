@@ -47,14 +47,28 @@ module _ {T : Type 0} (ord : T → Ordering) (xs : List T) where
 abbrev pub NeverDescends : {T : Type 0} → (T → T → Ordering) → List T → Type 0
 NeverDescends cmp xs = AllByRecursion (λ q. cmp q.0 q.1 ≢ Greater) (neighbours xs)
 
+-- qs: the elements that were compared, each with its answer
+module _ {T : Type 0} (xs : List T) (qs : List (T × Ordering)) where
+  -- the element at place i was compared, and the answer was o
+  abbrev pub WasAnswered : ℕ → Ordering → Type 0
+  WasAnswered i o = (x : T) × (slice_get xs i ≡ Some x) × Contains qs (x, o)
+
+  -- it was answered in two ways
+  abbrev pub WasContradicted : ℕ → Type 0
+  WasContradicted i = (a : Ordering) × (b : Ordering) × WasAnswered i a × WasAnswered i b × (a ≢ b)
+
+  -- of `Ok`: the last answer was Equal, of the element at the place
+  -- of `Err`: that before the place, if there is one, was answered Less, and that at the place Greater; or one of the two in two ways
+  abbrev pub ShowsAnswer : Result ℕ ℕ → Type 0
+  ShowsAnswer (Ok i) = (front : List (T × Ordering)) × (x : T) × (slice_get xs i ≡ Some x) × (qs ≡ front ++ (x, Equal) ∷ [])
+  ShowsAnswer (Err i) =
+      (((i ≡ 0) ⊎ ((0 < i) × WasAnswered (i - 1) Less)) × ((i ≡ length xs) ⊎ WasAnswered i Greater))
+      ⊎ (((0 < i) × WasContradicted (i - 1)) ⊎ WasContradicted i)
+
 -- may f x: f may be asked about x; gives f x o h: the answer may be o, and then the state is h
 module _ {F T : Type 0} (may : F → T → Type 0) (gives : F → T → Ordering → F → Type 0) (xs : List T) where
-  -- the last question is about the element at the place, and its answer Equal
-  abbrev pub EndsEqual : List (T × Ordering) → Result ℕ ℕ → Type 0
-  EndsEqual qs (Ok i) = (front : List (T × Ordering)) × (x : T) × (slice_get xs i ≡ Some x) × (qs ≡ front ++ (x, Equal) ∷ [])
-  EndsEqual qs (Err i) = Unit {0}
-
-  -- a search that begins with f and gives r: its questions, in order, each about an element, their number, and the state that they lead to
+  -- a search that begins with f and gives r: its questions, in order, each about an element, their number, the state that they lead to,
+  -- and what they show of r
   pub record IsSearch (f : F) (r : Result ℕ ℕ) : Type 0 where
     pub questions : List (T × Ordering)
     pub after : F
@@ -62,7 +76,7 @@ module _ {F T : Type 0} (may : F → T → Type 0) (gives : F → T → Ordering
     pub elements : AllByRecursion (λ q. Contains xs q.0) questions
     pub most : length questions ≤ 2 * digits (place_of r + 1) + 1
     pub none : length xs ≡ 0 → questions ≡ []
-    pub equal : EndsEqual questions r
+    pub shows : ShowsAnswer xs questions r
 
 -- a function of elements: a comparator, or a key function
 module _ {F T K : Type 0} (g : Mut F (Bor T × Unit {0}) K) (xs : List T) where
