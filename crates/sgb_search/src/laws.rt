@@ -7,15 +7,16 @@ ghost use Rattle.std.specs.declared.cmp.Ordering.{Ordering};
 ghost use Rattle.std.specs.declared.cmp.Ordering.TheVariants.{Less, Greater};
 ghost use Rattle.sgb_search.specs.declared.end.End.{End};
 ghost use Rattle.sgb_search.specs.Searching.{digits, MayAskApart, AnswersApart};
-ghost use Rattle.sgb_search.specs.Split.{AreApart, neighbours, AreNeighbours, IsGrouped, IsSplit, split, refused_pairs};
+ghost use Rattle.sgb_search.specs.Split.{AreApart, neighbours, AreNeighbours, IsGrouped, IsSplit, concat, split, refused_pairs};
 ghost use Rattle.sgb_search.specs.Search.{MayCall, Computes, IsGap, NeverDescends};
 ghost use Rattle.sgb_search.specs.Linear.{questions, MayAskAlong, AnswersAlong};
 ghost use Rattle.sgb_search.specs.Judges.{IsRunOf, by_predicate, predicate_judge, MayCallOnPairs, by_key, key_judge, by_char_predicate, char_predicate_judge, by_char_key, char_key_judge, by_equality};
 ghost use Rattle.sgb_search.specs.declared.judge.EqualityJudge.{EqualityJudge};
 
-/// Each list has exactly one split for a test. It has one piece more than the test refuses pairs, and none if it is
-/// empty.
+/// Each list has exactly one split for a test, whose pieces joined are the list. It has one piece more than the test refuses
+/// pairs, and none if it is empty.
 pub fn one_split<T>()
+    ensures joins { (p : T → T → Bool) (xs : List T) → concat (split p xs) ≡ xs }
     ensures exists { (p : T → T → Bool) (xs : List T) → IsSplit p xs (split p xs) }
     ensures unique { (p : T → T → Bool) (xs : List T) (ps : List (List T)) → IsSplit p xs ps → ps ≡ split p xs }
     ensures count { (p : T → T → Bool) (xs : List T) → 0 < length xs → length (split p xs) ≡ refused_pairs p xs + 1 }

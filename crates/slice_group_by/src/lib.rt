@@ -29,7 +29,7 @@ mod texts;
 
 pub use join::MergeJoin;
 pub use plans::{Plan, refute};
-pub use queue::{End, GroupQueue, walk};
+pub use queue::{End, GroupQueue, SliceQueue, SliceQueueMut, walk};
 pub use ranks::rank_groups;
 pub use sgb_linear_str_group::by_equality::{LinearStrGroup, LinearStrGroupMut};
 pub use sgb_linear_str_group::by_key::{LinearStrGroupByKey, LinearStrGroupByKeyMut};

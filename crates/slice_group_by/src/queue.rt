@@ -1,4 +1,5 @@
 //! Groups as a two-ended queue, and a walk over it.
+ghost use Rattle.std.specs.Borrow.{Bor, MutBor};
 ghost use Rattle.std.specs.Prelude.{◌≡◌, ℕ, ◌+◌, Bool, List, ◌++◌, length, Option, None, map, option_map, reverse, ⊤};
 ghost use Rattle.sgb_search.specs.Split.{TakesPart, split, TakesPiece};
 ghost use Rattle.sgb_search.specs.Judges.{AsksWithin};
@@ -18,16 +19,16 @@ pub use sgb_search::end::End;
 pub trait GroupQueue {
     type Item: Drop;
 
-    ghost Element: { Type 0 };
+    type Element;
 
     // The elements that no call has handed out yet.
-    ghost remainder: { Self → List Element };
+    ghost remainder: { Self → List Self.Element };
 
     // The elements of a group that a call has handed out.
-    ghost shows: { Self.Item → List Element };
+    ghost shows: { Self.Item → List Self.Element };
 
     // Calls find the pieces of the remainder for this test.
-    ghost is_settled: { Self → (Element → Element → Bool) → Type 0 };
+    ghost is_settled: { Self → (Self.Element → Self.Element → Bool) → Type 0 };
 
     // The queue before, what a call at the end answers, and the queue after.
     ghost gives: { End → Self → Option Self.Item → Self → Type 0 };
@@ -64,7 +65,7 @@ pub trait GroupQueue {
     ghost none: { (e : End) (q t : Self) → gives e q None t → t ≡ q };
 
     // Of a settled queue it gives the outermost piece of the split, and leaves it settled.
-    ghost piece: { (e : End) (q : Self) (group : Option Self.Item) (t : Self) (p : Element → Element → Bool)
+    ghost piece: { (e : End) (q : Self) (group : Option Self.Item) (t : Self) (p : Self.Element → Self.Element → Bool)
         → gives e q group t → is_settled q p
         → TakesPiece p e (remainder q) (option_map shows group) (remainder t) × is_settled t p };
 
@@ -79,6 +80,18 @@ pub trait GroupQueue {
 
     ghost asks: { (e : End) (q : Self) (group : Option Self.Item) (t : Self) → gives e q group t
         → AsksWithin asked due exact q t };
+}
+
+/// A queue whose groups are slices: what a group shows is what it holds.
+///
+/// Code that is generic over the queue asks for this in place of `GroupQueue` where it reads the groups' elements.
+pub trait SliceQueue<'a, T: 'a>: GroupQueue<Item = &'a [T], Element = T> {
+    ghost holds: { (group : Bor (List T)) → Self.GroupQueue.shows group ≡ group.now };
+}
+
+/// A queue whose groups are slices for writing: what a group shows is what it holds when it is given.
+pub trait SliceQueueMut<'a, T: 'a>: GroupQueue<Item = &'a mut [T], Element = T> {
+    ghost holds: { (group : MutBor (List T)) → Self.GroupQueue.shows group ≡ group.now };
 }
 
 #[inline]

@@ -1,5 +1,6 @@
 //! The groups of a slice as queues.
-use crate::queue::GroupQueue;
+ghost use Rattle.std.specs.Prelude.{refl};
+use crate::queue::{GroupQueue, SliceQueue, SliceQueueMut};
 use sgb_search::judge::Judge;
 use sgb_slice_group::groups::{GroupEnd, SliceGroups};
 use sgb_slice_group::groups_mut::SliceGroupsMut;
@@ -15,7 +16,7 @@ impl<'a, T, J: Judge<T> + Drop, C: GroupEnd> GroupQueue for SliceGroups<'a, T, J
     ghost use Rattle.sgb_search.proofs.Runs.{run_of_none, run_of_more};
     ghost use Rattle.sgb_slice_group.specs.Gives.{shown, Gives};
 
-    ghost Element = { T };
+    type Element = T;
 
     ghost remainder = { λ q. (shown q).remainder };
 
@@ -63,6 +64,10 @@ impl<'a, T, J: Judge<T> + Drop, C: GroupEnd> GroupQueue for SliceGroups<'a, T, J
         (call (C.asks T J J.Judge) e s group t h)) };
 }
 
+impl<'a, T: 'a, J: Judge<T> + Drop, C: GroupEnd> SliceQueue<'a, T> for SliceGroups<'a, T, J, C> {
+    ghost holds = { λ _. refl };
+}
+
 // What holds of the groups for reading holds of what these show.
 impl<'a, T, J: Judge<T> + Drop, C: GroupEnd> GroupQueue for SliceGroupsMut<'a, T, J, C> {
     type Item = &'a mut [T];
@@ -73,7 +78,7 @@ impl<'a, T, J: Judge<T> + Drop, C: GroupEnd> GroupQueue for SliceGroupsMut<'a, T
     ghost use Rattle.sgb_search.proofs.Runs.{run_of_none, run_of_more};
     ghost use Rattle.sgb_slice_group.specs.Gives.{seen, IsCallableByMut, GivesMut};
 
-    ghost Element = { T };
+    type Element = T;
 
     ghost remainder = { λ q. q.remainder };
 
@@ -115,4 +120,8 @@ impl<'a, T, J: Judge<T> + Drop, C: GroupEnd> GroupQueue for SliceGroupsMut<'a, T
 
     ghost asks = { λ e s group t h. asks_seen _ _ _ seen s t
         (C.asks_due T J J.Judge e (seen s) (option_copied_mut group) (seen t) h.0) };
+}
+
+impl<'a, T: 'a, J: Judge<T> + Drop, C: GroupEnd> SliceQueueMut<'a, T> for SliceGroupsMut<'a, T, J, C> {
+    ghost holds = { λ _. refl };
 }

@@ -15,7 +15,7 @@ impl<'a, J: Judge<char> + Drop> GroupQueue for LinearStrGroups<'a, J> {
     ghost use Rattle.sgb_linear_str_group.specs.Texts.{shown_text, IsCallableText, IsSettledText, GivesText};
     ghost use Rattle.sgb_linear_str_group.proofs.Queue as laws;
 
-    ghost Element = { ℕ };
+    type Element = char;
 
     ghost remainder = { λ q. chars (shown_text q).text };
 
@@ -75,7 +75,7 @@ impl<'a, J: Judge<char> + Drop> GroupQueue for LinearStrGroupsMut<'a, J> {
     ghost use Rattle.sgb_linear_str_group.specs.TextsMut.{seen_text, GivesTextMut};
     ghost use Rattle.sgb_linear_str_group.proofs.Queue as laws;
 
-    ghost Element = { ℕ };
+    type Element = char;
 
     ghost remainder = { λ q. chars q.text };
 

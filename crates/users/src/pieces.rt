@@ -1,16 +1,18 @@
 //! What the pieces of a slice share with the slice: as many as `dedup` leaves, and the same from a descending slice by halving.
-ghost use Rattle.std.specs.Prelude.{◌≡◌, length, map, nat_eq, IfSome, IsSome};
-ghost use Rattle.std.specs.List.{dedup};
+ghost use Rattle.std.specs.Prelude.{◌≡◌, ◌≤◌, ℕ, List, ◌∷◌, None, length, map, nat_eq, IfSome, IsSome};
+ghost use Rattle.std.specs.List.{dedup, Contains};
+ghost use Rattle.std.specs.declared.cmp.Ordering.TheVariants.{Less};
 ghost use Rattle.std.specs.Ordering.{flip_args, nat_cmp};
 ghost use Rattle.slice_group_by.specs.Search.{NeverDescends};
 ghost use Rattle.slice_group_by.specs.Split.{split};
-ghost use Rattle.users.specs.Keys.{key, common_keys};
+ghost use Rattle.users.specs.Keys.{key, same_key, common_keys};
 
 use crate::joins::{Entry, count_common_keys};
 use slice_group_by::laws::{
-    descending_is_grouped, pieces_begin_as_dedup, sees_pieces, sorted_by_key_ascends,
+    calls_take_pieces, descending_is_grouped, pieces_begin_as_dedup, pieces_by_key, sees_pieces,
+    sorted_by_key_ascends,
 };
-use slice_group_by::{BinaryGroup, LinearGroup};
+use slice_group_by::{BinaryGroup, LinearGroup, LinearGroupByKey};
 
 /// How many elements `dedup` would leave of the slice.
 pub fn deduped_len(xs: &[u32]) -> usize
@@ -31,6 +33,23 @@ pub fn count_descending(xs: &[u32]) -> usize
     let groups = BinaryGroup::new(xs);
     sees_pieces(&groups);
     groups.count()
+}
+
+/// The first two groups of rows by their keys, or `None` of fewer. Where the rows ascend, each key of the first group is less
+/// than each of the second.
+pub fn first_two<'a>(rows: &'a [Entry]) -> Option<(&'a [Entry], &'a [Entry])>
+    ensures none { result ≡ None → length (split same_key rows.now) ≤ 1 }
+    ensures groups { IfSome result (λ groups. (rest : List (List (ℕ × ℕ)))
+        × (split same_key rows.now ≡ groups.0.now ∷ groups.1.now ∷ rest)) }
+    ensures ascend { NeverDescends nat_cmp (map key rows.now) → IfSome result (λ groups. (x y : ℕ × ℕ)
+        → Contains groups.0.now x → Contains groups.1.now y → nat_cmp (key x) (key y) ≡ Less) }
+{
+    pieces_by_key::<Entry, u32>();
+    let mut groups = LinearGroupByKey::new(rows, |e: &Entry| e.0);
+    calls_take_pieces(&groups);
+    let first = groups.next()?;
+    let second = groups.next()?;
+    Some((first, second))
 }
 
 /// How many keys both slices have, or `None` where one of them does not ascend by its keys.

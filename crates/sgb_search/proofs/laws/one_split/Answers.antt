@@ -1,6 +1,9 @@
 use Rattle.sgb_search.proofs.Splits.{split_is, split_only, length-split}
 use Rattle.sgb_search.proofs.laws.one_split.Goals as goal
 
+pub returns-clause-joins : goal.returns-clause-joins
+returns-clause-joins g c p xs = (split_is p xs).joins
+
 pub returns-clause-exists : goal.returns-clause-exists
 returns-clause-exists g c = split_is
 
