@@ -24,7 +24,7 @@ extern "C" {
 
 use inputs::{slice, text, Lengths, Numbers};
 use picture::Line;
-use timing::{in_turn, Time};
+use timing::{in_turn, shown, Time};
 
 const LENGTHS: [Lengths; 6] = [
     Lengths::Each(1),
@@ -42,11 +42,11 @@ fn row(name: &str, per: usize, times: &[Time]) {
     let least = times[1..].iter().map(|time| time.least).fold(f64::MAX, f64::min);
     let median = times[1..].iter().map(|time| time.median).fold(f64::MAX, f64::min);
     println!(
-        "| {name} | {:.3} | {:.3} | {:.3} | {:.3} | {:.2} | {:.2} |",
-        ours.least / per,
-        ours.median / per,
-        least / per,
-        median / per,
+        "| {name} | {} | {} | {} | {} | {:.2} | {:.2} |",
+        shown(ours.least / per),
+        shown(ours.median / per),
+        shown(least / per),
+        shown(median / per),
         ours.least / least,
         ours.median / median
     );
@@ -197,7 +197,7 @@ fn grown<T>(rounds: usize, input: &dyn Fn(usize) -> T, walk: &dyn Fn(&T) -> usiz
 }
 
 fn print_growth(name: &str, points: &[(usize, f64)]) {
-    let cells: Vec<String> = points.iter().map(|p| format!("{:.3}", p.1)).collect();
+    let cells: Vec<String> = points.iter().map(|p| shown(p.1)).collect();
     println!("| {name} | {} | {:.2} |", cells.join(" | "), points[3].1 / points[1].1);
 }
 

@@ -1,4 +1,5 @@
 //! One table of those of several runs, whose loops lie at different places in memory.
+use crate::timing::shown;
 
 /// The lines of the first file, with the least of all files' least times, the median of their medians, and the ratios of these.
 pub fn merged(files: &[String]) -> String {
@@ -16,14 +17,18 @@ pub fn merged(files: &[String]) -> String {
             Some(6) if is_count => line.to_string(),
             Some(6) if is_growth => {
                 let times: Vec<f64> = (0..5).map(|column| least(&rows, column)).collect();
-                let cells: Vec<String> = times.iter().map(|time| format!("{time:.3}")).collect();
+                let cells: Vec<String> = times.iter().map(|time| shown(*time)).collect();
                 format!("| {name} | {} | {:.2} |", cells.join(" | "), times[3] / times[1])
             }
             Some(6) => {
                 let [ours, peer] = [0, 2].map(|column| least(&rows, column));
                 let [ours_median, peer_median] = [1, 3].map(|column| median(&rows, column));
                 format!(
-                    "| {name} | {ours:.3} | {ours_median:.3} | {peer:.3} | {peer_median:.3} | {:.2} | {:.2} |",
+                    "| {name} | {} | {} | {} | {} | {:.2} | {:.2} |",
+                    shown(ours),
+                    shown(ours_median),
+                    shown(peer),
+                    shown(peer_median),
                     ours / peer,
                     ours_median / peer_median
                 )

@@ -36,3 +36,12 @@ fn summed_up(mut times: Vec<f64>) -> Time {
     times.sort_by(f64::total_cmp);
     Time { least: times[0], median: times[times.len() / 2] }
 }
+
+/// Nanoseconds as the tables show them: three places, and five of what is short.
+pub fn shown(time: f64) -> String {
+    if time < 0.1 {
+        format!("{time:.5}")
+    } else {
+        format!("{time:.3}")
+    }
+}

@@ -12,5 +12,3 @@ pub mod gallop;
 pub mod judge;
 pub mod laws;
 pub mod search;
-#[cfg(test)]
-mod tests;

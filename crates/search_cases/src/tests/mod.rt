@@ -6,6 +6,7 @@ mod counted_groups;
 mod counted_groups_mut;
 mod counts;
 mod debug;
+mod definitions;
 mod plans;
 mod questions;
 mod searches;

@@ -11,6 +11,7 @@ mod joins_by_key;
 mod loops;
 mod pieces;
 mod plans;
+mod queues;
 mod restricted;
 mod texts;
 mod tokens;

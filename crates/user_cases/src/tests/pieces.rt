@@ -1,5 +1,5 @@
 //! Numbers of groups, as `dedup` has them, from a descending slice, and of two slices that may not be sorted.
-use users::pieces::{common_keys_if_sorted, count_descending, deduped_len};
+use users::pieces::{common_keys_if_sorted, count_descending, deduped_len, first_two};
 
 #[test]
 fn as_dedup_counts(rt: HostRuntime) {
@@ -20,4 +20,11 @@ fn common_keys_of_sorted_slices_alone(rt: HostRuntime) {
     );
     assert!(rt; common_keys_if_sorted(&[(3, 10), (1, 11)], &[(1, 0)]).is_none());
     assert!(rt; common_keys_if_sorted(&[(1, 10)], &[(2, 0), (1, 0)]).is_none());
+}
+
+#[test]
+fn first_two_groups_by_key(rt: HostRuntime) {
+    let rows = [(1, 10), (1, 11), (3, 12), (5, 0)];
+    assert_eq!(rt; first_two(&rows), Some((&rows[..2], &rows[2..3])));
+    assert!(rt; first_two(&rows[..2]).is_none());
 }

@@ -1,9 +1,9 @@
 //! The definitions, computed at small cases.
 ghost use Rattle.std.specs.Prelude.{◌≡◌, ◌+◌, ◌-◌, ◌*◌, ℕ, true, false, [], ◌∷◌, nat_eq, nat_lt};
-ghost use Rattle.sgb_search.specs.Searching.{digits};
-ghost use Rattle.sgb_search.specs.declared.end.End.TheVariants.{Front, Back};
-ghost use Rattle.sgb_search.specs.Split.{neighbours, split, refused_pairs};
-ghost use Rattle.sgb_search.specs.Linear.{questions};
+ghost use Rattle.slice_group_by.specs.Searching.{digits};
+ghost use Rattle.slice_group_by.specs.End.TheVariants.{Front, Back};
+ghost use Rattle.slice_group_by.specs.Split.{neighbours, split, refused_pairs};
+ghost use Rattle.slice_group_by.specs.Linear.{questions};
 
 fn splits()
     ensures nothing { split nat_eq [] ≡ [] }
@@ -32,7 +32,7 @@ fn definitions_at_small_cases() {
 }
 
 // The most questions of a search that halves n places but one, and of one that gallops to a place.
-#[tactic(auto, unfolding(crate::specs::Searching::digits))]
+#[tactic(auto, unfolding(sgb_search::specs::Searching::digits))]
 fn bounds()
     ensures one { digits (1 - 1) ≡ 0 }
     ensures two { digits (2 - 1) ≡ 1 }
