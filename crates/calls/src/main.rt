@@ -64,8 +64,9 @@ fn main(rt: HostRuntime) -> io::Result<()> {
         closures::find_page(&index, "cat"),
     );
     println!(rt;
-        "closures: {counts:?} {} {found:?}",
-        closures::count_words(&index)
+        "closures: {counts:?} {} {found:?} {}",
+        closures::count_words(&index),
+        closures::entries_of(&index, "ant").len()
     )?;
 
     println!(rt;
