@@ -1,5 +1,6 @@
 //! The groups of a slice as queues.
 ghost use Rattle.std.specs.Prelude.{refl};
+
 use crate::queue::{GroupQueue, SliceQueue, SliceQueueMut};
 use sgb_search::judge::Judge;
 use sgb_slice_group::groups::{GroupEnd, SliceGroups};
@@ -122,6 +123,7 @@ impl<'a, T, J: Judge<T> + Drop, C: GroupEnd> GroupQueue for SliceGroupsMut<'a, T
         (C.asks_due T J J.Judge e (seen s) (option_copied_mut group) (seen t) h.0) };
 }
 
-impl<'a, T: 'a, J: Judge<T> + Drop, C: GroupEnd> SliceQueueMut<'a, T> for SliceGroupsMut<'a, T, J, C> {
+impl<'a, T: 'a, J: Judge<T> + Drop, C: GroupEnd> SliceQueueMut<'a, T>
+    for SliceGroupsMut<'a, T, J, C> {
     ghost holds = { λ _. refl };
 }

@@ -1,6 +1,5 @@
 -- The total of a group, written into its first element.
-use Rattle.std.proofs.Common.{◌≡◌, ℕ, List, [], ◌∷◌, ◌++◌, map, ap, sym, ◌∙◌, append_assoc, refl, get_or, slice_set}
-use Rattle.slice_group_by.specs.Split.{concat}
+use Rattle.std.proofs.Common.{◌≡◌, ℕ, List, [], ◌∷◌, ap, refl, get_or, slice_set}
 use Rattle.users.specs.Totals.{total, kept}
 
 -- the total written into the first element

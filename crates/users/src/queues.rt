@@ -3,8 +3,8 @@ ghost use Rattle.std.specs.Option.{option_copied_mut};
 ghost use Rattle.std.specs.Prelude.{◌≡◌, Bool, option_copied};
 ghost use Rattle.slice_group_by.specs.Split.{split, first};
 
-use slice_group_by::{SliceQueue, SliceQueueMut};
 use slice_group_by::laws::calls_take_pieces;
+use slice_group_by::{SliceQueue, SliceQueueMut};
 
 /// The first group of what remains, as a slice: of a settled queue its elements are the first piece.
 pub fn first_of_queue<'a, T: 'a, Q: SliceQueue<'a, T>>(queue: &mut Q) -> Option<&'a [T]>

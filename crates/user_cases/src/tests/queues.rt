@@ -8,5 +8,8 @@ fn of_any_type(rt: HostRuntime) {
     assert_eq!(rt; first_of_queue(&mut groups), Some(&[1, 2, 2][..]));
     let mut slice = [4, 4, 7];
     let mut groups = ExponentialGroupMut::new(&mut slice);
-    assert_eq!(rt; first_of_queue_mut(&mut groups).as_deref(), Some(&[4, 4][..]));
+    assert_eq!(rt;
+        first_of_queue_mut(&mut groups).as_deref(),
+        Some(&[4, 4][..])
+    );
 }
