@@ -136,10 +136,10 @@ fn size_hint_and_last(rt: HostRuntime) {
 // No contract says so: `last` leaves the bytes before its group.
 #[test]
 fn last_leaves_the_other_bytes(rt: HostRuntime) {
-    let mut array = *b"abbcc";
+    let mut array = *b"abcdefghijkk";
     let groups = LinearStrGroupMut::new(&mut array);
-    assert!(rt; filled(groups.last(), b"cc", b'-'));
-    assert_eq!(rt; array, *b"abb--");
+    assert!(rt; filled(groups.last(), b"kk", b'-'));
+    assert_eq!(rt; array, *b"abcdefghij--");
 }
 
 // No contract says so: a method leaves the variable's bytes. What they are after a method is not known, so they are tested

@@ -80,9 +80,10 @@ fn size_hint_and_last(rt: HostRuntime) {
 // No contract says so: `last` leaves the elements before its group, and a method of the trait leaves the variable's slice.
 #[test]
 fn leaves_the_other_elements(rt: HostRuntime) {
-    let mut array = [1, 2, 2, 3, 3];
-    fill(LinearGroupMut::new(&mut array).last(), 9);
-    assert_eq!(rt; array, [1, 2, 2, 9, 9]);
+    let mut array = [1, 2, 3, 4, 5, 6, 7, 8, 9, 10, 11, 11];
+    fill(LinearGroupMut::new(&mut array).last(), 0);
+    assert_eq!(rt; array, [1, 2, 3, 4, 5, 6, 7, 8, 9, 10, 0, 0]);
+    let mut array = [1, 2, 2, 9, 9];
     let mut slice: &mut [i32] = &mut array;
     let _ = slice.linear_group_mut().next();
     let _ = slice.linear_group_by_mut(ascend).next_back();

@@ -1,4 +1,4 @@
-use Rattle.trusted_cases.proofs.tests.groups.asks_as.Given as goal
+use Rattle.trusted_cases.proofs.tests.groups.Case.asks.Given as goal
 
 abbrev pub invariant-loop : goal.invariant-loop
 invariant-loop g l = g.Q.GroupQueue.can_pop l.queue
