@@ -1,15 +1,12 @@
 -- The part of a text between two places.
-use Rattle.std.proofs.Common.{◌≡◌, ℕ, ◌+◌, ◌-◌, ◌<◌, ◌≤◌, Bool, true, false, cond, List, [], ◌∷◌, length, get_or, take, drop, Option, None, Some, Decides, refl, sym, ap, ◌∙◌, subst, arith, length-drop}
+use Rattle.std.proofs.Common.{◌≡◌, ℕ, ◌+◌, ◌-◌, ◌<◌, ◌≤◌, Bool, true, false, cond, List, [], length, get_or, take, drop, Decides, refl, sym, ap, ◌∙◌, subst, arith}
 use lib.Dec.{T, leb, leb→le}
 use Rattle.std.specs.Prelude.{◌&&◌, slice_range, nat_le}
-use Rattle.std.specs.Option.{unwrap_or}
 use Rattle.std.specs.Str.{IsUtf8, IsCharBoundary}
-use Rattle.std.specs.Str.Pattern.{GetsRange}
-use Rattle.std.specs.Borrow.{Bor}
 use Rattle.std.proofs.lemmas.Bool.{leb-false}
 use Rattle.std.proofs.lemmas.Bool.Decides.{nat_tests}
-use Rattle.std.proofs.lemmas.List.{get_or_past, length-take, get_or-drop, get_or-take, take-take, drop-take, drop-drop}
-use Rattle.std.proofs.lemmas.Str.{IsUtf8-drop, IsCharBoundary-start, IsCharBoundary-end, IsCharBoundary-from_take, IsCharBoundary-from_rest}
+use Rattle.std.proofs.lemmas.List.{get_or_past, get_or-drop, get_or-take, take-take, drop-take, drop-drop}
+use Rattle.std.proofs.lemmas.Str.{IsCharBoundary-start, IsCharBoundary-end}
 use Rattle.std.proofs.Math.Seq.{take-length}
 use Rattle.sgb_search.proofs.Ranges.{length-range}
 use Rattle.sgb_linear_str_group.specs.Texts.{lies_between_characters, text_between}
@@ -61,7 +58,7 @@ module _ (text : List ℕ) (low high : ℕ) where
   empty_unless false e h = refl
 
   -- nothing lies between the places where they are no ends, or one place
-  between_empty : (AreEnds text low high → high ≤ low) → text_between text low high ≡ []
+  pub between_empty : (AreEnds text low high → high ≤ low) → text_between text low high ≡ []
   unfolding text_between
   between_empty h = empty_unless _ refl h
 
@@ -70,42 +67,6 @@ module _ (text : List ℕ) (low high : ℕ) where
   length_between l =
       let ends = ends_between l in
       omega (arith, ends.order, ends.high_is.0, ap length (between_ends ends), length-range text low high ends.order ends.high_is.0)
-
-  module _ (u : IsUtf8 text) where
-    -- a text between the places that is not empty shows that they are its ends
-    ends_from_text : IsUtf8 (slice_range text low high) → 0 < length (slice_range text low high) → low ≤ high → high ≤ length text
-        → AreEnds text low high
-    ends_from_text v l order within =
-        let first = (IsCharBoundary-start (slice_range text low high) v).1 l in
-        let byte : get_or (slice_range text low high) 0 0 ≡ get_or (drop low text) 0 0 =
-        get_or-take (high - low) (drop low text) 0 0 (omega (arith, length-take (high - low) (drop low text))) in
-        let n : length (drop low text) ≡ length text - low = length-drop low text in
-        let at_low : IsCharBoundary text (low + 0) =
-        IsCharBoundary-from_rest text low 0 (omega arith) (omega arith, λ _ a. omega (arith, first (omega arith), byte)) in
-        let here : IsCharBoundary text low = subst (IsCharBoundary text) {x = low + 0} {y = low} (omega arith) at_low in
-        let after : IsCharBoundary (drop low text) (high - low) =
-        IsCharBoundary-from_take (drop low text) (high - low) (IsUtf8-drop text low u here) (omega arith) v in
-        record {
-          order = order;
-          low_is = here;
-          high_is =
-              subst (IsCharBoundary text) {x = low + (high - low)} {y = high} (omega arith)
-              (IsCharBoundary-from_rest text low (high - low) (omega arith) after);
-        }
-
-    got_some : (x : List ℕ) → x ≡ slice_range text low high → length x + low ≡ high → high ≤ length text → IsUtf8 x
-        → x ≡ text_between text low high
-    got_some [] e n within v = sym (between_empty (λ _. omega arith))
-    got_some (b ∷ bs) e n within v =
-        e ∙ sym (between_ends (ends_from_text (subst IsUtf8 e v) (omega (arith, ap length e)) (omega arith) within))
-
-    -- what `get` gives, and the empty text in place of `None`
-    pub got : (part : Option (Bor (List ℕ))) (empty result : Bor (List ℕ)) → empty.now ≡ [] → GetsRange text low high part
-        → result ≡ unwrap_or part empty → IsUtf8 result.now → result.now ≡ text_between text low high
-    got None empty result z gets e v =
-        ap (λ r. r.now) e ∙ z ∙ sym (between_empty (λ ends. absurd (gets ends.order ends.low_is ends.high_is)))
-    got (Some x) empty result z gets e v =
-        ap (λ r. r.now) e ∙ got_some x.now gets.0 gets.1 gets.2 (subst (λ (r : Bor (List ℕ)). IsUtf8 r.now) e v)
 
 -- a text is the part between its ends
 pub between_all : (text : List ℕ) → IsUtf8 text → text_between text 0 (length text) ≡ text

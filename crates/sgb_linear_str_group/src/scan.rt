@@ -8,7 +8,7 @@ ghost use Rattle.sgb_search.specs.Linear.{questions, MayAskAlong};
 use sgb_search::judge::Judge;
 
 /// How many bytes the first group of the characters has, of a text that is not empty.
-#[inline]
+#[inline(always)]
 pub(crate) fn first_len<J: Judge<char>>(text: &str, judge: &mut J) -> usize
     requires nonempty { 0 < length text.now }
     requires callable { MayAskAlong J.Judge (chars text.now) judge.old }
@@ -32,7 +32,7 @@ pub(crate) fn first_len<J: Judge<char>>(text: &str, judge: &mut J) -> usize
 }
 
 /// How many bytes the last group of the characters has, of a text that is not empty.
-#[inline]
+#[inline(always)]
 pub(crate) fn last_len<J: Judge<char>>(text: &str, judge: &mut J) -> usize
     requires nonempty { 0 < length text.now }
     requires callable { MayAskAlong J.Judge (chars text.now) judge.old }

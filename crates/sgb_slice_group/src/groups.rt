@@ -124,7 +124,11 @@ impl<'a, T, J, C> SliceGroups<'a, T, J, C> {
         // That the places lie in order and within the slice is tested here, and not kept of the fields: what is kept of a struct
         // that holds a closure hides from callers what the closure captured.
         let high = self.high.min(self.slice.len());
-        &self.slice[self.low.min(high)..high]
+        if self.low < high {
+            &self.slice[self.low..high]
+        } else {
+            &[]
+        }
     }
 
     /// How many elements no call has handed out yet.

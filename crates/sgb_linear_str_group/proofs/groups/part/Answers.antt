@@ -1,11 +1,20 @@
-use Rattle.std.proofs.Common.{length, refl, arith, ap}
-use Rattle.sgb_linear_str_group.proofs.Places.{got, length_between}
+use Rattle.std.proofs.Common.{sym, refl, ◌∙◌, arith}
+use Rattle.sgb_linear_str_group.proofs.Places.{between_ends, between_empty}
 use Rattle.sgb_linear_str_group.proofs.groups.part.Goals as goal
+use Rattle.sgb_linear_str_group.proofs.groups.part.Goals.{else-low-high-via-then-low-high+then-is_char_boundary+else-is_char_boundary-2, else-low-high-via-then-low-high+else-is_char_boundary, else-low-high-via-else-low-high}
 
-pub returns-clause-value : goal.returns-clause-value
-returns-clause-value c = got _ _ _ c.utf8.string _ _ _ refl c.get.ensures.cases c.unwrap_or.ensures c.unwrap_or.utf8
+pub returns-then-is_char_boundary-2-clause-value : goal.returns-then-is_char_boundary-2-clause-value
+returns-then-is_char_boundary-2-clause-value c =
+    let low_is = c.if-is_char_boundary-2.ensures.test.0 refl in
+    let high_is = c.if-is_char_boundary.ensures.test.0 refl in
+    c.range.ensures.value ∙ sym (between_ends _ _ _ (record { order = omega arith; low_is = low_is; high_is = high_is }))
 
-pub returns-clause-fits : goal.returns-clause-fits
-returns-clause-fits c =
-    let same = got _ _ _ c.utf8.string _ _ _ refl c.get.ensures.cases c.unwrap_or.ensures c.unwrap_or.utf8 in
-    grind (arith, ap length same, length_between c.args.string.now c.args.low c.args.high)
+-- one of the three tests fails, where both places would pass all
+pub returns-else-low-high-clause-value : goal.returns-else-low-high-clause-value
+returns-else-low-high-clause-value c =
+    sym (between_empty _ _ _ (λ ends. elim c.else-low-high.branch [
+      | else-low-high-via-then-low-high+then-is_char_boundary+else-is_char_boundary-2 w ↦
+          grind (arith, w.if-is_char_boundary-2.ensures.test.1 ends.low_is)
+      | else-low-high-via-then-low-high+else-is_char_boundary w ↦ grind (arith, w.if-is_char_boundary.ensures.test.1 ends.high_is)
+      | else-low-high-via-else-low-high w ↦ omega arith
+    ]))
