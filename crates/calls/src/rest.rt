@@ -11,8 +11,6 @@ pub fn after_first_run(slice: &[u32]) -> &[u32] {
 /// What stands after the first run of a text.
 pub fn after_first_letters(text: &str) -> &str {
     let mut runs = LinearStrGroup::new(text);
-    let Some(run) = runs.next() else {
-        return text;
-    };
-    text.get(run.len()..).unwrap_or("")
+    runs.next();
+    runs.as_str()
 }

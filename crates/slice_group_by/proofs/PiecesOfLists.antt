@@ -1,9 +1,10 @@
 -- What the pieces of a list share with the list, and with each other.
-use Rattle.std.specs.Prelude.{◌≡◌, ℕ, ◌+◌, Bool, true, false, cond, List, [], ◌∷◌, length, map, replicate, sum_by, Some}
+use Rattle.std.specs.Prelude.{◌≡◌, ℕ, ◌+◌, Bool, true, false, cond, List, [], ◌∷◌, length, get_or, map, replicate, sum_by, Some}
 use Rattle.std.proofs.Common.{refl, sym, ap, ◌∙◌, subst, length-append}
 use Rattle.std.proofs.lemmas.List.{length-map}
 use Rattle.std.proofs.lemmas.List.Sums.{sum_by-cons, sum_by-append}
 use Rattle.std.specs.List.{AllByRecursion, Contains, dedup, dedup_from}
+use Rattle.std.specs.List.Sorted.{IsStrictlySortedBy}
 use Rattle.std.specs.Cmp.{IsTotalOrder, IsPartialEquivalence, per_alike, tied_itself}
 use Rattle.std.specs.Ordering.{is_eq}
 use Rattle.std.specs.declared.cmp.Ordering.{Ordering}
@@ -108,6 +109,22 @@ module _ {T : Type 0} (p : T → T → Bool) (per : IsPartialEquivalence p) wher
   firsts [] = refl
   firsts (x ∷ xs) = firsts_from x xs
 
+  begun : (g : List T) (x d : T) → first g ≡ Some x → get_or g 0 d ≡ x
+  begun [] x d h = cc h
+  begun (y ∷ ys) x d h = cc h
+
+  begins : (d : T) (gs : List (List T)) (ys : List T) → map first gs ≡ map Some ys → map (λ g. get_or g 0 d) gs ≡ ys
+  begins d [] [] h = refl
+  begins d [] (y ∷ ys) h = cc h
+  begins d (g ∷ gs) [] h = cc h
+  begins d (g ∷ gs) (y ∷ ys) h =
+      let head : first g ≡ Some y = cc h in
+      let tail : map first gs ≡ map Some ys = cc h in
+      ap (λ x. x ∷ map (λ g. get_or g 0 d) gs) (begun g y d head) ∙ ap (λ zs. y ∷ zs) (begins d gs ys tail)
+
+  pub begin_as : (d : T) (xs : List T) → map (λ g. get_or g 0 d) (split p xs) ≡ dedup p xs
+  begin_as d xs = begins d (split p xs) (dedup p xs) (firsts xs)
+
   pub as_many : (xs : List T) → length (split p xs) ≡ length (dedup p xs)
   as_many xs = sym (length-map (split p xs) first) ∙ ap length (firsts xs) ∙ length-map (dedup p xs) Some
 
@@ -146,3 +163,31 @@ module _ {K : Type 0} (cmp : K → K → Ordering) (o : IsTotalOrder cmp) (eq : 
 
   pub pieces_climb : (xs : List T) → NeverDescends cmp (map key xs) → EachLater IsBelow (split same xs)
   pieces_climb xs h = climb (split same xs) (split_uniform cmp o eq ties key xs) (split_ascends cmp key o eq ties xs h)
+
+  -- the keys of the first elements ascend as the pieces do
+  heads_above : (k : K) (gs : List (List T)) (ys : List T) → map first gs ≡ map Some ys → AllByRecursion (IsAbove cmp key k) gs
+      → AllByRecursion (λ l. cmp k l ≡ Less) (map key ys)
+  heads_above k gs [] h a = tt
+  heads_above k [] (y ∷ ys) h a = absurd (cc h)
+  heads_above k ([] ∷ gs) (y ∷ ys) h a = absurd a.0
+  heads_above k ((x ∷ xs) ∷ gs) (y ∷ ys) h a =
+      let head : x ≡ y = cc h in
+      let tail : map first gs ≡ map Some ys = cc h in
+      (subst (λ z. cmp k (key z) ≡ Less) head a.0, heads_above k gs ys tail a.1)
+
+  heads_climb : (gs : List (List T)) (ys : List T) → map first gs ≡ map Some ys → Ascends cmp key gs → IsStrictlySortedBy cmp (map key ys)
+  unfolding IsStrictlySortedBy
+  heads_climb gs [] h a = tt
+  heads_climb [] (y ∷ ys) h a = absurd (cc h)
+  heads_climb ([] ∷ gs) (y ∷ ys) h a = absurd a
+  heads_climb ((x ∷ xs) ∷ gs) (y ∷ ys) h a =
+      let head : x ≡ y = cc h in
+      let tail : map first gs ≡ map Some ys = cc h in (
+        subst (λ z. AllByRecursion (λ l. cmp (key z) l ≡ Less) (map key ys)) head (heads_above (key x) gs ys tail a.0),
+        heads_climb gs ys tail a.1,
+      )
+
+  pub firsts_climb : IsPartialEquivalence eq → (xs : List T) → NeverDescends cmp (map key xs)
+      → IsStrictlySortedBy cmp (map key (dedup same xs))
+  firsts_climb per xs h =
+      heads_climb (split same xs) (dedup same xs) (firsts same (by_keys eq per key) xs) (split_ascends cmp key o eq ties xs h)

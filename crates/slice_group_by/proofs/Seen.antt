@@ -1,5 +1,5 @@
 -- What calls at one end give of a settled queue, one without another.
-use Rattle.std.proofs.Common.{map, append_assoc, ◌++◌, ◌≡◌, Bool, List, [], ◌∷◌, Option, None, Some, refl, sym, ap, ◌∙◌, reverse}
+use Rattle.std.proofs.Common.{map, append_assoc, ◌++◌, ◌≡◌, Bool, List, [], ◌∷◌, Option, None, Some, refl, sym, ap, ◌∙◌, reverse, subst}
 use Rattle.std.specs.Prelude.{option_map}
 use Rattle.std.specs.Iterator.{Yields, Drains, AlwaysYields}
 use Rattle.std.specs.Iterator.Adapters.{rev_source, rev_steps}
@@ -67,6 +67,30 @@ module _ {Q I A : Type 0} (gives : End → Q → Option I → Q → Type 0) (rem
       let k = taken e q (Some x) y.0 y.1 h in
       let later = yields_settled e y.0 t xs (piece e q (Some x) y.0 p y.1 h).1 y.2 in
       (later.0, from_taken e (shows x) (split p (remainder q)) (sym k.0) ∙ ap (λ l. shows x ∷ l) (ap (from e) (sym k.1) ∙ later.1))
+
+  none_left : (e : End) (ps : List (List A)) → None ≡ item_at e ps → ps ≡ []
+  none_left Front [] h = refl
+  none_left Front (x ∷ xs) h = cc h
+  none_left Back [] h = refl
+  none_left Back (x ∷ []) h = cc h
+  none_left Back (x ∷ y ∷ ys) h = absurd (cc (none_left Back (y ∷ ys) h))
+
+  from_nothing : (e : End) → from {X = List A} e [] ≡ []
+  from_nothing Front = refl
+  from_nothing Back = refl
+
+  -- all groups, where `None` comes after them
+  pub drains_settled : (e : End) (q : Q) (xs : List I) → settled q p → Drains (gives e) q xs → map shows xs ≡ from e (split p (remainder q))
+  drains_settled e q xs h (u, (t, y, n)) =
+      let seen = yields_settled e q t xs h y in
+      let end = none_left e (split p (remainder t)) (taken e t None u n seen.0).0 in
+      sym (seen.1 ∙ ap (λ l. map shows xs ++ l) (ap (from e) end ∙ from_nothing e) ∙ append-nil (map shows xs))
+
+-- one call more
+pub yields_more : {Q I : Type 0} (steps : Q → Option I → Q → Type 0) (q s t : Q) (xs : List I) (x : I) → Yields steps q xs s
+    → steps s (Some x) t → Yields steps q (xs ++ x ∷ []) t
+yields_more steps q s t [] x y g = (t, subst (λ r. steps r (Some x) t) (sym y) g, refl)
+yields_more steps q s t (z ∷ zs) x y g = (y.0, y.1, yields_more steps y.0 s t zs x y.2 g)
 
 module _ {Q I A : Type 0} (gives : End → Q → Option I → Q → Type 0) (remainder : Q → List A) (shows : I → List A)
     (part : (e : End) (q : Q) (o : Option I) (t : Q) → gives e q o t → TakesPart e (remainder q) (option_map shows o) (remainder t)) where

@@ -108,11 +108,23 @@ pub fn chains_answer<Q: GroupQueue>(_queue: &Q)
 /// What a loop or an adapter sees of a settled queue: the pieces of the split in order, and from the back or under `rev()`
 /// in reverse. What `next` and `next_back` of this library's types give is `gives Front` and `gives Back`. The lemmas of the
 /// standard library that take it stand in `Rattle.std.proofs.lemmas.Iterator.Consumers`, as `count_from_yields_List`.
+///
+/// `part` and `whole` say it of the groups that calls at one end gave, some of them or all, as a loop keeps them; `more` adds a
+/// call to such calls, whatever the judge answers.
 pub fn sees_pieces<Q: GroupQueue>(_queue: &Q)
     ensures pieces { (p : Q.Element → Q.Element → Bool) (e : End) (q : Q) → Q.is_settled q p
         → YieldsList (Q.gives e) Q.shows q (from e (split p (Q.remainder q))) }
     ensures rev { (p : Q.Element → Q.Element → Bool) (q : Rev Q) → Q.is_settled (rev_source q) p
         → YieldsList (rev_steps (Q.gives Back)) Q.shows q (reverse (split p (Q.remainder (rev_source q)))) }
+    ensures part { (p : Q.Element → Q.Element → Bool) (e : End) (q t : Q) (groups : List Q.Item) → Q.is_settled q p
+        → Yields (Q.gives e) q groups t
+        → from e (split p (Q.remainder q)) ≡ map Q.shows groups ++ from e (split p (Q.remainder t)) }
+    ensures whole { (p : Q.Element → Q.Element → Bool) (e : End) (q : Q) (groups : List Q.Item) → Q.is_settled q p
+        → Drains (Q.gives e) q groups → map Q.shows groups ≡ from e (split p (Q.remainder q)) }
+    ensures count { (p : Q.Element → Q.Element → Bool) (e : End) (q : Q) (groups : List Q.Item) → Q.is_settled q p
+        → Drains (Q.gives e) q groups → length groups ≡ length (split p (Q.remainder q)) }
+    ensures more { (e : End) (q s t : Q) (groups : List Q.Item) (group : Q.Item) → Yields (Q.gives e) q groups s
+        → Q.gives e s (Some group) t → Yields (Q.gives e) q (groups ++ group ∷ []) t }
 {}
 
 /// The groups that calls at one end give, joined in their order, are what goes off that end, whatever the judge answers: all of

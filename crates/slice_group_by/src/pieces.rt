@@ -1,12 +1,14 @@
 //! Laws of the pieces of a list.
-ghost use Rattle.std.specs.Prelude.{◌≡◌, ℕ, ◌<◌, Bool, true, List, length, map, replicate, sum_by, Some, slice_get};
+ghost use Rattle.std.specs.Prelude.{◌≡◌, ℕ, ◌<◌, Bool, true, List, length, get_or, map, replicate, sum_by, Some, slice_get};
 ghost use Rattle.std.specs.List.{AllByRecursion, Contains, dedup};
+ghost use Rattle.std.specs.List.Sorted.{IsStrictlySortedBy};
 ghost use Rattle.std.specs.declared.cmp.Ordering.TheVariants.{Less};
 ghost use Rattle.sgb_search.specs.Search.{NeverDescends};
 ghost use Rattle.sgb_search.specs.Split.{first, split};
 
 /// The elements of a piece by keys have one key. In a list that ascends by that key the pieces ascend strictly: each element of
-/// a piece has a lesser key than each of a later one, so that no key has two pieces.
+/// a piece has a lesser key than each of a later one, so that no key has two pieces; and the keys of their first elements, which
+/// `dedup` leaves (`pieces_begin_as_dedup`), ascend strictly.
 pub fn pieces_by_key<T, K: Ord>()
     ensures alike { (key : T → K) (xs g : List T) (x y : T) → Contains (split (λ a b. K.eq (key a) (key b)) xs) g
         → Contains g x → Contains g y → K.eq (key x) (key y) ≡ true }
@@ -14,6 +16,8 @@ pub fn pieces_by_key<T, K: Ord>()
         → (i j : ℕ) (g h : List T) (x y : T) → i < j → slice_get (split (λ a b. K.eq (key a) (key b)) xs) i ≡ Some g
         → slice_get (split (λ a b. K.eq (key a) (key b)) xs) j ≡ Some h → Contains g x → Contains h y
         → K.cmp (key x) (key y) ≡ Less }
+    ensures firsts { (key : T → K) (xs : List T) → NeverDescends K.cmp (map key xs)
+        → IsStrictlySortedBy K.cmp (map key (dedup (λ a b. K.eq (key a) (key b)) xs)) }
 {}
 
 /// A piece by a test that accepts equal elements alone is its first element, so many times.
@@ -29,6 +33,8 @@ pub fn equal_pieces_are_copies<T>()
 pub fn pieces_begin_as_dedup<T, K: PartialEq>()
     ensures firsts { (key : T → K) (xs : List T) → map first (split (λ a b. K.eq (key a) (key b)) xs)
         ≡ map Some (dedup (λ a b. K.eq (key a) (key b)) xs) }
+    ensures begin { (key : T → K) (d : T) (xs : List T)
+        → map (λ g. get_or g 0 d) (split (λ a b. K.eq (key a) (key b)) xs) ≡ dedup (λ a b. K.eq (key a) (key b)) xs }
     ensures count { (key : T → K) (xs : List T) → length (split (λ a b. K.eq (key a) (key b)) xs)
         ≡ length (dedup (λ a b. K.eq (key a) (key b)) xs) }
 {}

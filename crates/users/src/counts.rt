@@ -5,7 +5,9 @@ ghost use Rattle.slice_group_by.specs.Searching.{digits};
 use slice_group_by::laws::{
     calls_ask, linear_counts, mapped_calls_ask, questions_count, search_asks,
 };
-use slice_group_by::{BinaryGroupBy, ExponentialGroupBy, LinearGroupBy, LinearGroupByKey};
+use slice_group_by::{
+    BinaryGroupBy, End, ExponentialGroupBy, LinearGroupBy, LinearGroupByKey, walk,
+};
 
 /// How many questions a walk over linear groups asks: one less than there are elements, and none where there are none.
 pub fn linear_questions(xs: &[u32]) -> usize
@@ -27,13 +29,13 @@ pub fn binary_questions(xs: &[u32]) -> usize
     ensures { result ≤ length xs.now * digits (length xs.now) }
 {
     let mut count = 0usize;
-    let mut groups = BinaryGroupBy::new(xs, |a: &u32, b: &u32| {
+    let groups = BinaryGroupBy::new(xs, |a: &u32, b: &u32| {
         count = count.wrapping_add(1);
         a == b
     });
     calls_ask(&groups);
     questions_count(&groups);
-    while let Some(_) = groups.next() {}
+    for _ in groups {}
     count
 }
 
@@ -42,13 +44,28 @@ pub fn exponential_questions(xs: &[u32]) -> usize
     ensures { result ≤ 3 * length xs.now }
 {
     let mut count = 0usize;
-    let mut groups = ExponentialGroupBy::new(xs, |a: &u32, b: &u32| {
+    let groups = ExponentialGroupBy::new(xs, |a: &u32, b: &u32| {
         count = count.wrapping_add(1);
         a == b
     });
     calls_ask(&groups);
     questions_count(&groups);
-    while let Some(_) = groups.next() {}
+    for _ in groups {}
+    count
+}
+
+/// The questions of any list of calls on binary groups: no more than a walk over all of them may ask.
+pub fn walk_binary<'a>(xs: &'a [u32], ends: &[End], out: &mut [Option<&'a [u32]>]) -> usize
+    requires { length out.old ≡ length ends.now }
+    ensures { result ≤ length xs.now * digits (length xs.now) }
+{
+    let mut count = 0usize;
+    let mut groups = BinaryGroupBy::new(xs, |first: &u32, other: &u32| {
+        count = count.wrapping_add(1);
+        first == other
+    });
+    questions_count(&groups);
+    walk(&mut groups, ends, out);
     count
 }
 

@@ -7,7 +7,7 @@ ghost use Rattle.slice_group_by.specs.Search.{NeverDescends};
 ghost use Rattle.slice_group_by.specs.Queue.{pops};
 
 use slice_group_by::laws::{
-    ascending_is_grouped, equality_judges, groups_end_locally, sees_pieces, sorts_ascend,
+    ascending_is_grouped, groups_end_locally, search_asks, sees_pieces, sorts_ascend,
 };
 use slice_group_by::{
     BinaryGroup, BinaryGroupByKeyMut, BinaryGroupMut, End, ExponentialGroup, ExponentialGroupByKey,
@@ -140,8 +140,8 @@ pub fn first_len<T: PartialEq>(slice: &[T]) -> usize
 pub fn after_first<'a, T: PartialEq>(slice: &'a [T]) -> BinaryGroup<'a, T>
     ensures { result.judge.asked ≤ digits (length slice.now - 1) }
 {
-    equality_judges::<T>();
     let mut groups = BinaryGroup::new(slice);
+    search_asks(&groups);
     let _first = groups.next();
     groups
 }

@@ -1,6 +1,7 @@
 //! What the pieces of a slice share with the slice: as many as `dedup` leaves, and the same from a descending slice by halving.
-ghost use Rattle.std.specs.Prelude.{◌≡◌, ◌≤◌, ℕ, List, ◌∷◌, None, length, map, nat_eq, IfSome, IsSome};
+ghost use Rattle.std.specs.Prelude.{◌≡◌, ◌≤◌, ℕ, List, ◌∷◌, None, length, map, nat_eq, IfOk, IfSome, IsSome};
 ghost use Rattle.std.specs.List.{dedup, Contains};
+ghost use Rattle.std.specs.List.Sorted.{IsStrictlySortedBy};
 ghost use Rattle.std.specs.declared.cmp.Ordering.TheVariants.{Less};
 ghost use Rattle.std.specs.Ordering.{flip_args, nat_cmp};
 ghost use Rattle.slice_group_by.specs.Search.{NeverDescends};
@@ -13,6 +14,7 @@ use slice_group_by::laws::{
     sorted_by_key_ascends,
 };
 use slice_group_by::{BinaryGroup, LinearGroup, LinearGroupByKey};
+use std::alloc::{AllocError, Global};
 
 /// How many elements `dedup` would leave of the slice.
 pub fn deduped_len(xs: &[u32]) -> usize
@@ -50,6 +52,24 @@ pub fn first_two<'a>(rows: &'a [Entry]) -> Option<(&'a [Entry], &'a [Entry])>
     let first = groups.next()?;
     let second = groups.next()?;
     Some((first, second))
+}
+
+/// The key of each group of rows that ascend by their keys, in a vector: those of the rows that `dedup` by the keys leaves, each
+/// less than those after it.
+pub fn keys_once(alloc: Global, rows: &[Entry]) -> Result<Vec<u32>, AllocError>
+    requires { NeverDescends nat_cmp (map key rows.now) }
+    ensures all { IfOk result (λ keys. keys.items ≡ map key (dedup same_key rows.now)) }
+    ensures once { IfOk result (λ keys. IsStrictlySortedBy nat_cmp keys.items) }
+{
+    pieces_by_key::<Entry, u32>();
+    pieces_begin_as_dedup::<Entry, u32>();
+    let groups = LinearGroupByKey::new(rows, |e: &Entry| e.0);
+    sees_pieces(&groups);
+    let mut keys = Vec::new(alloc);
+    for group in groups {
+        keys.push(group[0].0)?;
+    }
+    Ok(keys)
 }
 
 /// How many keys both slices have, or `None` where one of them does not ascend by its keys.

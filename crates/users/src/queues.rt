@@ -1,10 +1,11 @@
 //! Functions over any queue of groups, whatever its family and judge.
 ghost use Rattle.std.specs.Option.{option_copied_mut};
-ghost use Rattle.std.specs.Prelude.{◌≡◌, Bool, option_copied};
-ghost use Rattle.slice_group_by.specs.Split.{split, first};
+ghost use Rattle.std.specs.Prelude.{◌≡◌, Bool, map, option_copied, IfOk};
+ghost use Rattle.slice_group_by.specs.Split.{split, first, concat};
 
-use slice_group_by::laws::calls_take_pieces;
-use slice_group_by::{SliceQueue, SliceQueueMut};
+use slice_group_by::laws::{calls_take_pieces, groups_join, sees_pieces};
+use slice_group_by::{GroupQueue, SliceQueue, SliceQueueMut};
+use std::alloc::{AllocError, Global};
 
 /// The first group of what remains, as a slice: of a settled queue its elements are the first piece.
 pub fn first_of_queue<'a, T: 'a, Q: SliceQueue<'a, T>>(queue: &mut Q) -> Option<&'a [T]>
@@ -24,4 +25,23 @@ pub fn first_of_queue_mut<'a, T: 'a, Q: SliceQueueMut<'a, T>>(queue: &mut Q) -> 
 {
     calls_take_pieces(queue);
     queue.pop_front()
+}
+
+/// All groups of what remains, in a vector. They join to what remains, and those of a settled queue are its pieces.
+pub fn all_groups<Q: GroupQueue + Drop>(
+    alloc: Global,
+    mut queue: Q,
+) -> Result<Vec<Q::Item>, AllocError>
+    requires { Q.can_pop queue }
+    ensures whole { IfOk result (λ groups. concat (map Q.shows groups.items) ≡ Q.remainder queue) }
+    ensures pieces { (p : Q.Element → Q.Element → Bool) → Q.is_settled queue p
+        → IfOk result (λ groups. map Q.shows groups.items ≡ split p (Q.remainder queue)) }
+{
+    groups_join(&queue);
+    sees_pieces(&queue);
+    let mut groups = Vec::new(alloc);
+    while let Some(group) = queue.pop_front() {
+        groups.push(group)?;
+    }
+    Ok(groups)
 }

@@ -1,6 +1,5 @@
-use Rattle.std.proofs.Common.{rules, ◌≡◌, ℕ, min, List, None, refl, map, nat_eq, sum_by, ap, ◌∙◌}
+use Rattle.std.proofs.Common.{rules, ◌≡◌, ℕ, min, List, map, nat_eq, sum_by, ap, ◌∙◌}
 use Rattle.std.proofs.lemmas.Fn.{always_returns_same}
-use Rattle.std.proofs.lemmas.Iterator.Consumers.{YieldsList-end}
 use Rattle.std.proofs.lemmas.List.Sorted.{sum_by-IsPermutation}
 use Rattle.std.specs.Cmp.{unsigned_ties}
 use Rattle.std.specs.Ordering.{nat_cmp}
@@ -30,10 +29,9 @@ module _ (c : goal.After-drop-rows-2) where
   lines : c.loop-group.lines.items ≡ map line_of (split same sorted)
   lines =
       let settled = c.new-groups.ensures.settled department (always_returns_same _ _ _ (λ a r f' k. search rules)) tt in
-      let seen = c.sees_pieces.ensures.pieces same Front c.new-groups.result settled in
       let yielded = rw c.into_iter-group-iterator.ensures.into_iter_gives at c.loop-group.yielded_by in
-      let drained = YieldsList-end seen _ _ yielded None _ refl c.in-None.ensures.steps in
-      c.loop-group.invariant ∙ ap (map line_of) (rw (c.new-groups.ensures.remainder, c.deref.ensures.value) at drained.0)
+      let all = c.sees_pieces.ensures.whole same Front _ _ settled (_, (_, yielded, c.in-None.ensures.steps)) in
+      c.loop-group.invariant ∙ ap (map line_of) (rw (c.new-groups.ensures.remainder, c.deref.ensures.value) at all)
 
 pub returns-clause-ascending : goal.returns-clause-ascending
 returns-clause-ascending c =

@@ -75,8 +75,8 @@ returns-clause-others c =
 pub returns-clause-comparisons : goal.returns-clause-comparisons
 returns-clause-comparisons c =
     let none : c.new-groups.result.judge.predicate.0.now ≡ 0 = search rules in
-    let k = c.search_asks.ensures.counts (λ j. j.predicate.0) 1 (λ j k pair b h. search rules) Front c.new-groups.result
-    c.next.new.self c.next.result c.next.ensures.steps (λ g. 2 * digits g + 1) (λ g. omega (arith, none)) in
+    let k = c.search_asks.ensures.counts (λ j. j.predicate.0.now) (λ j. j.predicate.0.ghost_name) 1 (λ j k pair b h. search rules)
+    Front c.new-groups.result c.next.new.self c.next.result c.next.ensures.steps (λ g. 2 * digits g + 1) (λ g. omega (arith, none)) in
     let most : c.next.new.self.judge.predicate.0.now ≤ 2 * digits (length (lower c.args.limit c.args.index.now)) + 1 =
     counted c.next.result _ _ _ (taken c) none k.1 in
     rw (part c) (search (rules, k.0, most))

@@ -1,5 +1,4 @@
-use Rattle.std.proofs.Common.{◌≡◌, None, refl, map, nat_eq, ap, ◌∙◌, sym}
-use Rattle.std.proofs.lemmas.Iterator.Consumers.{YieldsList-end}
+use Rattle.std.proofs.Common.{◌≡◌, map, nat_eq, ap, ◌∙◌, sym}
 use Rattle.std.proofs.lemmas.Bool.{eqb-true}
 use Rattle.std.proofs.lemmas.List.Folds.{flat_map-map}
 use Rattle.slice_group_by.specs.End.TheVariants.{Front}
@@ -12,11 +11,10 @@ use Rattle.run_length_coder.proofs.coder.encode.Goals as goal
 module _ (c : goal.In-None) where
   pieces : map copies c.loop-group.runs.items ≡ split nat_eq c.args.bytes.now
   pieces =
-      let seen = c.sees_pieces.ensures.pieces nat_eq Front c.new-groups.result (c.new-groups.ensures.settled tt) in
       let yielded = rw c.into_iter-group-iterator.ensures.into_iter_gives at c.loop-group.yielded_by in
-      let drained = YieldsList-end seen _ _ yielded None _ refl c.in-None.ensures.steps in
+      let all = c.sees_pieces.ensures.whole nat_eq Front _ _ (c.new-groups.ensures.settled tt) (_, (_, yielded, c.in-None.ensures.steps)) in
       let is_split = c.one_split.ensures.exists nat_eq c.args.bytes.now in
-      ap (map copies) (c.loop-group.invariant ∙ ap (map run_of) (rw c.new-groups.ensures.remainder at drained.0))
+      ap (map copies) (c.loop-group.invariant ∙ ap (map run_of) (rw c.new-groups.ensures.remainder at all))
       ∙ pieces_copied _ is_split.nonempty (c.equal_pieces_are_copies.ensures.each nat_eq eqb-true c.args.bytes.now)
 
 pub returns-clause-longest : goal.returns-clause-longest

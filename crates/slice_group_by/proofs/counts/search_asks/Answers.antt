@@ -14,10 +14,8 @@ returns-clause-asks g c e s t group h = (
 )
 
 pub returns-clause-counts : goal.returns-clause-counts
-returns-clause-counts g c counter each step e s t None h most few =
-    (ap (λ q. (counter q.judge).ghost_name) h.1, ap (λ q. (counter q.judge).now) h.1)
-returns-clause-counts g c counter each step e s t (Some group) h most few =
+returns-clause-counts g c count name each step e s t None h most few = (ap (λ q. name q.judge) h.1, ap (λ q. count q.judge) h.1)
+returns-clause-counts g c count name each step e s t (Some group) h most few =
     let a = returns-clause-asks g c e s t group h in
-    let k = counts_most g.J.Judge.may_ask g.J.Judge.answers (λ j. (counter j).now) (λ j. (counter j).ghost_name) each step
-    a.0 s.judge t.judge a.1 in
+    let k = counts_most g.J.Judge.may_ask g.J.Judge.answers count name each step a.0 s.judge t.judge a.1 in
     (k.0, omega (arith, k.1, mul-le-mul_left each a.2, few (length group.now)))

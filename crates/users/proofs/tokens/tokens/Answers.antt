@@ -1,12 +1,10 @@
-use Rattle.std.proofs.Common.{rules, ℕ, ◌≡◌, Bool, cond, List, [], ◌∷◌, ◌++◌, None, map, take, nat_eq, refl, sym, ap, ◌∙◌, subst}
+use Rattle.std.proofs.Common.{rules, ℕ, ◌≡◌, Bool, cond, List, [], ◌∷◌, map, take, nat_eq, refl, sym, ap, ◌∙◌, subst}
 use Rattle.std.specs.List.{AllByRecursion}
 use Rattle.std.specs.Str.{chars}
 use Rattle.std.specs.Char.{is_ascii_alphabetic, is_ascii_digit}
 use Rattle.std.proofs.lemmas.Str.{chars-nil}
-use Rattle.std.proofs.lemmas.List.{append-nil}
 use Rattle.std.proofs.lemmas.Bool.{eqb-true, eqb-false}
 use Rattle.std.proofs.lemmas.Fn.{always_returns_same}
-use Rattle.std.proofs.lemmas.Iterator.Consumers.{YieldsList-end}
 use Rattle.slice_group_by.specs.Split.{neighbours, concat, IsSplit, IsAccepted}
 use Rattle.slice_group_by.specs.End.TheVariants.{Front}
 use Rattle.users.proofs.tokens.tokens.Goals as goal
@@ -42,18 +40,16 @@ module _ (c : goal.In-None) where
   written : IsSplit same_class (chars c.args.text.now.now) (map (λ t. chars t.now) (take c.loop-token.count c.loop-token.out))
   written =
       let settled = c.linear_group_by_key-groups.ensures.settled class (always_returns_same _ _ _ (λ a r f' k. search rules)) in
-      let seen = c.sees_pieces.ensures.pieces same_class Front _ settled in
       let yielded = rw c.into_iter-token-iterator.ensures.into_iter_gives at c.loop-token.yielded_by in
-      let drained = YieldsList-end seen _ _ yielded None _ refl c.in-None.ensures.steps in
-      let given = ap (map (λ t. chars t.now)) c.loop-token.invariant.written ∙ rw c.linear_group_by_key-groups.ensures.text at drained.0 in
+      let all = c.sees_pieces.ensures.whole same_class Front _ _ settled (_, (_, yielded, c.in-None.ensures.steps)) in
+      let given = ap (map (λ t. chars t.now)) c.loop-token.invariant.written ∙ rw c.linear_group_by_key-groups.ensures.text at all in
       subst (IsSplit same_class (chars c.args.text.now.now)) (sym given) (c.one_split.ensures.exists same_class (chars c.args.text.now.now))
 
 pub returns-clause-joined : goal.returns-clause-joined
 returns-clause-joined c =
-    let join = c.texts_join.ensures.part Front _ _ _ (rw c.into_iter-token-iterator.ensures.into_iter_gives at c.loop-token.yielded_by) in
+    let yielded = rw c.into_iter-token-iterator.ensures.into_iter_gives at c.loop-token.yielded_by in
     ap (λ ts. concat (map (λ t. t.now) ts)) c.loop-token.invariant.written
-    ∙ sym (append-nil _) ∙ ap (λ rest. concat (map (λ t. t.now) c.loop-token.yielded) ++ rest) (sym c.in-None.ensures.steps.0)
-    ∙ rw c.linear_group_by_key-groups.ensures.text at join
+    ∙ rw c.linear_group_by_key-groups.ensures.text at (c.texts_join.ensures.whole Front _ _ (_, (_, yielded, c.in-None.ensures.steps)))
 
 pub returns-clause-nonempty : goal.returns-clause-nonempty
 returns-clause-nonempty c = each (λ t. chars t.now) _ _ (λ t some none. some (ap chars none ∙ chars-nil)) _ (written c).nonempty

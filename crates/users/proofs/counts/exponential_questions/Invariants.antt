@@ -1,9 +1,0 @@
-use Rattle.std.proofs.Common.{◌≡◌, ◌+◌, ◌*◌, ◌≤◌, length}
-use Rattle.slice_group_by.specs.Gives.{shown}
-use Rattle.users.proofs.counts.exponential_questions.Given as goal
-
-abbrev pub invariant-loop : goal.invariant-loop
-invariant-loop l = record {
-  name : l.groups.judge.predicate.0.ghost_name ≡ l.initial.groups.judge.predicate.0.ghost_name;
-  count : l.groups.judge.predicate.0.now + 3 * length (shown l.groups).remainder ≤ 3 * length l.xs;
-}
