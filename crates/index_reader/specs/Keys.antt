@@ -1,13 +1,12 @@
 -- What is said of the keys of entries.
-use Rattle.std.specs.Prelude.{ℕ, List, map, nat_eq, nat_le, nat_lt}
+use Rattle.std.specs.Prelude.{ℕ, List, not, nat_eq, nat_lt}
 use Rattle.std.specs.List.{filter}
-use Rattle.std.specs.Ordering.{nat_cmp}
-use Rattle.slice_group_by.specs.Search.{NeverDescends}
+use Rattle.std.specs.List.Sorted.{IsNonDecreasingBy}
 use Rattle.index_reader.specs.declared.entries.Entry.{Entry}
 
 -- the keys ascend, where one may stand several times
 abbrev pub IsAscending : List Entry → Type 0
-IsAscending entries = NeverDescends nat_cmp (map (λ entry. entry.key) entries)
+IsAscending entries = IsNonDecreasingBy (λ entry. entry.key) entries
 
 -- the entries of the key, in order
 abbrev pub of_key : ℕ → List Entry → List Entry
@@ -17,6 +16,6 @@ of_key key entries = filter (λ entry. nat_eq entry.key key) entries
 abbrev pub lower : ℕ → List Entry → List Entry
 lower key entries = filter (λ entry. nat_lt entry.key key) entries
 
--- those of this key and of higher ones
+-- the others: those of this key and of higher ones
 abbrev pub at_least : ℕ → List Entry → List Entry
-at_least key entries = filter (λ entry. nat_le key entry.key) entries
+at_least key entries = filter (λ entry. not (nat_lt entry.key key)) entries

@@ -5,9 +5,7 @@ ghost use Rattle.index_reader.specs.Keys.{IsAscending, at_least, lower, of_key};
 
 use crate::entries::Entry;
 use slice_group_by::ExponentialGroupBy;
-use slice_group_by::laws::{
-    calls_take_pieces, descending_is_grouped, digits_is_least, search_asks,
-};
+use slice_group_by::laws::{calls_take_pieces, digits_is_least, partitioned_pieces, search_asks};
 
 /// The entries of a key, and how many comparisons it took to find them.
 #[derive(Clone, Copy)]
@@ -40,8 +38,10 @@ fn cut_at(index: &[Entry], limit: u64) -> Cut<'_>
     requires { IsAscending index.now }
     ensures lower { result.lower.now ≡ lower limit index.now }
     ensures others { result.others.now ≡ at_least limit index.now }
+    ensures joins { index.now ≡ result.lower.now ++ result.others.now }
     ensures comparisons { result.comparisons ≤ 2 * digits (length result.lower.now) + 1 }
 {
+    partitioned_pieces::<Entry>();
     if !starts_below(index, limit) {
         return Cut {
             lower: &[],
@@ -54,7 +54,6 @@ fn cut_at(index: &[Entry], limit: u64) -> Cut<'_>
         comparisons = comparisons.wrapping_add(1);
         (u64::from(a.key) < limit) == (u64::from(b.key) < limit)
     });
-    descending_is_grouped::<Entry, bool>();
     calls_take_pieces(&groups);
     search_asks(&groups);
     let lower = groups.next().unwrap_or(&[]);

@@ -53,6 +53,16 @@ module _ {T : Type 0} where
     pub pieces_copied : (xs : List T) → AllByRecursion (λ g. (x : T) → first g ≡ Some x → g ≡ replicate (length g) x) (split p xs)
     pieces_copied xs = each_copied (split p xs) (split_is p xs).accepted
 
+    each_back : (d : T) (gs : List (List T)) → AllByRecursion (IsAccepted p) gs → map (λ g. replicate (length g) (get_or g 0 d)) gs ≡ gs
+    each_back d [] a = refl
+    each_back d ([] ∷ gs) a = ap (λ hs. [] ∷ hs) (each_back d gs a.1)
+    each_back d ((x ∷ xs) ∷ gs) a =
+        ap (λ g. g ∷ map (λ g. replicate (length g) (get_or g 0 d)) gs) (sym (copied x xs a.0))
+        ∙ ap (λ hs. (x ∷ xs) ∷ hs) (each_back d gs a.1)
+
+    pub copied_back : (d : T) (xs : List T) → map (λ g. replicate (length g) (get_or g 0 d)) (split p xs) ≡ split p xs
+    copied_back d xs = each_back d (split p xs) (split_is p xs).accepted
+
 -- a test of keys is one of the elements
 pub by_keys : {T K : Type 0} (eq : K → K → Bool) → IsPartialEquivalence eq → (key : T → K) → IsPartialEquivalence (λ x y. eq (key x) (key y))
 by_keys eq per key = record {

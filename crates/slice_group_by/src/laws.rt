@@ -40,7 +40,8 @@ pub use crate::join::{
     joins_may_go_on, pairs_ascend, pairs_match, partners_are_unique, sees_pairs,
 };
 pub use crate::pieces::{
-    equal_pieces_are_copies, pieces_add_up, pieces_begin_as_dedup, pieces_by_key,
+    equal_pieces_are_copies, partitioned_pieces, pieces_add_up, pieces_begin_as_dedup,
+    pieces_by_key,
 };
 pub use crate::plans::{Plan, refute};
 use crate::queue::GroupQueue;

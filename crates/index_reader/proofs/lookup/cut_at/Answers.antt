@@ -1,8 +1,10 @@
-use Rattle.std.proofs.Common.{rules, ◌≡◌, ◌+◌, ◌*◌, ◌≤◌, ◌++◌, length, ℕ, nat_lt, List, Option, None, Some, sym, ap, ◌∙◌, arith}
+use Rattle.std.proofs.Common.{rules, ◌≡◌, ◌+◌, ◌*◌, ◌≤◌, ◌++◌, length, ℕ, Bool, true, false, nat_lt, List, [], Option, None, Some, refl, sym, ap, ◌∙◌, arith}
 use Rattle.std.specs.Prelude.{MatchOption, option_map, unwrap_or}
+use Rattle.std.specs.Bool.{beq}
 use Rattle.std.specs.Borrow.{Bor}
 use Rattle.std.proofs.lemmas.Fn.{answers_by}
 use Rattle.std.proofs.lemmas.List.{append_cancel_left}
+use Rattle.std.proofs.lemmas.List.Sorted.{IsPartitionedBy-ltb}
 use Rattle.slice_group_by.specs.Searching.{digits}
 use Rattle.slice_group_by.specs.Split.{split, first}
 use Rattle.slice_group_by.specs.End.{End}
@@ -11,8 +13,23 @@ use Rattle.slice_group_by.specs.Gives.{shown}
 use Rattle.slice_group_by.specs.Calls.{Groups, IsGroupAt}
 use Rattle.index_reader.specs.declared.entries.Entry.{Entry}
 use Rattle.index_reader.specs.Keys.{lower}
-use Rattle.index_reader.proofs.Cuts.{together, sides_descend, by_first, both_parts}
 use Rattle.index_reader.proofs.lookup.cut_at.Goals as goal
+
+-- whether the keys of two entries lie on one side of the limit
+abbrev together : ℕ → Entry → Entry → Bool
+together limit a b = beq (nat_lt a.key limit) (nat_lt b.key limit)
+
+-- an index that starts below the limit has a first entry, which is lower
+starts : (limit : ℕ) (o : Option Entry) (b : Bool) → MatchOption o (b ≡ false) (λ first. b ≡ nat_lt first.key limit) → b ≡ true
+    → (x : Entry) × (o ≡ Some x) × (nat_lt x.key limit ≡ true)
+starts limit None b h t = absurd (cc (h, t))
+starts limit (Some x) b h t = (x, refl, sym h ∙ t)
+
+-- and of one that does not, the first entry is not lower
+starts_above : (limit : ℕ) (o : Option Entry) (b : Bool) → MatchOption o (b ≡ false) (λ first. b ≡ nat_lt first.key limit) → b ≡ false
+    → (x : Entry) → o ≡ Some x → nat_lt x.key limit ≡ false
+starts_above limit None b h f x e = absurd (cc e)
+starts_above limit (Some y) b h f x e = let same : y ≡ x = cc e in ap (λ (z : Entry). nat_lt z.key limit) (sym same) ∙ sym h ∙ f
 
 -- the elements of a group
 abbrev elements : Bor (List Entry) → List Entry
@@ -36,41 +53,55 @@ rest : {J : Type 0} (P : Type 0) (asks : End → List Entry → ℕ → J → J 
 rest P asks s t None g e h = absurd (cc)
 rest P asks s t (Some x) g e h = let k : x.now ≡ g = cc in rw k at h.cut
 
+module _ (c : goal.After-result-then-not-starts_below-1) where
+  none : lower c.args.limit c.args.index.now ≡ []
+  none =
+      c.partitioned_pieces.ensures.none (λ e. nat_lt e.key c.args.limit) c.args.index.now
+      (IsPartitionedBy-ltb (λ e. e.key) c.args.index.now c.args.limit c.requires)
+      (starts_above c.args.limit _ c.starts_below.result c.starts_below.ensures c.if-not-starts_below.true)
+
 pub returns-then-not-starts_below-clause-lower : goal.returns-then-not-starts_below-clause-lower
-returns-then-not-starts_below-clause-lower c =
-    let by = by_first c.args.limit c.args.index.now c.starts_below.result c.starts_below.ensures c.requires in
-    sym (by.0 c.if-not-starts_below.true).0
+returns-then-not-starts_below-clause-lower c = sym (none c)
 
 pub returns-then-not-starts_below-clause-others : goal.returns-then-not-starts_below-clause-others
 returns-then-not-starts_below-clause-others c =
-    let by = by_first c.args.limit c.args.index.now c.starts_below.result c.starts_below.ensures c.requires in
-    sym (by.0 c.if-not-starts_below.true).1
+    sym (rw (none c) at (c.partitioned_pieces.ensures.joins (λ e. nat_lt e.key c.args.limit) c.args.index.now
+    (IsPartitionedBy-ltb (λ e. e.key) c.args.index.now c.args.limit c.requires)))
 
 module _ (c : goal.After-comparisons-2-1) where
   -- the call gave the first piece
   taken : option_map elements c.next.result ≡ Some (lower c.args.limit c.args.index.now)
   taken =
-      let by = by_first c.args.limit c.args.index.now c.starts_below.result c.starts_below.ensures c.requires in
-      let descends = sides_descend c.args.limit c.args.index.now c.requires in
-      let grouped = c.descending_is_grouped.ensures.by_key (λ x. nat_lt x.key c.args.limit) c.args.index.now descends in
+      let test = λ (e : Entry). nat_lt e.key c.args.limit in
+      let parted = IsPartitionedBy-ltb (λ e. e.key) c.args.index.now c.args.limit c.requires in
       let settled = c.new-groups.ensures.settled (together c.args.limit)
-      (answers_by _ _ (λ f. f.1.now ≡ c.args.limit) (λ f a r f' k i. search (rules, i)) _ (search rules)) grouped in
-      let front = c.calls_take_pieces.ensures.front (together c.args.limit) c.new-groups.result c.next.new.self c.next.result in
-      front c.next.ensures.steps settled
-      ∙ ap (λ xs. first (split (together c.args.limit) xs)) c.new-groups.ensures.remainder ∙ by.1 c.if-not-starts_below.false
+      (answers_by _ _ (λ f. f.1.now ≡ c.args.limit) (λ f a r f' k i. search (rules, i)) _ (search rules))
+      (c.partitioned_pieces.ensures.grouped test c.args.index.now parted) in
+      let lowest = starts c.args.limit _ c.starts_below.result c.starts_below.ensures c.if-not-starts_below.false in
+      c.calls_take_pieces.ensures.front (together c.args.limit) c.new-groups.result c.next.new.self c.next.result
+      c.next.ensures.steps settled
+      ∙ ap (λ xs. first (split (together c.args.limit) xs)) c.new-groups.ensures.remainder
+      ∙ c.partitioned_pieces.ensures.first test c.args.index.now lowest.0 parted lowest.1 lowest.2
 
   part : c.unwrap_or-lower.result.now ≡ lower c.args.limit c.args.index.now
   part = rw c.unwrap_or-lower.ensures (given c.next.result _ _ taken)
+
+  joined : c.args.index.now ≡ lower c.args.limit c.args.index.now ++ c.remainder.result.now
+  joined =
+      let cut = rest _ _ (shown c.new-groups.result) (shown c.next.new.self) c.next.result _ taken c.next.ensures.steps in
+      sym c.new-groups.ensures.remainder ∙ cut ∙ ap (λ ys. lower c.args.limit c.args.index.now ++ ys) (sym c.remainder.ensures)
 
 pub returns-clause-lower : goal.returns-clause-lower
 returns-clause-lower c = part c
 
 pub returns-clause-others : goal.returns-clause-others
 returns-clause-others c =
-    let cut = rest _ _ (shown c.new-groups.result) (shown c.next.new.self) c.next.result _ (taken c) c.next.ensures.steps in
-    let whole = both_parts c.args.limit c.args.index.now c.requires in
-    c.remainder.ensures
-    ∙ append_cancel_left (lower c.args.limit c.args.index.now) _ _ (sym cut ∙ c.new-groups.ensures.remainder ∙ sym whole)
+    append_cancel_left (lower c.args.limit c.args.index.now) _ _ (sym (joined c)
+    ∙ sym (c.partitioned_pieces.ensures.joins (λ e. nat_lt e.key c.args.limit) c.args.index.now
+    (IsPartitionedBy-ltb (λ e. e.key) c.args.index.now c.args.limit c.requires)))
+
+pub returns-clause-joins : goal.returns-clause-joins
+returns-clause-joins c = rw (part c) (joined c)
 
 pub returns-clause-comparisons : goal.returns-clause-comparisons
 returns-clause-comparisons c =

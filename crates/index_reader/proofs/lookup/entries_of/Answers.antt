@@ -1,12 +1,14 @@
-use Rattle.std.proofs.Common.{rules, ◌≡◌, ◌+◌, ◌^◌, ◌<◌, length, sym, ap, ◌∙◌, arith, subst}
-use Rattle.index_reader.specs.Keys.{IsAscending, lower, of_key}
-use Rattle.index_reader.proofs.Cuts.{second_ascends, cut_twice, three_parts}
+use Rattle.std.proofs.Common.{rules, ◌≡◌, ◌+◌, ◌^◌, ◌<◌, ◌++◌, length, not, nat_lt, sym, ap, ◌∙◌, arith, subst}
+use Rattle.std.proofs.lemmas.List.Kept.{IsNonDecreasingBy-filter}
+use Rattle.index_reader.specs.Keys.{IsAscending, lower, of_key, at_least}
+use Rattle.index_reader.proofs.Cuts.{cut_twice}
 use Rattle.index_reader.proofs.lookup.entries_of.Goals as goal
 
 pub cut_at-found-requires : goal.cut_at-found-requires
 cut_at-found-requires c =
     let others = rw c.from-limit.ensures at c.cut_at-skipped.ensures.others in
-    subst IsAscending (sym others) (second_ascends c.args.key c.args.index.now c.requires)
+    subst IsAscending (sym others)
+    (IsNonDecreasingBy-filter (λ e. e.key) (λ e. not (nat_lt e.key c.args.key)) c.args.index.now c.requires)
 
 pub overflow_add-result : goal.overflow_add-result
 overflow_add-result c =
@@ -28,4 +30,10 @@ pub returns-clause-exactly : goal.returns-clause-exactly
 returns-clause-exactly c = exactly c
 
 pub returns-clause-place : goal.returns-clause-place
-returns-clause-place c = rw (exactly c) (three_parts c.args.key c.args.index.now c.requires)
+returns-clause-place c =
+    let others = rw c.from-limit.ensures at c.cut_at-skipped.ensures.others in
+    let higher = rw c.from-limit.ensures at c.cut_at-found.ensures.others ∙ ap (at_least (c.args.key + 1)) others
+    ∙ (cut_twice c.args.key c.args.index.now).1 in
+    let low = rw c.from-limit.ensures at c.cut_at-skipped.ensures.lower in
+    rw (low, higher) at (c.cut_at-skipped.ensures.joins
+    ∙ ap (λ ys. c.cut_at-skipped.result.lower.now ++ ys) c.cut_at-found.ensures.joins)

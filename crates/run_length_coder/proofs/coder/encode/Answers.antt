@@ -1,10 +1,11 @@
 use Rattle.std.proofs.Common.{◌≡◌, map, nat_eq, ap, ◌∙◌, sym}
 use Rattle.std.proofs.lemmas.Bool.{eqb-true}
 use Rattle.std.proofs.lemmas.List.Folds.{flat_map-map}
+use Rattle.std.proofs.lemmas.Simd.{map-map}
 use Rattle.slice_group_by.specs.End.TheVariants.{Front}
 use Rattle.slice_group_by.specs.Split.{split, concat}
 use Rattle.run_length_coder.specs.Runs.{copies}
-use Rattle.run_length_coder.proofs.Copies.{pieces_copied, run_of}
+use Rattle.run_length_coder.proofs.RunOf.{run_of}
 use Rattle.run_length_coder.proofs.coder.encode.Goals as goal
 
 -- at the end the runs are those of the pieces
@@ -13,9 +14,9 @@ module _ (c : goal.In-None) where
   pieces =
       let yielded = rw c.into_iter-group-iterator.ensures.into_iter_gives at c.loop-group.yielded_by in
       let all = c.sees_pieces.ensures.whole nat_eq Front _ _ (c.new-groups.ensures.settled tt) (_, (_, yielded, c.in-None.ensures.steps)) in
-      let is_split = c.one_split.ensures.exists nat_eq c.args.bytes.now in
       ap (map copies) (c.loop-group.invariant ∙ ap (map run_of) (rw c.new-groups.ensures.remainder at all))
-      ∙ pieces_copied _ is_split.nonempty (c.equal_pieces_are_copies.ensures.each nat_eq eqb-true c.args.bytes.now)
+      ∙ map-map copies run_of (split nat_eq c.args.bytes.now)
+      ∙ c.equal_pieces_are_copies.ensures.copies nat_eq eqb-true 0 c.args.bytes.now
 
 pub returns-clause-longest : goal.returns-clause-longest
 returns-clause-longest c = pieces c

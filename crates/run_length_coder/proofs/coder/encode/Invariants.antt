@@ -1,5 +1,5 @@
 use Rattle.std.proofs.Common.{◌≡◌, map}
-use Rattle.run_length_coder.proofs.Copies.{run_of}
+use Rattle.run_length_coder.proofs.RunOf.{run_of}
 use Rattle.run_length_coder.proofs.coder.encode.Given as goal
 
 abbrev pub invariant-loop-group : goal.invariant-loop-group
