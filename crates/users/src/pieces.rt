@@ -10,8 +10,7 @@ ghost use Rattle.users.specs.Keys.{key, same_key, common_keys};
 
 use crate::joins::{Entry, count_common_keys};
 use slice_group_by::laws::{
-    calls_take_pieces, descending_is_grouped, pieces_begin_as_dedup, pieces_by_key, sees_pieces,
-    sorted_by_key_ascends,
+    descending_is_grouped, pieces_begin_as_dedup, pieces_by_key, sees_pieces, sorted_by_key_ascends,
 };
 use slice_group_by::{BinaryGroup, LinearGroup, LinearGroupByKey};
 use std::alloc::{AllocError, Global};
@@ -48,7 +47,7 @@ pub fn first_two<'a>(rows: &'a [Entry]) -> Option<(&'a [Entry], &'a [Entry])>
 {
     pieces_by_key::<Entry, u32>();
     let mut groups = LinearGroupByKey::new(rows, |e: &Entry| e.0);
-    calls_take_pieces(&groups);
+    sees_pieces(&groups);
     let first = groups.next()?;
     let second = groups.next()?;
     Some((first, second))
