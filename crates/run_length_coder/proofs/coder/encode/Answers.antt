@@ -12,8 +12,8 @@ use Rattle.run_length_coder.proofs.coder.encode.Goals as goal
 module _ (c : goal.In-None) where
   pieces : map copies c.loop-group.runs.items ≡ split nat_eq c.args.bytes.now
   pieces =
-      let yielded = rw c.into_iter-group-iterator.ensures.into_iter_gives at c.loop-group.yielded_by in
-      let all = c.sees_pieces.ensures.whole nat_eq Front _ _ (c.new-groups.ensures.settled tt) (_, (_, yielded, c.in-None.ensures.steps)) in
+      let all = c.sees_pieces.ensures.whole nat_eq Front _ _ (c.new-groups.ensures.settled tt)
+      (_, (_, rw c.into_iter-group-iterator.ensures.into_iter_gives at c.loop-group.yielded_by, c.in-None.ensures.steps)) in
       ap (map copies) (c.loop-group.invariant ∙ ap (map run_of) (rw c.new-groups.ensures.remainder at all))
       ∙ map-map copies run_of (split nat_eq c.args.bytes.now)
       ∙ c.equal_pieces_are_copies.ensures.copies nat_eq eqb-true 0 c.args.bytes.now

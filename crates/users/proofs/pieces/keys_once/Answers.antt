@@ -8,9 +8,8 @@ use Rattle.users.proofs.pieces.keys_once.Goals as goal
 pub returns-clause-all : goal.returns-clause-all
 returns-clause-all c =
     let settled = c.new-groups.ensures.settled key (always_returns_same _ _ _ (λ a r f' k. search rules)) tt in
-    let yielded = rw c.into_iter-group-iterator.ensures.into_iter_gives at c.loop-group.yielded_by in
-    let all = rw c.new-groups.ensures.remainder at
-    (c.sees_pieces.ensures.whole same_key Front _ _ settled (_, (_, yielded, c.in-None.ensures.steps))) in
+    let all = rw c.new-groups.ensures.remainder at (c.sees_pieces.ensures.whole same_key Front _ _ settled
+    (_, (_, rw c.into_iter-group-iterator.ensures.into_iter_gives at c.loop-group.yielded_by, c.in-None.ensures.steps))) in
     c.loop-group.invariant ∙ ap (λ gs. map key (map (λ g. get_or g 0 (0, 0)) gs)) all
     ∙ ap (map key) (c.pieces_begin_as_dedup.ensures.begin key (0, 0) c.args.rows.now)
 
