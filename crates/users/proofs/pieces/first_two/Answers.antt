@@ -14,10 +14,12 @@ returns-in_err-second-clause-none c e =
 
 pub returns-clause-groups : goal.returns-clause-groups
 returns-clause-groups c =
-    let settled = c.new-groups.ensures.settled key (always_returns_same _ _ _ (λ a r h k. search rules)) tt in
-    (_, rw c.new-groups.ensures.remainder at (c.sees_pieces.ensures.part same_key Front c.new-groups.result c.next-2.new.self
-    (c.in_ok-first.first ∷ c.in_ok-second.second ∷ []) settled
-    (c.next.new.self, c.in_ok-first.ensures.steps, (c.next-2.new.self, c.in_ok-second.ensures.steps, refl))))
+    let settled = c.new-groups.ensures.settled key (always_returns_same _ _ _ (λ a r h k. search rules)) tt in (
+      _,
+      rw c.new-groups.ensures.remainder at (c.sees_pieces.ensures.part same_key Front c.new-groups.result c.next-2.new.self
+          (c.in_ok-first.first ∷ c.in_ok-second.second ∷ []) settled
+          (c.next.new.self, c.in_ok-first.ensures.steps, (c.next-2.new.self, c.in_ok-second.ensures.steps, refl))),
+    )
 
 pub returns-clause-ascend : goal.returns-clause-ascend
 returns-clause-ascend c up x y at beside =
