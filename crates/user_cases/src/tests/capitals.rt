@@ -1,5 +1,5 @@
 //! A text whose letters are made upper case.
-use users::capitals::capitalize;
+use walkers::capitals::capitalize;
 
 #[test]
 fn groups_of_letters(rt: HostRuntime) {

@@ -1,6 +1,8 @@
 //! Walks by closures, and closures of each kind.
 use slice_group_by::{End, GroupBy};
-use users::closures::{ascending, below, by_tens, counted, equal_bytes, groups_by, groups_by_key};
+use walkers::closures::{
+    ascending, below, by_tens, counted, equal_bytes, groups_by, groups_by_key,
+};
 
 #[derive(PartialEq, Drop)]
 struct Point {

@@ -1,6 +1,6 @@
 //! Outer groups, numbers and lengths of groups of equal elements.
 use slice_group_by::End;
-use users::equal_groups::{
+use walkers::equal_groups::{
     count_groups, equal_groups, first_group, last_group, outer_groups, run_lengths,
 };
 

@@ -1,6 +1,6 @@
 //! Users' functions over the families of groups.
 use slice_group_by::End;
-use users::families::{
+use walkers::families::{
     after_first, count_sorted, first_len, grouped_at_small_cases, sort_and_count, walk_by_first,
     walk_by_tens, walk_families, walk_families_mut,
 };

@@ -1,5 +1,5 @@
 //! An index that is read from a key on.
-use users::index_reader::sum_from;
+use walkers::index_reader::sum_from;
 
 #[test]
 fn reads_from_a_key(rt: HostRuntime) {

@@ -1,6 +1,6 @@
 //! Groups in loops and through adapters.
 use slice_group_by::End;
-use users::loops::{
+use walkers::loops::{
     count_ascending, count_from_the_back, count_groups, longest, nth_length, walk_through,
 };
 

@@ -1,6 +1,7 @@
 //! Small inputs, closures that count, changed elements, and long slices.
 mod capitals;
 mod closures;
+mod conditions;
 mod counts;
 mod counts_of_text;
 mod equal_groups;

@@ -2,7 +2,7 @@
 use slice_group_by::laws::Plan::{Answer, Ask};
 use slice_group_by::laws::{Plan, refute};
 use std::alloc::AllocError;
-use users::plans::halving_plan;
+use walkers::plans::halving_plan;
 
 // What the plan answers where the first group has `len` elements, and after how many questions; of a plan that asks at most
 // 9 questions.

@@ -1,6 +1,6 @@
 //! Walks and runs of texts.
 use slice_group_by::End;
-use users::texts::{ascending, count_runs, equal_runs, first_run, groups_by, groups_by_key};
+use walkers::texts::{ascending, count_runs, equal_runs, first_run, groups_by, groups_by_key};
 
 #[test]
 fn users_of_texts(rt: HostRuntime) {

@@ -1,5 +1,5 @@
 //! A text in tokens.
-use users::tokens::tokens;
+use walkers::tokens::tokens;
 
 #[test]
 fn words_and_numbers(rt: HostRuntime) {

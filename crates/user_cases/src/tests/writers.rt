@@ -1,5 +1,5 @@
 //! Slices written through their groups.
-use users::writers::{clear_all, clear_ends, fill_with_first, reverse_groups};
+use walkers::writers::{clear_all, clear_ends, fill_with_first, reverse_groups};
 
 #[test]
 fn writers(rt: HostRuntime) {

@@ -1,0 +1,38 @@
+//! Calls that have a condition, where it is met: a place for each answer, a predicate that may be called on some pairs alone,
+//! and bytes that are a text.
+ghost use Rattle.std.specs.Prelude.{ℕ, ◌≤◌, ◌<◌, ◌-◌};
+
+use slice_group_by::{End, LinearGroup, LinearGroupBy, LinearStrGroupMut, walk};
+
+/// The first group, the last, and the next from the front. `walk` wants as many places for answers as there are calls.
+pub fn three_outer_groups(slice: &[i32]) -> [Option<&[i32]>; 3] {
+    let mut answers: [Option<&[i32]>; 3] = [None; 3];
+    let ends = [End::Front, End::Back, End::Front];
+    walk(&mut LinearGroup::new(slice), &ends, &mut answers);
+    answers
+}
+
+/// How many groups five places make, by a table of the distances at which two belong together. It may be asked only of two that
+/// ascend and are less than twelve apart, as all neighbours here are.
+pub fn count_by_distance() -> usize {
+    let together = [
+        true, true, false, true, false, false, false, false, false, false, false, true,
+    ];
+    let places = [1, 2, 4, 7, 18];
+    let groups = LinearGroupBy::new(
+        &places,
+        |a: &usize, b: &usize| -> bool
+            requires ascend { a.now ≤ b.now }
+            requires near { b.now - a.now < 12 }
+        { together[b - a] },
+    );
+    groups.count()
+}
+
+/// How many groups of equal characters the bytes have, or `None` where they are no text.
+pub fn count_equal_characters(bytes: &mut [u8]) -> Option<usize> {
+    if std::str::from_utf8(bytes).is_err() {
+        return None;
+    }
+    Some(LinearStrGroupMut::new(bytes).count())
+}

@@ -1,0 +1,14 @@
+//! Users of the library who walk: lists of calls and loops over groups of slices and texts, with closures of their own, and
+//! slices and texts written through their groups.
+#![tactic(auto)]
+
+pub mod capitals;
+pub mod closures;
+pub mod equal_groups;
+pub mod families;
+pub mod index_reader;
+pub mod loops;
+pub mod plans;
+pub mod texts;
+pub mod tokens;
+pub mod writers;
