@@ -54,6 +54,21 @@ macro_rules! questions {
     }};
 }
 
+#[inline]
+fn equal(a: &u32, b: &u32) -> bool {
+    a == b
+}
+
+#[inline]
+fn key(x: &u32) -> u32 {
+    *x >> 1
+}
+
+#[inline]
+fn itself(x: &u32) -> u32 {
+    *x
+}
+
 // Bytes that are known to be UTF-8, as a text: the walk is timed, and not the test.
 #[inline]
 fn text_of(bytes: &[u8]) -> &str
@@ -85,42 +100,42 @@ pub extern "C" fn linear_mut_back(xs: &mut [u32]) -> usize {
 
 #[unsafe(no_mangle)]
 pub extern "C" fn linear_by_front(xs: &[u32]) -> usize {
-    lengths!(LinearGroupBy::new(xs, |a, b| a == b))
+    lengths!(LinearGroupBy::new(xs, equal))
 }
 
 #[unsafe(no_mangle)]
 pub extern "C" fn linear_by_mut_front(xs: &mut [u32]) -> usize {
-    lengths!(LinearGroupByMut::new(xs, |a, b| a == b))
+    lengths!(LinearGroupByMut::new(xs, equal))
 }
 
 #[unsafe(no_mangle)]
 pub extern "C" fn linear_by_back(xs: &[u32]) -> usize {
-    lengths!(LinearGroupBy::new(xs, |a, b| a == b).rev())
+    lengths!(LinearGroupBy::new(xs, equal).rev())
 }
 
 #[unsafe(no_mangle)]
 pub extern "C" fn linear_by_mut_back(xs: &mut [u32]) -> usize {
-    lengths!(LinearGroupByMut::new(xs, |a, b| a == b).rev())
+    lengths!(LinearGroupByMut::new(xs, equal).rev())
 }
 
 #[unsafe(no_mangle)]
 pub extern "C" fn linear_by_key_front(xs: &[u32]) -> usize {
-    lengths!(LinearGroupByKey::new(xs, |x| *x >> 1))
+    lengths!(LinearGroupByKey::new(xs, key))
 }
 
 #[unsafe(no_mangle)]
 pub extern "C" fn linear_by_key_mut_front(xs: &mut [u32]) -> usize {
-    lengths!(LinearGroupByKeyMut::new(xs, |x| *x >> 1))
+    lengths!(LinearGroupByKeyMut::new(xs, key))
 }
 
 #[unsafe(no_mangle)]
 pub extern "C" fn linear_by_key_back(xs: &[u32]) -> usize {
-    lengths!(LinearGroupByKey::new(xs, |x| *x >> 1).rev())
+    lengths!(LinearGroupByKey::new(xs, key).rev())
 }
 
 #[unsafe(no_mangle)]
 pub extern "C" fn linear_by_key_mut_back(xs: &mut [u32]) -> usize {
-    lengths!(LinearGroupByKeyMut::new(xs, |x| *x >> 1).rev())
+    lengths!(LinearGroupByKeyMut::new(xs, key).rev())
 }
 
 #[unsafe(no_mangle)]
@@ -145,42 +160,42 @@ pub extern "C" fn binary_mut_back(xs: &mut [u32]) -> usize {
 
 #[unsafe(no_mangle)]
 pub extern "C" fn binary_by_front(xs: &[u32]) -> usize {
-    lengths!(BinaryGroupBy::new(xs, |a, b| a == b))
+    lengths!(BinaryGroupBy::new(xs, equal))
 }
 
 #[unsafe(no_mangle)]
 pub extern "C" fn binary_by_mut_front(xs: &mut [u32]) -> usize {
-    lengths!(BinaryGroupByMut::new(xs, |a, b| a == b))
+    lengths!(BinaryGroupByMut::new(xs, equal))
 }
 
 #[unsafe(no_mangle)]
 pub extern "C" fn binary_by_back(xs: &[u32]) -> usize {
-    lengths!(BinaryGroupBy::new(xs, |a, b| a == b).rev())
+    lengths!(BinaryGroupBy::new(xs, equal).rev())
 }
 
 #[unsafe(no_mangle)]
 pub extern "C" fn binary_by_mut_back(xs: &mut [u32]) -> usize {
-    lengths!(BinaryGroupByMut::new(xs, |a, b| a == b).rev())
+    lengths!(BinaryGroupByMut::new(xs, equal).rev())
 }
 
 #[unsafe(no_mangle)]
 pub extern "C" fn binary_by_key_front(xs: &[u32]) -> usize {
-    lengths!(BinaryGroupByKey::new(xs, |x| *x >> 1))
+    lengths!(BinaryGroupByKey::new(xs, key))
 }
 
 #[unsafe(no_mangle)]
 pub extern "C" fn binary_by_key_mut_front(xs: &mut [u32]) -> usize {
-    lengths!(BinaryGroupByKeyMut::new(xs, |x| *x >> 1))
+    lengths!(BinaryGroupByKeyMut::new(xs, key))
 }
 
 #[unsafe(no_mangle)]
 pub extern "C" fn binary_by_key_back(xs: &[u32]) -> usize {
-    lengths!(BinaryGroupByKey::new(xs, |x| *x >> 1).rev())
+    lengths!(BinaryGroupByKey::new(xs, key).rev())
 }
 
 #[unsafe(no_mangle)]
 pub extern "C" fn binary_by_key_mut_back(xs: &mut [u32]) -> usize {
-    lengths!(BinaryGroupByKeyMut::new(xs, |x| *x >> 1).rev())
+    lengths!(BinaryGroupByKeyMut::new(xs, key).rev())
 }
 
 #[unsafe(no_mangle)]
@@ -205,42 +220,42 @@ pub extern "C" fn exponential_mut_back(xs: &mut [u32]) -> usize {
 
 #[unsafe(no_mangle)]
 pub extern "C" fn exponential_by_front(xs: &[u32]) -> usize {
-    lengths!(ExponentialGroupBy::new(xs, |a, b| a == b))
+    lengths!(ExponentialGroupBy::new(xs, equal))
 }
 
 #[unsafe(no_mangle)]
 pub extern "C" fn exponential_by_mut_front(xs: &mut [u32]) -> usize {
-    lengths!(ExponentialGroupByMut::new(xs, |a, b| a == b))
+    lengths!(ExponentialGroupByMut::new(xs, equal))
 }
 
 #[unsafe(no_mangle)]
 pub extern "C" fn exponential_by_back(xs: &[u32]) -> usize {
-    lengths!(ExponentialGroupBy::new(xs, |a, b| a == b).rev())
+    lengths!(ExponentialGroupBy::new(xs, equal).rev())
 }
 
 #[unsafe(no_mangle)]
 pub extern "C" fn exponential_by_mut_back(xs: &mut [u32]) -> usize {
-    lengths!(ExponentialGroupByMut::new(xs, |a, b| a == b).rev())
+    lengths!(ExponentialGroupByMut::new(xs, equal).rev())
 }
 
 #[unsafe(no_mangle)]
 pub extern "C" fn exponential_by_key_front(xs: &[u32]) -> usize {
-    lengths!(ExponentialGroupByKey::new(xs, |x| *x >> 1))
+    lengths!(ExponentialGroupByKey::new(xs, key))
 }
 
 #[unsafe(no_mangle)]
 pub extern "C" fn exponential_by_key_mut_front(xs: &mut [u32]) -> usize {
-    lengths!(ExponentialGroupByKeyMut::new(xs, |x| *x >> 1))
+    lengths!(ExponentialGroupByKeyMut::new(xs, key))
 }
 
 #[unsafe(no_mangle)]
 pub extern "C" fn exponential_by_key_back(xs: &[u32]) -> usize {
-    lengths!(ExponentialGroupByKey::new(xs, |x| *x >> 1).rev())
+    lengths!(ExponentialGroupByKey::new(xs, key).rev())
 }
 
 #[unsafe(no_mangle)]
 pub extern "C" fn exponential_by_key_mut_back(xs: &mut [u32]) -> usize {
-    lengths!(ExponentialGroupByKeyMut::new(xs, |x| *x >> 1).rev())
+    lengths!(ExponentialGroupByKeyMut::new(xs, key).rev())
 }
 
 #[unsafe(no_mangle)]
@@ -288,7 +303,7 @@ pub extern "C" fn searches(xs: &[u32], keys: &[u32]) -> usize {
 #[unsafe(no_mangle)]
 pub extern "C" fn merge_join(left: &[u32], right: &[u32]) -> usize {
     let mut sum = 0usize;
-    for (group, partner) in MergeJoin::new(left, |x| *x, right, |x| *x) {
+    for (group, partner) in MergeJoin::new(left, itself, right, itself) {
         sum = sum.wrapping_mul(31).wrapping_add(group.len());
         sum = sum.wrapping_mul(31).wrapping_add(partner.len());
     }

@@ -4,9 +4,31 @@ use std::cell::Cell;
 
 type Pair<'a> = Option<(&'a [i32], &'a [i32])>;
 
+type Bytes<'a> = Option<(&'a [u8], &'a [u8])>;
+
+fn itself(x: &i32) -> i32 {
+    *x
+}
+
+fn number(x: &(i32, i32)) -> i32 {
+    x.0
+}
+
+fn name(x: &(&'static str, i32)) -> &'static str {
+    x.0
+}
+
+fn whole(x: &&'static str) -> &'static str {
+    x
+}
+
+fn nothing(_x: &()) -> i32 {
+    0
+}
+
 // The first three answers, each element being its own key.
 fn three_answers<'a>(left: &'a [i32], right: &'a [i32]) -> [Pair<'a>; 3] {
-    let mut pairs = MergeJoin::new(left, |x| *x, right, |y| *y);
+    let mut pairs = MergeJoin::new(left, itself, right, itself);
     [pairs.next(), pairs.next(), pairs.next()]
 }
 
@@ -32,7 +54,7 @@ fn groups_of_different_lengths(rt: HostRuntime) {
 fn elements_of_different_types(rt: HostRuntime) {
     let left = [(1, 7), (1, 8), (3, 9)];
     let right = [3, 3, 5];
-    let mut pairs = MergeJoin::new(&left, |x| x.0, &right, |y| *y);
+    let mut pairs = MergeJoin::new(&left, number, &right, itself);
     assert!(rt; pairs.next() == Some((&left[2..], &right[..2])) && pairs.next().is_none());
 }
 
@@ -40,7 +62,7 @@ fn elements_of_different_types(rt: HostRuntime) {
 fn keys_that_elements_borrow(rt: HostRuntime) {
     let left = [("apple", 3), ("pear", 5), ("pear", 6)];
     let right = ["fig", "pear"];
-    let mut pairs = MergeJoin::new(&left, |x| x.0, &right, |y| *y);
+    let mut pairs = MergeJoin::new(&left, name, &right, whole);
     assert!(rt; pairs.next() == Some((&left[1..], &right[1..])) && pairs.next().is_none());
 }
 
@@ -49,17 +71,24 @@ fn keys_that_elements_borrow(rt: HostRuntime) {
 fn elements_of_no_bytes(rt: HostRuntime) {
     let left = [(); 5];
     let right = [(); 3];
-    let mut pairs = MergeJoin::new(&left, |_x| 0, &right, |_y| 0);
+    let mut pairs = MergeJoin::new(&left, nothing, &right, nothing);
     let lengths = pairs
         .next()
         .map(|(group, partner)| (group.len(), partner.len()));
     assert!(rt; lengths == Some((5, 3)) && pairs.next().is_none());
 }
 
-// The element as its key, whose computation is counted.
-fn counted(calls: &Cell<u32>, x: u8) -> u8 {
-    calls.set(calls.get().wrapping_add(1));
-    x
+// The first pair, the second, and how often a key was computed, each element being its own.
+fn counted<'a>(left: &'a [u8], right: &'a [u8]) -> (Bytes<'a>, Bytes<'a>, u32) {
+    let calls = Cell::new(0u32);
+    let itself = |x: &u8| {
+        calls.set(calls.get().wrapping_add(1));
+        *x
+    };
+    let mut pairs = MergeJoin::new(left, &itself, right, &itself);
+    let first = pairs.next();
+    let second = pairs.next();
+    (first, second, calls.get())
 }
 
 // A long group with no partner is passed over by few calls of the key functions.
@@ -67,33 +96,17 @@ fn counted(calls: &Cell<u32>, x: u8) -> u8 {
 fn passes_over_a_thousand(rt: HostRuntime) {
     let mut left = [0u8; 1001];
     left[1000] = 1;
-    let right = [1u8];
-    let calls = Cell::new(0u32);
-    let mut pairs = MergeJoin::new(
-        &left,
-        |x| counted(&calls, *x),
-        &right,
-        |y| counted(&calls, *y),
-    );
-    assert!(rt; matches!(pairs.next(), Some(([1], [1]))) && pairs.next().is_none());
-    assert!(rt; calls.get() <= 200);
+    let (first, second, calls) = counted(&left, &[1]);
+    assert!(rt; matches!(first, Some(([1], [1]))) && second.is_none());
+    assert!(rt; calls <= 200);
 }
 
 // A million equal elements are one group, which is found by few calls of the key functions.
 #[test]
 fn joins_a_million_with_one(rt: HostRuntime) {
     let left = vec![in rt.alloc(); 7u8; 1_000_000].expect(&rt, "memory");
-    let right = [7u8];
-    let calls = Cell::new(0u32);
-    let mut pairs = MergeJoin::new(
-        &left,
-        |x| counted(&calls, *x),
-        &right,
-        |y| counted(&calls, *y),
-    );
-    let lengths = pairs
-        .next()
-        .map(|(group, partner)| (group.len(), partner.len()));
-    assert!(rt; lengths == Some((1_000_000, 1)) && pairs.next().is_none());
-    assert!(rt; calls.get() <= 100);
+    let (first, second, calls) = counted(&left, &[7]);
+    let lengths = first.map(|(group, partner)| (group.len(), partner.len()));
+    assert!(rt; lengths == Some((1_000_000, 1)) && second.is_none());
+    assert!(rt; calls <= 100);
 }
