@@ -268,6 +268,22 @@ fn main() {
         reading(rounds, &format!("{name}, front"), walks[0], peers[0]);
         reading(rounds, &format!("{name}, back"), walks[1], peers[1]);
     }
+    let alike: [(&str, [Peers; 2], [ffi::Read; 2]); 2] = [
+        (
+            "Binary by equality beside halving alone",
+            [&[("`partition_point`", peers::partition_point)], &[("`partition_point`", peers::partition_point_back)]],
+            [ffi::binary_front, ffi::binary_back],
+        ),
+        (
+            "Exponential by equality beside galloping alone",
+            [&[("galloping and `partition_point`", peers::gallop)], &[("galloping and `partition_point`", peers::gallop_back)]],
+            [ffi::exponential_front, ffi::exponential_back],
+        ),
+    ];
+    for (name, peers, walks) in alike {
+        reading(rounds, &format!("{name}, front"), walks[0], peers[0]);
+        reading(rounds, &format!("{name}, back"), walks[1], peers[1]);
+    }
     let by_element_mut = [peers::chunk_by_mut as fn(&mut [u32]) -> usize, peers::chunk_by_mut_rev];
     let by_key_mut = [peers::chunk_by_key_mut as fn(&mut [u32]) -> usize, peers::chunk_by_key_mut_rev];
     let walks_mut: [(&str, [fn(&mut [u32]) -> usize; 2], [ffi::Write; 2]); 9] = [

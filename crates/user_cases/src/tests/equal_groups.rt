@@ -9,15 +9,14 @@ fn answers_as_a_queue(rt: HostRuntime) {
     let slice = [1, 1, 2];
     let mut out: [Option<&[i32]>; 2] = [None; 2];
     equal_groups(&slice, &[End::Back, End::Back], &mut out);
-    assert_eq!(rt; out[0], Some([2].as_slice()));
-    assert_eq!(rt; out[1], Some([1, 1].as_slice()));
+    assert!(rt; matches!(out, [Some([2]), Some([1, 1])]));
 }
 
 #[test]
 fn counts_groups(rt: HostRuntime) {
     let none: [i32; 0] = [];
-    assert_eq!(rt; count_groups(&none), 0);
-    assert_eq!(rt; count_groups(&[1, 1, 1, 3, 3, 2, 2, 2]), 3);
+    let counts = [count_groups(&none), count_groups(&[1, 1, 1, 3, 3, 2, 2, 2])];
+    assert_eq!(rt; counts, [0, 3]);
 }
 
 #[test]

@@ -7,12 +7,17 @@ use walkers::loops::{
 #[test]
 fn counts(rt: HostRuntime) {
     let slice = [1, 1, 1, 3, 3, 2, 2, 2];
-    assert_eq!(rt; count_groups(&slice), 3);
-    assert_eq!(rt; count_from_the_back(&slice), 3);
-    assert_eq!(rt; count_ascending(&[1, 2, 3, 2, 3]), 2);
-    assert_eq!(rt; longest(&slice), 3);
-    assert_eq!(rt; nth_length(&slice, 1), Some(2));
-    assert_eq!(rt; nth_length(&slice, 3), None);
+    let counts = [
+        count_groups(&slice),
+        count_from_the_back(&slice),
+        count_ascending(&[1, 2, 3, 2, 3]),
+        longest(&slice),
+    ];
+    assert_eq!(rt; counts, [3, 3, 2, 3]);
+    assert_eq!(rt;
+        [nth_length(&slice, 1), nth_length(&slice, 3)],
+        [Some(2), None]
+    );
 }
 
 #[test]

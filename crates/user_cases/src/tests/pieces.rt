@@ -3,8 +3,7 @@ use users::pieces::{common_keys_if_sorted, count_descending, deduped_len, first_
 
 #[test]
 fn as_dedup_counts(rt: HostRuntime) {
-    assert_eq!(rt; deduped_len(&[]), 0);
-    assert_eq!(rt; deduped_len(&[1, 1, 2, 2, 1]), 3);
+    assert_eq!(rt; [deduped_len(&[]), deduped_len(&[1, 1, 2, 2, 1])], [0, 3]);
 }
 
 #[test]
@@ -14,12 +13,12 @@ fn descending_slice_by_halving(rt: HostRuntime) {
 
 #[test]
 fn common_keys_of_sorted_slices_alone(rt: HostRuntime) {
-    assert_eq!(rt;
+    let counts = [
         common_keys_if_sorted(&[(1, 10), (1, 11), (3, 12)], &[(1, 0), (2, 0), (3, 0)]),
-        Some(2)
-    );
-    assert!(rt; common_keys_if_sorted(&[(3, 10), (1, 11)], &[(1, 0)]).is_none());
-    assert!(rt; common_keys_if_sorted(&[(1, 10)], &[(2, 0), (1, 0)]).is_none());
+        common_keys_if_sorted(&[(3, 10), (1, 11)], &[(1, 0)]),
+        common_keys_if_sorted(&[(1, 10)], &[(2, 0), (1, 0)]),
+    ];
+    assert_eq!(rt; counts, [Some(2), None, None]);
 }
 
 #[test]
