@@ -1,6 +1,6 @@
 //! Calls that have a condition, where it is met: a place for each answer, a predicate that may be called on some pairs alone,
 //! and bytes that are a text.
-ghost use Rattle.std.specs.Prelude.{ℕ, ◌≤◌, ◌<◌, ◌-◌};
+ghost use Rattle.std.specs.Prelude.{◌≤◌, ◌<◌, ◌-◌};
 
 use slice_group_by::{End, LinearGroup, LinearGroupBy, LinearStrGroupMut, walk};
 
