@@ -124,18 +124,19 @@ fn texts(rounds: usize) {
 }
 
 fn searches(rounds: usize) {
-    head("Searches", "a search", "`binary_search`");
     let xs: Vec<u32> = (0..1_000_000).map(|x| 2 * x).collect();
     let mut numbers = Numbers(3);
     let anywhere: Vec<u32> = (0..1000).map(|_| numbers.below(2_000_000) as u32).collect();
     let near: Vec<u32> = (0..1000).map(|_| numbers.below(40) as u32).collect();
-    for (name, keys) in [("anywhere in a million", &anywhere), ("within the first twenty", &near)] {
-        assert_eq!(
-            unsafe { ffi::searches(xs.as_ptr(), xs.len(), keys.as_ptr(), keys.len()) },
-            peers::binary_searches(&xs, keys)
-        );
-        let mut ours = || unsafe { ffi::searches(xs.as_ptr(), xs.len(), keys.as_ptr(), keys.len()) };
-        row(name, keys.len(), &in_turn(rounds, &mut [&mut ours, &mut || peers::binary_searches(&xs, keys)]));
+    let peers: [(&str, fn(&[u32], &[u32]) -> usize); 2] =
+        [("`binary_search`", peers::binary_searches), ("galloping and `binary_search`", peers::galloping_searches)];
+    for (what, peer) in peers {
+        head(&format!("Searches beside {what}"), "a search", what);
+        for (name, keys) in [("anywhere in a million", &anywhere), ("within the first twenty", &near)] {
+            let mut ours = || unsafe { ffi::searches(xs.as_ptr(), xs.len(), keys.as_ptr(), keys.len()) };
+            assert_eq!(ours(), peer(&xs, keys), "{what}");
+            row(name, keys.len(), &in_turn(rounds, &mut [&mut ours, &mut || peer(&xs, keys)]));
+        }
     }
 }
 
@@ -268,14 +269,22 @@ fn main() {
         reading(rounds, &format!("{name}, front"), walks[0], peers[0]);
         reading(rounds, &format!("{name}, back"), walks[1], peers[1]);
     }
-    let alike: [(&str, [Peers; 2], [ffi::Read; 2]); 2] = [
+    let alike: [(&str, [Peers; 2], [ffi::Read; 2]); 3] = [
         (
             "Binary by equality beside halving alone",
             [&[("`partition_point`", peers::partition_point)], &[("`partition_point`", peers::partition_point_back)]],
             [ffi::binary_front, ffi::binary_back],
         ),
         (
-            "Exponential by equality beside galloping alone",
+            "Exponential by equality beside galloping at the same places",
+            [
+                &[("galloping and `partition_point`", peers::gallop_alike)],
+                &[("galloping and `partition_point`", peers::gallop_alike_back)],
+            ],
+            [ffi::exponential_front, ffi::exponential_back],
+        ),
+        (
+            "Exponential by equality beside galloping from the neighbour on",
             [&[("galloping and `partition_point`", peers::gallop)], &[("galloping and `partition_point`", peers::gallop_back)]],
             [ffi::exponential_front, ffi::exponential_back],
         ),

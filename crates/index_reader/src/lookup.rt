@@ -38,7 +38,7 @@ fn cut_at(index: &[Entry], limit: u64) -> Cut<'_>
     requires { IsAscending index.now }
     ensures lower { result.lower.now ≡ lower limit index.now }
     ensures others { result.others.now ≡ at_least limit index.now }
-    ensures joins { index.now ≡ result.lower.now ++ result.others.now }
+    ensures covers { index.now ≡ result.lower.now ++ result.others.now }
     ensures comparisons { result.comparisons ≤ 2 * digits (length result.lower.now) + 1 }
 {
     partitioned_pieces::<Entry>();

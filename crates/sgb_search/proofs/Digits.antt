@@ -2,7 +2,7 @@
 use Rattle.std.specs.Prelude.{ℕ, ◌+◌, ◌-◌, ◌*◌, ◌/◌, ◌^◌, ◌<◌, ◌≤◌, ◌≡◌}
 use Rattle.std.proofs.Common.{zero, suc, arith, refl}
 use Rattle.std.proofs.Math.Nat.{pow-suc, pow-zero}
-use Rattle.std.proofs.lemmas.Nat.{pow_pos, mul-le, row_fits}
+use Rattle.std.proofs.lemmas.Nat.{mul-le, row_fits}
 use Rattle.sgb_search.specs.Searching.{digits, digits_within, binary, exponential, IsWithin}
 
 above_within : (most m : ℕ) → m ≤ most → m < 2 ^ digits_within most m
@@ -43,14 +43,6 @@ digits_half m h pos le = by (digits m) (digits_above m)
     by : (d : ℕ) → m < 2 ^ d → digits h + 1 ≤ d
     by zero b = absurd (omega (arith, rw (pow-zero 2) at b))
     by (suc d) b = let below : h < 2 ^ d = omega (arith, rw (pow-suc 2 d) at b) in omega (arith, digits_least h d below)
-
--- a number from 2 ^ k on has more than k digits
-pub digits_from : (k m : ℕ) → 2 ^ k ≤ m → k + 1 ≤ digits m
-digits_from zero m h = omega (arith, digits_half m 0 (omega (arith, rw (pow-zero 2) at h)) (omega arith))
-digits_from (suc k) m h =
-    let low : 2 ^ k ≤ m / 2 = omega (arith, rw (pow-suc 2 k) at h) in
-    let pos : 0 < m = omega (arith, pow_pos k) in
-    omega (arith, digits_from k (m / 2) low, digits_half m (m / 2) pos (omega arith))
 
 within_most : (most m : ℕ) → digits_within most m ≤ most
 within_most zero m = omega arith

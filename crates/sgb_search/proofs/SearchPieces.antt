@@ -49,7 +49,7 @@ module _ {J T : Type 0} (judge : Ghosts J T) (p : T → T → Bool) (xs : List T
 -- the local boundary of a grouped list is where the first piece ends
 module _ {T : Type 0} (p : T → T → Bool) where
   accepted_push : (xs : List T) (a y : T) → last xs ≡ Some a → IsAccepted p xs → p a y ≡ true → IsAccepted p (xs ++ y ∷ [])
-  accepted_push [] a y e h t = cc e
+  accepted_push [] a y e h t = tt
   accepted_push (x ∷ []) a y e h t = let same : x ≡ a = cc e in (ap (λ (z : T). p z y) same ∙ t, tt)
   accepted_push (x ∷ z ∷ zs) a y e h t = (h.0, accepted_push (z ∷ zs) a y e h.1 t)
 

@@ -40,7 +40,7 @@ module _ {A : Type 0} (p : A → A → Bool) where
     others = h.others;
     is = ap (put_before p true x) h.is;
     whole = record {
-      joins = ap (λ l. x ∷ l) h.whole.joins;
+      covers = ap (λ l. x ∷ l) h.whole.covers;
       nonempty = (λ n. cc n, h.whole.nonempty.1);
       accepted = ((e, h.whole.accepted.0), h.whole.accepted.1);
       refused = refused_longer x y h.more h.others h.whole.refused;
@@ -51,7 +51,7 @@ module _ {A : Type 0} (p : A → A → Bool) where
     others = (y ∷ h.more) ∷ h.others;
     is = ap (put_before p false x) h.is;
     whole = record {
-      joins = ap (λ l. x ∷ l) h.whole.joins;
+      covers = ap (λ l. x ∷ l) h.whole.covers;
       nonempty = (λ n. cc n, h.whole.nonempty);
       accepted = (tt, h.whole.accepted);
       refused = (λ a b i j. cc (e, i, j), h.whole.refused);
@@ -64,12 +64,12 @@ module _ {A : Type 0} (p : A → A → Bool) where
         more = [];
         others = [];
         is = refl;
-        whole = record { joins = refl; nonempty = (λ n. cc n, tt); accepted = (tt, tt); refused = tt };
+        whole = record { covers = refl; nonempty = (λ n. cc n, tt); accepted = (tt, tt); refused = tt };
       }
   split_begins x (y ∷ ys) = begins_at x y ys (p x y) refl (split p (y ∷ ys)) (split_begins y ys)
 
   pub split_is : (xs : List A) → IsSplit p xs (split p xs)
-  split_is [] = record { joins = refl; nonempty = tt; accepted = tt; refused = tt }
+  split_is [] = record { covers = refl; nonempty = tt; accepted = tt; refused = tt }
   split_is (x ∷ xs) = let h = split_begins x xs in subst (IsSplit p (x ∷ xs)) (sym h.is) h.whole
 
   -- a list that begins with a piece
@@ -100,7 +100,7 @@ module _ {A : Type 0} (p : A → A → Bool) where
       ∙ ap (λ l. (x ∷ xs) ∷ l) (split_joined gs n.1 a.1 (refused_after (x ∷ xs) gs r))
 
   pub split_only : (xs : List A) (ps : List (List A)) → IsSplit p xs ps → ps ≡ split p xs
-  split_only xs ps h = sym (split_joined ps h.nonempty h.accepted h.refused) ∙ ap (split p) h.joins
+  split_only xs ps h = sym (split_joined ps h.nonempty h.accepted h.refused) ∙ ap (split p) h.covers
 
   -- a list that ends with a piece
   put_before_push : (b : Bool) (x : A) (g : List A) (gs : List (List A)) (h : List A)

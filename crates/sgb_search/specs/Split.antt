@@ -101,7 +101,7 @@ module _ {A : Type 0} where
 
     -- ps is the split of xs: no piece is empty, neighbours inside a piece are accepted, and neighbours across two pieces are refused
     pub record IsSplit (xs : List A) (ps : List (List A)) : Type 0 where
-      pub joins : concat ps ≡ xs
+      pub covers : concat ps ≡ xs
       pub nonempty : AllByRecursion (λ g. g ≢ []) ps
       pub accepted : AllByRecursion IsAccepted ps
       pub refused : AllByRecursion IsRefusedAcross (neighbours ps)

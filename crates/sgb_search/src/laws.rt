@@ -16,7 +16,7 @@ ghost use Rattle.sgb_search.specs.declared.judge.EqualityJudge.{EqualityJudge};
 /// Each list has exactly one split for a test, whose pieces joined are the list. It has one piece more than the test refuses
 /// pairs, and none if it is empty.
 pub fn one_split<T>()
-    ensures joins { (p : T → T → Bool) (xs : List T) → concat (split p xs) ≡ xs }
+    ensures covers { (p : T → T → Bool) (xs : List T) → concat (split p xs) ≡ xs }
     ensures exists { (p : T → T → Bool) (xs : List T) → IsSplit p xs (split p xs) }
     ensures unique { (p : T → T → Bool) (xs : List T) (ps : List (List T)) → IsSplit p xs ps → ps ≡ split p xs }
     ensures count { (p : T → T → Bool) (xs : List T) → 0 < length xs → length (split p xs) ≡ refused_pairs p xs + 1 }
@@ -165,7 +165,8 @@ pub fn digits_is_least()
 /// What an `Err(i)` of a search says, as two facts: the comparator answers `Less` of the first i elements, and `Greater` of the
 /// others.
 pub fn gap_parts<T>()
-    ensures before { (ord : T → Ordering) (xs : List T) (i : ℕ) → IsGap ord xs i → AllByRecursion (λ x. ord x ≡ Less) (take i xs) }
+    ensures before { (ord : T → Ordering) (xs : List T) (i : ℕ) → IsGap ord xs i
+        → AllByRecursion (λ x. ord x ≡ Less) (take i xs) }
     ensures after { (ord : T → Ordering) (xs : List T) (i : ℕ) → IsGap ord xs i
         → AllByRecursion (λ x. ord x ≡ Greater) (drop i xs) }
 {}

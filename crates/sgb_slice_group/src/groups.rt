@@ -71,7 +71,7 @@ pub trait GroupEnd {
     ghost exact: { Bool };
 
     // They do where the judge answers what the test says and the elements fit it.
-    ghost settles: { (T J : Type 0) (g : Ghosts J T) (s : Groups T J) (p : T → T → Bool)
+    ghost settled_if_fits: { (T J : Type 0) (g : Ghosts J T) (s : Groups T J) (p : T → T → Bool)
         → ComputesBy (allowed T) g s p → fits T p s.remainder → settled T J g s p };
 
     // A call on a settled iterator takes the piece there of the split, and leaves it settled.

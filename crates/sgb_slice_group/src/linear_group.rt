@@ -98,7 +98,7 @@ impl GroupEnd for Linear {
 
     ghost exact = { true };
 
-    ghost settles = { λ T J g s p computes fits. computes };
+    ghost settled_if_fits = { λ T J g s p computes fits. computes };
 
     ghost piece = { λ T J. laws.piece };
 

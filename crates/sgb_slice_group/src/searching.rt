@@ -48,7 +48,7 @@ impl<S: GroupSearch> GroupEnd for Search<S> {
 
     ghost exact = { false };
 
-    ghost settles = { λ T J g s p computes fits. record { computes = computes; grouped = fits } };
+    ghost settled_if_fits = { λ T J g s p computes fits. record { computes = computes; grouped = fits } };
 
     ghost piece = { λ T J g. laws.piece g S.cost };
 

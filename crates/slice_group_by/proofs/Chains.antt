@@ -6,6 +6,7 @@ use Rattle.std.proofs.lemmas.List.{append-nil, reverse-append}
 use Rattle.std.proofs.lemmas.Grind.{flat_map-append}
 use Rattle.sgb_search.specs.Split.{put_at, TakesPart, first, last, without_first, without_last, IsSplit, IsAccepted, TakesPiece, split, concat}
 use Rattle.sgb_search.proofs.Splits.{split_is, split_only}
+use Rattle.sgb_search.proofs.Grouped.{last_is}
 use Rattle.sgb_search.specs.declared.end.End.{End}
 use Rattle.sgb_search.specs.declared.end.End.TheVariants.{Front, Back}
 use Rattle.sgb_search.specs.Judges.{AsksWithin}
@@ -31,13 +32,8 @@ pub first_and_others : {X : Type 0} (xs : List X) (x : X) (ys : List X) → Some
 first_and_others [] x ys e h = cc e
 first_and_others (z ∷ zs) x ys e h = cc (e, h)
 
-others_then_last : {X : Type 0} (xs : List X) (x : X) → Some x ≡ last xs → xs ≡ without_last xs ++ x ∷ []
-others_then_last [] x e = cc e
-others_then_last (y ∷ []) x e = cc e
-others_then_last (y ∷ z ∷ zs) x e = ap (λ l. y ∷ l) (others_then_last (z ∷ zs) x e)
-
 pub others_and_last : {X : Type 0} (xs : List X) (x : X) (ys : List X) → Some x ≡ last xs → ys ≡ without_last xs → xs ≡ ys ++ x ∷ []
-others_and_last xs x ys e h = others_then_last xs x e ∙ ap (λ l. l ++ x ∷ []) (sym h)
+others_and_last xs x ys e h = last_is xs x (sym e) ∙ ap (λ l. l ++ x ∷ []) (sym h)
 
 -- the piece, at its end of the others
 pub piece_and_others : {A : Type 0} (e : End) (p : A → A → Bool) (xs group ys : List A) → TakesPiece p e xs (Some group) ys

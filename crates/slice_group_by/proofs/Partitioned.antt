@@ -121,8 +121,8 @@ module _ {T : Type 0} (test : T → Bool) where
   pub pieces : (xs : List T) → IsPartitionedBy test xs → split together xs ≡ parts (passed xs) (failed xs)
   pieces xs h = two_pieces xs (stays xs h)
 
-  pub joins : (xs : List T) → IsPartitionedBy test xs → passed xs ++ failed xs ≡ xs
-  joins xs h = both_parts xs (stays xs h)
+  pub covers : (xs : List T) → IsPartitionedBy test xs → passed xs ++ failed xs ≡ xs
+  covers xs h = both_parts xs (stays xs h)
 
   pub first_piece : (xs : List T) (x : T) → IsPartitionedBy test xs → slice_get xs 0 ≡ Some x → test x ≡ true
       → first (split together xs) ≡ Some (passed xs)

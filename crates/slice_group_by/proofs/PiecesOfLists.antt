@@ -23,7 +23,7 @@ module _ {T : Type 0} where
   lengths_of (g ∷ gs) = sum_by-cons length g gs ∙ ap (λ n. length g + n) (lengths_of gs) ∙ sym (length-append g (concat gs))
 
   pub lengths : (p : T → T → Bool) (xs : List T) → sum_by length (split p xs) ≡ length xs
-  lengths p xs = lengths_of (split p xs) ∙ ap length (split_is p xs).joins
+  lengths p xs = lengths_of (split p xs) ∙ ap length (split_is p xs).covers
 
   sums_of : (f : T → ℕ) (gs : List (List T)) → sum_by (λ g. sum_by f g) gs ≡ sum_by f (concat gs)
   sums_of f [] = refl
@@ -31,7 +31,7 @@ module _ {T : Type 0} where
       sum_by-cons (λ g. sum_by f g) g gs ∙ ap (λ n. sum_by f g + n) (sums_of f gs) ∙ sym (sum_by-append f g (concat gs))
 
   pub sums : (p : T → T → Bool) (f : T → ℕ) (xs : List T) → sum_by (λ g. sum_by f g) (split p xs) ≡ sum_by f xs
-  sums p f xs = sums_of f (split p xs) ∙ ap (sum_by f) (split_is p xs).joins
+  sums p f xs = sums_of f (split p xs) ∙ ap (sum_by f) (split_is p xs).covers
 
   module _ (p : T → T → Bool) (equal : (x y : T) → p x y ≡ true → x ≡ y) where
     copied : (x : T) (xs : List T) → IsAccepted p (x ∷ xs) → x ∷ xs ≡ replicate (length (x ∷ xs)) x
@@ -64,7 +64,8 @@ module _ {T : Type 0} where
     copied_back d xs = each_back d (split p xs) (split_is p xs).accepted
 
 -- a test of keys is one of the elements
-pub by_keys : {T K : Type 0} (eq : K → K → Bool) → IsPartialEquivalence eq → (key : T → K) → IsPartialEquivalence (λ x y. eq (key x) (key y))
+pub by_keys : {T K : Type 0} (eq : K → K → Bool) → IsPartialEquivalence eq → (key : T → K)
+    → IsPartialEquivalence (λ x y. eq (key x) (key y))
 by_keys eq per key = record {
   symm = λ x y. per.symm (key x) (key y);
   trans = λ x y z. per.trans (key x) (key y) (key z);

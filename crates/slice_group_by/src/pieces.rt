@@ -23,8 +23,8 @@ pub fn pieces_by_key<T, K: Ord>()
 
 /// A piece by a test that accepts equal elements alone is its first element, so many times.
 pub fn equal_pieces_are_copies<T>()
-    ensures one { (p : T → T → Bool) → ((x y : T) → p x y ≡ true → x ≡ y) → (xs g : List T) (x : T) → Contains (split p xs) g
-        → first g ≡ Some x → g ≡ replicate (length g) x }
+    ensures one { (p : T → T → Bool) → ((x y : T) → p x y ≡ true → x ≡ y) → (xs g : List T) (x : T)
+        → Contains (split p xs) g → first g ≡ Some x → g ≡ replicate (length g) x }
     ensures copies { (p : T → T → Bool) → ((x y : T) → p x y ≡ true → x ≡ y) → (d : T) (xs : List T)
         → map (λ g. replicate (length g) (get_or g 0 d)) (split p xs) ≡ split p xs }
     ensures each { (p : T → T → Bool) → ((x y : T) → p x y ≡ true → x ≡ y) → (xs : List T)
@@ -52,12 +52,14 @@ pub fn pieces_add_up<T>()
 /// they pass. Its pieces are those that pass and those that fail, as the standard library's `filter` gives them, where there are
 /// any; and the two are the list. The first element says which piece comes first.
 pub fn partitioned_pieces<T>()
-    ensures grouped { (test : T → Bool) (xs : List T) → IsPartitionedBy test xs → IsGrouped (λ x y. beq (test x) (test y)) xs }
+    ensures grouped { (test : T → Bool) (xs : List T) → IsPartitionedBy test xs
+        → IsGrouped (λ x y. beq (test x) (test y)) xs }
     ensures pieces { (test : T → Bool) (xs : List T) → IsPartitionedBy test xs → split (λ x y. beq (test x) (test y)) xs
         ≡ filter (λ g. nat_lt 0 (length g)) (filter test xs ∷ filter (λ x. not (test x)) xs ∷ []) }
-    ensures joins { (test : T → Bool) (xs : List T) → IsPartitionedBy test xs
+    ensures covers { (test : T → Bool) (xs : List T) → IsPartitionedBy test xs
         → filter test xs ++ filter (λ x. not (test x)) xs ≡ xs }
-    ensures first { (test : T → Bool) (xs : List T) (x : T) → IsPartitionedBy test xs → slice_get xs 0 ≡ Some x → test x ≡ true
+    ensures first { (test : T → Bool) (xs : List T) (x : T) → IsPartitionedBy test xs
+        → slice_get xs 0 ≡ Some x → test x ≡ true
         → first (split (λ x y. beq (test x) (test y)) xs) ≡ Some (filter test xs) }
     ensures none { (test : T → Bool) (xs : List T) → IsPartitionedBy test xs
         → ((x : T) → slice_get xs 0 ≡ Some x → test x ≡ false) → filter test xs ≡ [] }

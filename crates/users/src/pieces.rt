@@ -74,7 +74,8 @@ pub fn keys_once(alloc: Global, rows: &[Entry]) -> Result<Vec<u32>, AllocError>
 /// How many keys both slices have, or `None` where one of them does not ascend by its keys.
 pub fn common_keys_if_sorted(left: &[Entry], right: &[Entry]) -> Option<usize>
     ensures counts { IfSome result (λ count. count ≡ common_keys (map key left.now) (map key right.now)) }
-    ensures sorted { NeverDescends nat_cmp (map key left.now) → NeverDescends nat_cmp (map key right.now) → IsSome result }
+    ensures sorted { NeverDescends nat_cmp (map key left.now) → NeverDescends nat_cmp (map key right.now)
+        → IsSome result }
 {
     sorted_by_key_ascends::<Entry, u32>();
     if !left.is_sorted_by_key(|e| e.0) {

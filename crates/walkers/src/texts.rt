@@ -16,7 +16,8 @@ use slice_group_by::{
 /// Calls at these ends answer as the two-ended queue of the pieces of the split of the characters, by characters and by bytes.
 pub fn equal_runs<'a>(text: &'a str, ends: &[End], out: &mut [Option<&'a str>])
     requires { length out.old ≡ length ends.now }
-    ensures characters { map (option_map (λ group. chars group.now)) out.new ≡ pops (split nat_eq (chars text.now)) ends.now }
+    ensures characters { map (option_map (λ group. chars group.now)) out.new
+        ≡ pops (split nat_eq (chars text.now)) ends.now }
     ensures bytes { map (option_map (λ group. group.now)) out.new
         ≡ map (option_map encodes) (pops (split nat_eq (chars text.now)) ends.now) }
 {

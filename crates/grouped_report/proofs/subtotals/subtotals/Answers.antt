@@ -43,12 +43,12 @@ returns-clause-once c d =
     ap (count_of d) (lines c)
     ∙ once d _ (is_split c).nonempty (is_split c).accepted
     (c.partners_are_unique.ensures.right department department _ (never_descends c))
-    ∙ ap (λ rows. min 1 (count_of d rows)) (is_split c).joins
+    ∙ ap (λ rows. min 1 (count_of d rows)) (is_split c).covers
     ∙ ap (λ n. min 1 n) (sum_by-IsPermutation _ _ _ c.in_ok-sort_by_key.ensures.permutation)
 
 pub returns-clause-amounts : goal.returns-clause-amounts
 returns-clause-amounts c d =
-    ap (amount_of d) (lines c) ∙ amounts d _ (is_split c).nonempty (is_split c).accepted ∙ ap (amount_of d) (is_split c).joins
+    ap (amount_of d) (lines c) ∙ amounts d _ (is_split c).nonempty (is_split c).accepted ∙ ap (amount_of d) (is_split c).covers
     ∙ sum_by-IsPermutation _ _ _ c.in_ok-sort_by_key.ensures.permutation
 
 pub returns-clause-total : goal.returns-clause-total

@@ -65,7 +65,7 @@ returns-then-not-starts_below-clause-lower c = sym (none c)
 
 pub returns-then-not-starts_below-clause-others : goal.returns-then-not-starts_below-clause-others
 returns-then-not-starts_below-clause-others c =
-    sym (rw (none c) at (c.partitioned_pieces.ensures.joins (λ e. nat_lt e.key c.args.limit) c.args.index.now
+    sym (rw (none c) at (c.partitioned_pieces.ensures.covers (λ e. nat_lt e.key c.args.limit) c.args.index.now
     (IsPartitionedBy-ltb (λ e. e.key) c.args.index.now c.args.limit c.requires)))
 
 module _ (c : goal.After-comparisons-2-1) where
@@ -97,11 +97,11 @@ returns-clause-lower c = part c
 pub returns-clause-others : goal.returns-clause-others
 returns-clause-others c =
     append_cancel_left (lower c.args.limit c.args.index.now) _ _ (sym (joined c)
-    ∙ sym (c.partitioned_pieces.ensures.joins (λ e. nat_lt e.key c.args.limit) c.args.index.now
+    ∙ sym (c.partitioned_pieces.ensures.covers (λ e. nat_lt e.key c.args.limit) c.args.index.now
     (IsPartitionedBy-ltb (λ e. e.key) c.args.index.now c.args.limit c.requires)))
 
-pub returns-clause-joins : goal.returns-clause-joins
-returns-clause-joins c = rw (part c) (joined c)
+pub returns-clause-covers : goal.returns-clause-covers
+returns-clause-covers c = rw (part c) (joined c)
 
 pub returns-clause-comparisons : goal.returns-clause-comparisons
 returns-clause-comparisons c =

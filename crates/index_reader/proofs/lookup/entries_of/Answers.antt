@@ -35,5 +35,5 @@ returns-clause-place c =
     let higher = rw c.from-limit.ensures at c.cut_at-found.ensures.others ∙ ap (at_least (c.args.key + 1)) others
     ∙ (cut_twice c.args.key c.args.index.now).1 in
     let low = rw c.from-limit.ensures at c.cut_at-skipped.ensures.lower in
-    rw (low, higher) at (c.cut_at-skipped.ensures.joins
-    ∙ ap (λ ys. c.cut_at-skipped.result.lower.now ++ ys) c.cut_at-found.ensures.joins)
+    rw (low, higher) at (c.cut_at-skipped.ensures.covers
+    ∙ ap (λ ys. c.cut_at-skipped.result.lower.now ++ ys) c.cut_at-found.ensures.covers)

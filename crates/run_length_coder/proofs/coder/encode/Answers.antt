@@ -24,4 +24,4 @@ returns-clause-longest c = pieces c
 pub returns-clause-decodes : goal.returns-clause-decodes
 returns-clause-decodes c =
     sym (flat_map-map (λ g. g) copies c.loop-group.runs.items) ∙ ap concat (pieces c)
-    ∙ c.one_split.ensures.joins nat_eq c.args.bytes.now
+    ∙ c.one_split.ensures.covers nat_eq c.args.bytes.now

@@ -1,8 +1,8 @@
 use Rattle.sgb_search.proofs.Splits.{split_is, split_only, length-split}
 use Rattle.sgb_search.proofs.laws.one_split.Goals as goal
 
-pub returns-clause-joins : goal.returns-clause-joins
-returns-clause-joins g c p xs = (split_is p xs).joins
+pub returns-clause-covers : goal.returns-clause-covers
+returns-clause-covers g c p xs = (split_is p xs).covers
 
 pub returns-clause-exists : goal.returns-clause-exists
 returns-clause-exists g c = split_is

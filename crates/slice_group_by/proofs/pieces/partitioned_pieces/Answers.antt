@@ -1,4 +1,4 @@
-use Rattle.slice_group_by.proofs.Partitioned.{grouped, pieces, joins, first_piece, none_passed}
+use Rattle.slice_group_by.proofs.Partitioned.{grouped, pieces, covers, first_piece, none_passed}
 use Rattle.slice_group_by.proofs.pieces.partitioned_pieces.Goals as goal
 
 pub returns-clause-grouped : goal.returns-clause-grouped
@@ -7,8 +7,8 @@ returns-clause-grouped g c = grouped
 pub returns-clause-pieces : goal.returns-clause-pieces
 returns-clause-pieces g c = pieces
 
-pub returns-clause-joins : goal.returns-clause-joins
-returns-clause-joins g c = joins
+pub returns-clause-covers : goal.returns-clause-covers
+returns-clause-covers g c = covers
 
 pub returns-clause-first : goal.returns-clause-first
 returns-clause-first g c = first_piece

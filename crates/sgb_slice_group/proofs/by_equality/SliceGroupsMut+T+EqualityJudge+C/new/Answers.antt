@@ -6,4 +6,4 @@ returns-clause-computes g c = equality_settled g.T.PartialEq.eq _ _
 
 pub returns-clause-settled : goal.returns-clause-settled
 returns-clause-settled g c fits =
-    g.C.GroupEnd.settles _ _ _ _ _ (returns-clause-computes g c) (rw c.with_judge.ensures.remainder fits)
+    g.C.GroupEnd.settled_if_fits _ _ _ _ _ (returns-clause-computes g c) (rw c.with_judge.ensures.remainder fits)

@@ -9,4 +9,4 @@ returns-clause-computes g c key h = rw (c.with_judge.ensures.judge, c.new.ensure
 
 pub returns-clause-settled : goal.returns-clause-settled
 returns-clause-settled g c key h fits =
-    g.C.GroupEnd.settles _ _ _ _ _ (returns-clause-computes g c key h) (rw c.with_judge.ensures.remainder fits)
+    g.C.GroupEnd.settled_if_fits _ _ _ _ _ (returns-clause-computes g c key h) (rw c.with_judge.ensures.remainder fits)

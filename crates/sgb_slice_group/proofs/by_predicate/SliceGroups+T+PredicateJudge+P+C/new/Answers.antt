@@ -6,4 +6,4 @@ returns-clause-computes g c p h = rw c.with_judge.ensures.judge (predicate_settl
 
 pub returns-clause-settled : goal.returns-clause-settled
 returns-clause-settled g c p h fits =
-    g.C.GroupEnd.settles _ _ _ _ _ (returns-clause-computes g c p h) (rw c.with_judge.ensures.remainder fits)
+    g.C.GroupEnd.settled_if_fits _ _ _ _ _ (returns-clause-computes g c p h) (rw c.with_judge.ensures.remainder fits)
