@@ -39,7 +39,7 @@ module _ {T : Type 0} where
     copied x (y ∷ ys) a = ap (λ zs. x ∷ zs) (rw (equal x y a.0) (copied y ys a.1))
 
     copies : (g : List T) (x : T) → IsAccepted p g → first g ≡ Some x → g ≡ replicate (length g) x
-    copies [] x a f = cc f
+    copies [] x a f = refl
     copies (y ∷ ys) x a f = let same : y ≡ x = cc f in subst (λ z. y ∷ ys ≡ replicate (length (y ∷ ys)) z) same (copied y ys a)
 
     pub piece_copied : (xs g : List T) (x : T) → Contains (split p xs) g → first g ≡ Some x → g ≡ replicate (length g) x
