@@ -102,10 +102,10 @@ module _ {J T : Type 0} (judge : Ghosts J T) (xs : List T) where
     never_equal i c = let a = all_contains _ rs (i, Equal) (like_asked rs qs like) c in never_equal_ordering a.0 a.1
 
     both_ways : (i : ℕ) → Contradicts rs i → ContradictsAt xs qs (i + 1)
-    both_ways i two =
-        let a = all_contains _ rs (i, two.0) (like_asked rs qs like) two.2 in
-        let b = all_contains _ rs (i, two.1) (like_asked rs qs like) two.3 in
-        by a.0 b.0 a.2 b.2 (λ e. two.4 (a.1 ∙ ap as_ordering e ∙ sym b.1))
+    both_ways i (one, other, first, second, apart) =
+        let a = all_contains _ rs (i, one) (like_asked rs qs like) first in
+        let b = all_contains _ rs (i, other) (like_asked rs qs like) second in
+        by a.0 b.0 a.2 b.2 (λ e. apart (a.1 ∙ ap as_ordering e ∙ sym b.1))
       where
         by : (v w : Bool) → IsAskedAt xs qs (i + 1) v → IsAskedAt xs qs (i + 1) w → (v ≡ w → ⊥) → ContradictsAt xs qs (i + 1)
         by true true a b ne = absurd (ne refl)

@@ -77,11 +77,11 @@ module _ {T : Type 0} (xs : List T) where
 
   pub one_answer : (ord : T → Ordering) (rs : List (ℕ × Ordering)) → AllByRecursion (λ r. AnswersAt ord xs r.0 r.1) rs → (i : ℕ)
       → Contradicts rs i → ⊥
-  one_answer ord rs h i t =
-      let a = all_contains _ rs (i, t.0) h t.2 in
-      let b = all_contains _ rs (i, t.1) h t.3 in
+  one_answer ord rs h i (one, other, first, second, apart) =
+      let a = all_contains _ rs (i, one) h first in
+      let b = all_contains _ rs (i, other) h second in
       let same : a.0 ≡ b.0 = sym (get_or_from_slice_get xs i a.0 a.0 a.1) ∙ get_or_from_slice_get xs i b.0 a.0 b.1 in
-      t.4 (sym a.2 ∙ ap ord same ∙ b.2)
+      apart (sym a.2 ∙ ap ord same ∙ b.2)
 
 -- where the answers rise, a local boundary is the place between the Less and the Greater
 module _ {T : Type 0} (ord : T → Ordering) (xs : List T) where
