@@ -12,21 +12,33 @@ use Rattle.sgb_search.proofs.Runs.{run_push, run_append, may_after}
 use Rattle.sgb_search.proofs.Each.{all_push, all_append, all_each}
 
 module _ {S : Type 0} (may : S → ℕ → Type 0) (gives : S → ℕ → Ordering → S → Type 0) where
+  -- low was answered Less, and place is twice as far, or the length where that is nearer
+  pub record HasDoubled (len low place : ℕ) (questions : List (ℕ × Ordering)) : Type 0 where
+    pub positive : 0 < low
+    pub ahead : low < place
+    pub near : place ≤ 2 * low
+    pub within : place ≤ len
+    pub twice : place < len → place ≡ 2 * low
+    pub answered : Contains questions (low, Less)
+
   -- after some doublings: low was the last to be answered Less, and place is next
   pub record Doubles (len : ℕ) (s : S) (low place : ℕ) (t : S) : Type 0 where
     pub questions : List (ℕ × Ordering)
     pub run : IsRun may gives s questions t
     pub places : AllByRecursion (λ q. IsBetween 0 len q.0) questions
     pub most : length questions ≤ digits low
-    pub low_end :
-        ((low ≡ 0) × (place ≡ 1))
-        ⊎ ((0 < low) × (low < place) × (place ≤ 2 * low) × (place ≤ len) × (place < len → place ≡ 2 * low) × Contains questions (low, Less))
+    pub low_end : ((low ≡ 0) × (place ≡ 1)) ⊎ HasDoubled len low place questions
 
 -- an answer that is below
 pub less_below : (o : Ordering) → true ≡ is_lt o → o ≡ Less
 less_below Less e = refl
 less_below Equal e = absurd (true≢false e)
 less_below Greater e = absurd (true≢false e)
+
+-- halving asks about no place twice
+one_way : {A B : Type 0} → A ⊎ ((false ≡ true) × B) → A
+one_way (inl a) = a
+one_way (inr never) = cc never.0
 
 pub not_less : (o : Ordering) → false ≡ is_lt o → o ≢ Less
 not_less o e f = true≢false (sym (e ∙ ap is_lt f))
@@ -40,12 +52,12 @@ module _ {S : Type 0} (may : S → ℕ → Type 0) (gives : S → ℕ → Orderi
     doubles_may h b = h n.questions t n.run n.places place (omega arith, b)
 
     pub doubles_low : place < len → low < place
-    doubles_low b = elim n.low_end as (λ _. low < place) [ inl e ↦ omega (arith, e) | inr e ↦ e.1 ]
+    doubles_low b = elim n.low_end as (λ _. low < place) [ inl e ↦ omega (arith, e) | inr e ↦ e.ahead ]
 
     twice : place < len → digits low + 1 ≤ digits place
     twice b = elim n.low_end as (λ _. digits low + 1 ≤ digits place) [
       | inl e ↦ digits_half place low (omega (arith, e)) (omega (arith, e))
-      | inr e ↦ digits_half place low (omega (arith, e)) (omega (arith, e.4 b))
+      | inr e ↦ digits_half place low (omega (arith, e.ahead)) (omega (arith, e.twice b))
     ]
 
     -- nothing was asked where low is 0
@@ -59,7 +71,7 @@ module _ {S : Type 0} (may : S → ℕ → Type 0) (gives : S → ℕ → Orderi
           let two : digits (place + 1 - low) ≤ 2 = omega (arith, e, digits_le_self (place + 1 - low)) in
           omega (arith, none e.0)
       | inr e ↦
-          let same : digits (place + 1 - low) ≤ digits (low + 1) = digits_mono _ _ (omega (arith, e.4 b)) in
+          let same : digits (place + 1 - low) ≤ digits (low + 1) = digits_mono _ _ (omega (arith, e.twice b)) in
           let below : digits low ≤ digits (low + 1) = digits_mono _ _ (omega arith) in
           omega (arith, n.most)
     ]
@@ -70,26 +82,28 @@ module _ {S : Type 0} (may : S → ℕ → Type 0) (gives : S → ℕ → Orderi
           let one : digits (len - low) ≤ digits (low + 1) = digits_mono _ _ (omega (arith, e)) in
           omega (arith, none e.0)
       | inr e ↦
-          let same : digits (len - low) ≤ digits (low + 1) = digits_mono _ _ (omega (arith, e)) in
+          let same : digits (len - low) ≤ digits (low + 1) = digits_mono _ _ (omega (arith, e.near)) in
           let below : digits low ≤ digits (low + 1) = digits_mono _ _ (omega arith) in
           omega (arith, n.most)
     ]
 
     low_known : (low ≡ 0) ⊎ Contains n.questions (low, Less)
-    low_known = elim n.low_end as (λ _. (low ≡ 0) ⊎ Contains n.questions (low, Less)) [ inl e ↦ inl e.0 | inr e ↦ inr e.5 ]
+    low_known = elim n.low_end as (λ _. (low ≡ 0) ⊎ Contains n.questions (low, Less)) [ inl e ↦ inl e.0 | inr e ↦ inr e.answered ]
 
     low_within : len ≤ place → low ≤ len
-    low_within b = elim n.low_end as (λ _. low ≤ len) [ inl e ↦ omega (arith, e) | inr e ↦ omega (arith, e) ]
+    low_within b = elim n.low_end as (λ _. low ≤ len) [ inl e ↦ omega (arith, e) | inr e ↦ omega (arith, e.ahead, e.within) ]
 
     low_below : len ≤ place → len ≤ low → len ≡ 0
-    low_below b p = elim n.low_end as (λ _. len ≡ 0) [ inl e ↦ omega (arith, e) | inr e ↦ absurd (omega (arith, e)) ]
+    low_below b p = elim n.low_end as (λ _. len ≡ 0) [ inl e ↦ omega (arith, e) | inr e ↦ absurd (omega (arith, e.ahead, e.within)) ]
 
     pub doubles_end : len ≤ place → IsBracket may gives len s low len t
     doubles_end b = record {
       questions = n.questions;
       run = n.run;
       places = n.places;
-      order = (low_within b, omega arith, low_below b);
+      order = low_within b;
+      within = omega arith;
+      nonempty = low_below b;
       most = ended_most b;
       low_end = low_known;
       high_end = inl refl;
@@ -104,7 +118,9 @@ module _ {S : Type 0} (may : S → ℕ → Type 0) (gives : S → ℕ → Orderi
             questions = qs;
             run = run_push may gives s n.questions t u place o n.run m g;
             places = all_push _ n.questions (place, o) n.places (omega arith, b);
-            order = (omega (arith, doubles_low b), omega arith, λ p. absurd (omega (arith, doubles_low b)));
+            order = omega (arith, doubles_low b);
+            within = omega arith;
+            nonempty = λ p. absurd (omega (arith, doubles_low b));
             most = omega (arith, stopped_most b, length-append n.questions ((place, o) ∷ []));
             low_end = elim low_known as (λ _. (low ≡ 0) ⊎ Contains qs (low, Less)) [
               | inl e ↦ inl e
@@ -120,14 +136,22 @@ module _ {S : Type 0} (may : S → ℕ → Type 0) (gives : S → ℕ → Orderi
         run = run_push may gives s n.questions t u place Less n.run m g;
         places = all_push _ n.questions (place, Less) n.places (omega arith, b);
         most = omega (arith, n.most, twice b, length-append n.questions ((place, Less) ∷ []));
-        low_end = inr (omega (arith, doubles_low b), p, q, r, e, Contains-push n.questions (place, Less));
+        low_end =
+            inr (record {
+              positive = omega (arith, doubles_low b);
+              ahead = p;
+              near = q;
+              within = r;
+              twice = e;
+              answered = Contains-push n.questions (place, Less);
+            });
       }
 
   module _ (low high : ℕ) (t : S) (n : IsBracket may gives len s low high t) where
     pub bracket_may : MayCompareBetween may gives 0 len s → MayCompareBetween may gives low high t
     bracket_may h =
         may_after may gives (IsBetween 0 len) (IsBetween low high)
-        (λ q b. (omega arith, omega (arith, b, n.order))) s n.questions t n.run n.places h
+        (λ q b. (omega arith, omega (arith, b, n.within))) s n.questions t n.run n.places h
 
     module _ (hs : List (ℕ × Ordering)) where
       abbrev all : List (ℕ × Ordering)
@@ -139,28 +163,31 @@ module _ {S : Type 0} (may : S → ℕ → Type 0) (gives : S → ℕ → Orderi
       Less≢Greater : Less ≢ Greater
       Less≢Greater e = cc
 
+      before : (i : ℕ) → (low < i) × Contains hs (i - 1, Less) → IsLowEnd all 0 i
+      before i p = inr (omega (arith, p.0), Contains-append_right n.questions hs (i - 1, Less) p.1)
+
+      at : (i : ℕ) → (i < high) × Contains hs (i, Greater) → IsHighEnd all len i
+      at i g = inr (omega (arith, n.within, g.0), Contains-append_right n.questions hs (i, Greater) g.1)
+
       -- where halving ended at an end of the bracket, the answer that put it there stands against the halving's own
       boundary : (i : ℕ) → low ≤ i → i ≤ high → (low ≡ 0) ⊎ Contains n.questions (low, Less) → (high ≡ len) ⊎
           ((o : Ordering) × Contains n.questions (high - 1, o) × (o ≢ Less)) → IsLowEnd hs low i → IsHighEnd hs high i
           → TellsBoundary all true 0 len i
       boundary i a b x (inl y) (inr p) (inl f) =
-          inl (inr (omega arith, Contains-append_right n.questions hs (i - 1, Less) p.1), inl (omega arith))
+          record { low_end = inl (before i p); high_end = inl (inl (omega arith)) }
       boundary i a b x (inr k) (inr p) (inl f) =
           let here = subst (λ (j : ℕ). Contains n.questions (j - 1, k.0)) (sym f) k.1 in
-          inr (refl, inl (omega (arith, p.0), contradicts (i - 1) k.0 Less here p.1 k.2))
+          record { low_end = inl (before i p); high_end = inr (refl, (omega (arith, p.0), contradicts (i - 1) k.0 Less here p.1 k.2)) }
       boundary i a b x y (inr p) (inr g) =
-          inl (
-            inr (omega arith, Contains-append_right n.questions hs (i - 1, Less) p.1),
-            inr
-                (omega (arith, n.order, g.0), Contains-append_right n.questions hs (i, Greater) g.1),
-          )
+          record { low_end = inl (before i p); high_end = inl (at i g) }
       boundary i a b x y (inl e) (inl f) =
-          let z : len ≡ 0 = n.order.2 (omega arith) in inl (inl (omega (arith, n.order)), inl (omega (arith, n.order)))
+          let z : len ≡ 0 = n.nonempty (omega arith) in
+          record { low_end = inl (inl (omega (arith, n.order, n.within))); high_end = inl (inl (omega (arith, n.order, n.within))) }
       boundary i a b (inl z) y (inl e) (inr g) =
-          inl (inl (omega arith), inr (omega (arith, n.order, g.0), Contains-append_right n.questions hs (i, Greater) g.1))
+          record { low_end = inl (inl (omega arith)); high_end = inl (at i g) }
       boundary i a b (inr k) y (inl e) (inr g) =
           let here = subst (λ (j : ℕ). Contains n.questions (j, Less)) (sym e) k in
-          inr (refl, inr (contradicts i Less Greater here g.1 Less≢Greater))
+          record { low_end = inr (refl, contradicts i Less Greater here g.1 Less≢Greater); high_end = inl (at i g) }
 
     module _ (u : S) where
       fits : (i m : ℕ) → low ≤ i → i ≤ len → m ≤ digits (high - low + 1 - 1) → IsWithin exponential (len - 0 + 1) (i - 0 + 1)
@@ -183,7 +210,7 @@ module _ {S : Type 0} (may : S → ℕ → Type 0) (gives : S → ℕ → Orderi
 
       places_all : (hs : List (ℕ × Ordering)) → AllByRecursion (λ q. IsBetween low high q.0) hs → AllByRecursion (λ q. IsBetween 0 len q.0)
           (n.questions ++ hs)
-      places_all hs h = all_append _ n.questions hs n.places (all_each _ _ (λ q b. (omega arith, omega (arith, b, n.order))) hs h)
+      places_all hs h = all_append _ n.questions hs n.places (all_each _ _ (λ q b. (omega arith, omega (arith, b, n.within))) hs h)
 
       pub gallop_ends : (r : Result ℕ ℕ) → IsPlaceSearch may gives binary low high t r u → IsPlaceSearch may gives exponential 0 len s r u
       gallop_ends (Ok i) h =
@@ -193,9 +220,9 @@ module _ {S : Type 0} (may : S → ℕ → Type 0) (gives : S → ℕ → Orderi
             questions = n.questions ++ h.questions;
             run = run_append may gives s n.questions t h.questions u n.run h.run;
             places = places_all h.questions h.places;
-            most = fits_all i h.questions b.0 (omega (arith, b, n.order)) h.most.call;
+            most = fits_all i h.questions b.0 (omega (arith, b, n.within)) h.most.call;
             tells = (
-              (omega arith, omega (arith, b, n.order)),
+              (omega arith, omega (arith, b, n.within)),
               (
                 n.questions ++ f.0,
                 ap (λ (l : List (ℕ × Ordering)). n.questions ++ l) f.1 ∙ sym
@@ -209,14 +236,10 @@ module _ {S : Type 0} (may : S → ℕ → Type 0) (gives : S → ℕ → Orderi
             questions = n.questions ++ h.questions;
             run = run_append may gives s n.questions t h.questions u n.run h.run;
             places = places_all h.questions h.places;
-            most = fits_all i h.questions tells.0 (omega (arith, tells.1, n.order)) h.most.call;
+            most = fits_all i h.questions tells.0 (omega (arith, tells.1, n.within)) h.most.call;
             tells = (
               omega arith,
-              omega (arith, tells.1, n.order),
-              elim tells.2 as
-                  (λ _. TellsBoundary (n.questions ++ h.questions) true 0 len i) [
-                    | inl ends ↦ boundary h.questions i tells.0 tells.1 n.low_end n.high_end ends.0 ends.1
-                    | inr never ↦ cc never.0
-                  ],
+              omega (arith, tells.1, n.within),
+              boundary h.questions i tells.0 tells.1 n.low_end n.high_end (one_way tells.2.low_end) (one_way tells.2.high_end),
             );
           }

@@ -1,5 +1,5 @@
 -- From a search among places to the questions of a binary or exponential call.
-use Rattle.std.specs.Prelude.{◌≡◌, ℕ, ◌+◌, ◌-◌, List, [], ◌∷◌, length, ◌⊎◌, refl, Result, Ok, Err, Some, Bool, true, false, slice_get}
+use Rattle.std.specs.Prelude.{◌≡◌, ℕ, ◌+◌, ◌-◌, ◌<◌, List, [], ◌∷◌, length, ◌⊎◌, refl, Result, Ok, Err, Some, Bool, true, false, slice_get}
 use Rattle.std.proofs.Common.{suc, sym, ap, subst, arith, ◌∙◌, inl, inr}
 use Rattle.std.specs.List.{AllByRecursion, Contains}
 use Rattle.std.proofs.lemmas.List.Elements.{Contains-push}
@@ -66,7 +66,10 @@ module _ {J T : Type 0} (judge : Ghosts J T) (xs : List T) where
   like_outward [] [] h = tt
   like_outward [] (q ∷ qs) h = absurd h
   like_outward (r ∷ rs) [] h = absurd h
-  like_outward (r ∷ rs) (q ∷ qs) h = ((h.0.outer, (r.0 + 1, omega arith, h.0.other)), like_outward rs qs h.1)
+  like_outward (r ∷ rs) (q ∷ qs) h = (
+    record { outermost_at = h.0.outer; place = r.0 + 1; apart = omega arith; other_at = h.0.other },
+    like_outward rs qs h.1,
+  )
 
   asked_later : (q : (T × T) × Bool) (qs : List ((T × T) × Bool)) (i : ℕ) (b : Bool) → IsAskedAt xs qs i b → IsAskedAt xs (q ∷ qs) i b
   asked_later q qs i b a = record {
@@ -125,15 +128,21 @@ module _ {J T : Type 0} (judge : Ghosts J T) (xs : List T) where
     beyond len i n (inr p) = inr (asked_at i false p.1)
 
     ends_there : (both : Bool) (len i : ℕ) → len + 1 ≡ length xs → TellsBoundary rs both 0 len i → EndsBy xs both qs (i + 1)
-    ends_there both len i n (inl p) = inl (inner i p.0, beyond len i n p.1)
-    ends_there both len i n (inr (a, inl p)) =
-        let before = both_ways (i - 1) p.1 in
-        inr (
-          a,
-          inl
-              (omega (arith, p.0), subst (λ (k : ℕ). ContradictsAt xs qs k) {x = i - 1 + 1} {y = i + 1 - 1} (omega (arith, p.0)) before),
-        )
-    ends_there both len i n (inr (a, inr p)) = inr (a, inr (both_ways i p))
+    ends_there both len i n b = record {
+      inner = low b.low_end;
+      beyond = high b.high_end;
+    }
+      where
+        low : IsLowEnd rs 0 i ⊎ ((both ≡ true) × Contradicts rs i) → IsInner xs qs (i + 1) ⊎ ((both ≡ true) × ContradictsAt xs qs (i + 1))
+        low (inl p) = inl (inner i p)
+        low (inr p) = inr (p.0, both_ways i p.1)
+
+        high : IsHighEnd rs len i ⊎ ((both ≡ true) × ((0 < i) × Contradicts rs (i - 1)))
+            → IsBeyond xs qs (i + 1) ⊎ ((both ≡ true) × ((1 < i + 1) × ContradictsAt xs qs (i + 1 - 1)))
+        high (inl p) = inl (beyond len i n p)
+        high (inr (a, (p, c))) =
+            let before = both_ways (i - 1) c in
+            inr (a, (omega (arith, p), subst (λ (k : ℕ). ContradictsAt xs qs k) {x = i - 1 + 1} {y = i + 1 - 1} (omega (arith, p)) before))
 
     ends_by : (both : Bool) (len : ℕ) (r : Result ℕ ℕ) → len + 1 ≡ length xs → Tells rs both 0 len r → EndsBy xs both qs (place_of r + 1)
     ends_by both len (Ok i) n t =
@@ -174,5 +183,5 @@ module _ {J T : Type 0} (judge : Ghosts J T) (xs : List T) where
         let q = judged j rs k run in (
           omega (arith, b),
           λ x y ex ey. h q.0 k q.1 (all_each _ _ (λ r. sub r.0) q.0 (like_outward rs q.0 q.2)) (x, y)
-              (sub (x, y) (ex, (i + 1, omega arith, ey))),
+              (sub (x, y) (record { outermost_at = ex; place = i + 1; apart = omega arith; other_at = ey })),
         )

@@ -126,6 +126,9 @@ module _ {S : Type 0} (may : S → ℕ → Type 0) (gives : S → ℕ → Orderi
           run = n.run;
           places = n.places;
           most = fits (from - low + 1) _ (omega arith) (omega (arith, n.order)) (omega (arith, n.most));
-          tells =
-              (n.order.0, omega (arith, n.order), inl (n.low_end, subst (λ (k : ℕ). IsHighEnd n.questions high k) (sym e) n.high_end));
+          tells = (
+            n.order.0,
+            omega (arith, n.order),
+            record { low_end = inl n.low_end; high_end = inl (subst (λ (k : ℕ). IsHighEnd n.questions high k) (sym e) n.high_end) },
+          );
         }

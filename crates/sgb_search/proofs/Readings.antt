@@ -187,22 +187,24 @@ module _ {F T : Type 0} (may : F → T → Type 0) (gives : F → T → Ordering
       two i qs read (a, b, first, second, apart) =
           (a, b, read_asked xs i a h.questions qs read first, read_asked xs i b h.questions qs read second, apart)
 
-      low : (i : ℕ) (qs : List (T × Ordering)) → IsRead xs h.questions qs → IsLowEnd h.questions 0 i
-          → (i ≡ 0) ⊎ ((0 < i) × WasAnswered xs qs (i - 1) Less)
-      low i qs read (inl e) = inl e
-      low i qs read (inr p) = inr (p.0, read_asked xs (i - 1) Less h.questions qs read p.1)
+      low : (i : ℕ) (qs : List (T × Ordering)) → IsRead xs h.questions qs
+          → IsLowEnd h.questions 0 i ⊎ ((true ≡ true) × Contradicts h.questions i)
+          → ((i ≡ 0) ⊎ ((0 < i) × WasAnswered xs qs (i - 1) Less)) ⊎ WasContradicted xs qs i
+      low i qs read (inl (inl e)) = inl (inl e)
+      low i qs read (inl (inr p)) = inl (inr (p.0, read_asked xs (i - 1) Less h.questions qs read p.1))
+      low i qs read (inr p) = inr (two i qs read p.1)
 
-      high : (i : ℕ) (qs : List (T × Ordering)) → IsRead xs h.questions qs → IsHighEnd h.questions (length xs) i
-          → (i ≡ length xs) ⊎ WasAnswered xs qs i Greater
-      high i qs read (inl e) = inl e
-      high i qs read (inr p) = inr (read_asked xs i Greater h.questions qs read p.1)
+      high : (i : ℕ) (qs : List (T × Ordering)) → IsRead xs h.questions qs
+          → IsHighEnd h.questions (length xs) i ⊎ ((true ≡ true) × ((0 < i) × Contradicts h.questions (i - 1)))
+          → ((i ≡ length xs) ⊎ WasAnswered xs qs i Greater) ⊎ ((0 < i) × WasContradicted xs qs (i - 1))
+      high i qs read (inl (inl e)) = inl (inl e)
+      high i qs read (inl (inr p)) = inl (inr (read_asked xs i Greater h.questions qs read p.1))
+      high i qs read (inr p) = inr (p.1.0, two (i - 1) qs read p.1.1)
 
       shows : (r : Result ℕ ℕ) (qs : List (T × Ordering)) → Tells h.questions true 0 (length xs) r → IsRead xs h.questions qs
           → ShowsAnswer xs qs r
       shows (Ok i) qs p read = read_last xs p.1.0 i Equal qs (subst (λ (l : List (ℕ × Ordering)). IsRead xs l qs) p.1.1 read)
-      shows (Err i) qs (a, b, inl ends) read = inl (low i qs read ends.0, high i qs read ends.1)
-      shows (Err i) qs (a, b, inr (c, inl t)) read = inr (inl (t.0, two (i - 1) qs read t.1))
-      shows (Err i) qs (a, b, inr (c, inr t)) read = inr (inr (two i qs read t))
+      shows (Err i) qs (a, b, ends) read = (low i qs read ends.low_end, high i qs read ends.high_end)
 
   pub search_boundary : (f : F) (r : Result ℕ ℕ) (t : F) → IsPlaceSearch may_at called_at exponential 0 (length xs) f r t →
       (ord : T → Ordering) → AnswersBy may gives (Contains xs) ord f → IsLocalAnswer ord xs r
@@ -211,21 +213,23 @@ module _ {F T : Type 0} (may : F → T → Type 0) (gives : F → T → Ordering
       all : AllByRecursion (λ r. AnswersAt ord xs r.0 r.1) h.questions
       all = answers ord f by h.questions t h.run
 
-      low : (i : ℕ) → IsLowEnd h.questions 0 i → (i ≡ 0) ⊎ ((0 < i) × AnswersAt ord xs (i - 1) Less)
-      low i (inl e) = inl e
-      low i (inr p) = inr (p.0, all_contains _ h.questions (i - 1, Less) all p.1)
+      low : (i : ℕ) → IsLowEnd h.questions 0 i ⊎ ((true ≡ true) × Contradicts h.questions i)
+          → (i ≡ 0) ⊎ ((0 < i) × AnswersAt ord xs (i - 1) Less)
+      low i (inl (inl e)) = inl e
+      low i (inl (inr p)) = inr (p.0, all_contains _ h.questions (i - 1, Less) all p.1)
+      low i (inr two) = absurd (one_answer xs ord h.questions all i two.1)
 
-      high : (i : ℕ) → IsHighEnd h.questions (length xs) i → (i ≡ length xs) ⊎ AnswersAt ord xs i Greater
-      high i (inl e) = inl e
-      high i (inr p) = inr (all_contains _ h.questions (i, Greater) all p.1)
+      high : (i : ℕ) → IsHighEnd h.questions (length xs) i ⊎ ((true ≡ true) × ((0 < i) × Contradicts h.questions (i - 1)))
+          → (i ≡ length xs) ⊎ AnswersAt ord xs i Greater
+      high i (inl (inl e)) = inl e
+      high i (inl (inr p)) = inr (all_contains _ h.questions (i, Greater) all p.1)
+      high i (inr two) = absurd (one_answer xs ord h.questions all (i - 1) two.1.1)
 
       told : (r : Result ℕ ℕ) → Tells h.questions true 0 (length xs) r → IsLocalAnswer ord xs r
       told (Ok i) p =
           let here = subst (λ (l : List (ℕ × Ordering)). Contains l (i, Equal)) (sym p.1.1) (Contains-push p.1.0 (i, Equal)) in
           all_contains _ h.questions (i, Equal) all here
-      told (Err i) (a, b, inl ends) = (low i ends.0, high i ends.1)
-      told (Err i) (a, b, inr (c, inl two)) = absurd (one_answer xs ord h.questions all (i - 1) two.1)
-      told (Err i) (a, b, inr (c, inr two)) = absurd (one_answer xs ord h.questions all i two)
+      told (Err i) (a, b, ends) = (low i ends.low_end, high i ends.high_end)
 
 -- a key function's run, seen as one of comparisons
 module _ {F T K : Type 0} (g : Mut F (Bor T × Unit {0}) K) (cmp : K → K → Ordering) (b : K) (xs : List T) where

@@ -42,9 +42,13 @@ module _ {J T : Type 0} (judge : Ghosts J T) (p : T → T → Bool) (xs : List T
   beyond_says g (inr a) x y ex ey = asked_says g false a x y ex ey
 
   local_end : (again : Bool) (g : ℕ) → 0 < g → g ≤ length xs → EndsBy xs again qs g → IsLocalEnd xs p g
-  local_end again g some fits (inl e) = record { nonempty = some; within = fits; inner = inner_says g e.0; beyond = beyond_says g e.1 }
-  local_end again g some fits (inr (a, inl b)) = absurd (never_both (g - 1) b.1)
-  local_end again g some fits (inr (a, inr b)) = absurd (never_both g b)
+  local_end again g some fits e = record { nonempty = some; within = fits; inner = inner_says g inner; beyond = beyond_says g beyond }
+    where
+      inner : IsInner xs qs g
+      inner = elim e.inner [ inl a ↦ a | inr b ↦ absurd (never_both g b.1) ]
+
+      beyond : IsBeyond xs qs g
+      beyond = elim e.beyond [ inl a ↦ a | inr b ↦ absurd (never_both (g - 1) b.1.1) ]
 
 -- the local boundary of a grouped list is where the first piece ends
 module _ {T : Type 0} (p : T → T → Bool) where

@@ -58,12 +58,13 @@ module _ {T : Type 0} (xs : List T) (qs : List (T × Ordering)) where
   WasContradicted i = (a : Ordering) × (b : Ordering) × WasAnswered i a × WasAnswered i b × (a ≢ b)
 
   -- of `Ok`: the last answer was Equal, of the element at the place
-  -- of `Err`: that before the place, if there is one, was answered Less, and that at the place Greater; or one of the two in two ways
+  -- of `Err`: that before the place, if there is one, was answered Less, or that at it in two ways; and that at the place, if there is
+  -- one, was answered Greater, or that before it in two ways
   abbrev pub ShowsAnswer : Result ℕ ℕ → Type 0
   ShowsAnswer (Ok i) = (front : List (T × Ordering)) × (x : T) × (slice_get xs i ≡ Some x) × (qs ≡ front ++ (x, Equal) ∷ [])
   ShowsAnswer (Err i) =
-      (((i ≡ 0) ⊎ ((0 < i) × WasAnswered (i - 1) Less)) × ((i ≡ length xs) ⊎ WasAnswered i Greater))
-      ⊎ (((0 < i) × WasContradicted (i - 1)) ⊎ WasContradicted i)
+      (((i ≡ 0) ⊎ ((0 < i) × WasAnswered (i - 1) Less)) ⊎ WasContradicted i)
+      × (((i ≡ length xs) ⊎ WasAnswered i Greater) ⊎ ((0 < i) × WasContradicted (i - 1)))
 
 -- may f x: f may be asked about x; gives f x o h: the answer may be o, and then the state is h
 module _ {F T : Type 0} (may : F → T → Type 0) (gives : F → T → Ordering → F → Type 0) (xs : List T) where

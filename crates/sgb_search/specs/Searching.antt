@@ -46,8 +46,11 @@ pub record IsWithin (cost : SearchCost) (n g m : ℕ) : Type 0 where
 -- xs: the remainder as it reads from the call's end on, the outermost element first
 module _ {T : Type 0} (xs : List T) where
   -- the pair is the outermost element and one at another place
-  abbrev pub IsOutward : T × T → Type 0
-  IsOutward q = (slice_get xs 0 ≡ Some q.0) × ((i : ℕ) × (0 < i) × (slice_get xs i ≡ Some q.1))
+  pub record IsOutward (q : T × T) : Type 0 where
+    pub outermost_at : slice_get xs 0 ≡ Some q.0
+    pub place : ℕ
+    pub apart : 0 < place
+    pub other_at : slice_get xs place ≡ Some q.1
 
   -- one of the questions was about the outermost element and the one at place i, and its answer was b
   pub record IsAskedAt (qs : List ((T × T) × Bool)) (i : ℕ) (b : Bool) : Type 0 where
@@ -69,9 +72,11 @@ module _ {T : Type 0} (xs : List T) where
   abbrev pub IsBeyond : List ((T × T) × Bool) → ℕ → Type 0
   IsBeyond qs g = (g ≡ length xs) ⊎ IsAskedAt qs g false
 
-  -- the first g end there by the answers: both of the above; or, where they may, both answers came about one of the two elements there
-  abbrev pub EndsBy : Bool → List ((T × T) × Bool) → ℕ → Type 0
-  EndsBy both qs g = (IsInner qs g × IsBeyond qs g) ⊎ ((both ≡ true) × (((1 < g) × ContradictsAt qs (g - 1)) ⊎ ContradictsAt qs g))
+  -- the first g end there by the answers; where they may, both answers came about the element on the other side in place of the one
+  -- about an element
+  pub record EndsBy (both : Bool) (qs : List ((T × T) × Bool)) (g : ℕ) : Type 0 where
+    pub inner : IsInner qs g ⊎ ((both ≡ true) × ContradictsAt qs g)
+    pub beyond : IsBeyond qs g ⊎ ((both ≡ true) × ((1 < g) × ContradictsAt qs (g - 1)))
 
   -- the questions of a call that takes the first g elements, from the state j of the judge to the state k
   pub record SearchRun {J : Type 0} (judge : Ghosts J T) (cost : SearchCost) (j : J) (g : ℕ) (k : J) : Type 0 where
@@ -141,10 +146,10 @@ module _ (qs : List (ℕ × Ordering)) where
   abbrev pub Contradicts : ℕ → Type 0
   Contradicts i = (a : Ordering) × (b : Ordering) × Contains qs (i, a) × Contains qs (i, b) × (a ≢ b)
 
-  -- both ends at i; or, where they may, two answers came about one of the two places there
-  abbrev pub TellsBoundary : Bool → ℕ → ℕ → ℕ → Type 0
-  TellsBoundary both low high i =
-      (IsLowEnd low i × IsHighEnd high i) ⊎ ((both ≡ true) × (((low < i) × Contradicts (i - 1)) ⊎ Contradicts i))
+  -- both ends are at i; where they may, two answers came about the place on the other side in place of an end
+  pub record TellsBoundary (both : Bool) (low high i : ℕ) : Type 0 where
+    pub low_end : IsLowEnd low i ⊎ ((both ≡ true) × Contradicts i)
+    pub high_end : IsHighEnd high i ⊎ ((both ≡ true) × ((low < i) × Contradicts (i - 1)))
 
   -- what an answer tells: of `Ok`, that the last question was about that place and was answered Equal; of `Err`, the boundary
   abbrev pub Tells : Bool → ℕ → ℕ → Result ℕ ℕ → Type 0
@@ -170,7 +175,9 @@ module _ {S : Type 0} (may : S → ℕ → Type 0) (gives : S → ℕ → Orderi
     pub questions : List (ℕ × Ordering)
     pub run : IsRun may gives s questions t
     pub places : AllByRecursion (λ q. IsBetween 0 len q.0) questions
-    pub order : (low ≤ high) × (high ≤ len) × (high ≤ low → len ≡ 0)
+    pub order : low ≤ high
+    pub within : high ≤ len
+    pub nonempty : high ≤ low → len ≡ 0
     pub most : length questions + digits (high - low) ≤ 2 * digits (low + 1) + 1
     pub low_end : (low ≡ 0) ⊎ Contains questions (low, Less)
     pub high_end : (high ≡ len) ⊎ ((o : Ordering) × Contains questions (high - 1, o) × (o ≢ Less))

@@ -78,6 +78,16 @@ module _ {S Q A : Type 0} (may : S → Q → Type 0) (gives : S → Q → A → 
         rw (length-neighbours (left s), length-neighbours (left t)) at
         (counts_just_due judge (λ q. length (neighbours (left q))) true s t asked refl)
 
+    -- after what was counted from r to s
+    pub counts_more : (r : G) → name (judge s) ≡ name (judge r)
+        → (count (judge r) + each * (length (left r) - 1) < limit
+        → count (judge s) + each * (length (left s) - 1) ≡ count (judge r) + each * (length (left r) - 1))
+        → (name (judge t) ≡ name (judge r))
+        × (count (judge r) + each * (length (left r) - 1) < limit
+        → count (judge t) + each * (length (left t) - 1) ≡ count (judge r) + each * (length (left r) - 1))
+    counts_more r here before =
+        (counts_pairs.0 ∙ here, λ l. let b = before l in counts_pairs.1 (omega (arith, b, l)) ∙ b)
+
     pub counts_walk : count (judge s) ≡ 0 → left t ≡ []
         → (name (judge t) ≡ name (judge s))
         × (each * (length (left s) - 1) < limit → count (judge t) ≡ each * (length (left s) - 1))

@@ -1,5 +1,6 @@
 -- What each question does to a number of the judge's state. `count` gives the number, and `name` what stays as it is.
-use Rattle.std.specs.Prelude.{◌≡◌, ℕ, ◌+◌, ◌<◌, ◌≤◌, Bool}
+use Rattle.std.specs.Prelude.{◌≡◌, ℕ, ◌+◌, ◌*◌, ◌<◌, ◌≤◌, Bool}
+use Rattle.std.specs.Borrow.{MutBor}
 
 -- answers j q b k: in the state j the question q may be answered by b, and then the state is k
 module _ {J Q : Type 0} (answers : J → Q → Bool → J → Type 0) (count name : J → ℕ) (each : ℕ) where
@@ -11,3 +12,9 @@ module _ {J Q : Type 0} (answers : J → Q → Bool → J → Type 0) (count nam
   abbrev pub RaisesJust : ℕ → Type 0
   RaisesJust limit = (j k : J) (q : Q) (b : Bool) → answers j q b k
       → (name k ≡ name j) × (count j + each < limit → count k ≡ count j + each)
+
+-- from s to t, two states of groups, the counter stands where it stood, and it was raised by just `each` for each question that is due no
+-- more, if that stays below the limit
+pub record HasCounted {S : Type 0} (counter : S → MutBor ℕ) (due : S → ℕ) (each limit : ℕ) (s t : S) : Type 0 where
+  pub place : (counter t).ghost_name ≡ (counter s).ghost_name
+  pub count : (counter s).now + each * due s < limit → (counter t).now + each * due t ≡ (counter s).now + each * due s

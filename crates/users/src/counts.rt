@@ -6,7 +6,8 @@ use slice_group_by::laws::{
     calls_ask, linear_counts, mapped_calls_ask, questions_count, search_asks,
 };
 use slice_group_by::{
-    BinaryGroupBy, End, ExponentialGroupBy, LinearGroupBy, LinearGroupByKey, walk,
+    BinaryGroupBy, BinaryGroupByKey, End, ExponentialGroupBy, ExponentialGroupByKey, LinearGroupBy,
+    LinearGroupByKey, walk,
 };
 
 /// How many questions a walk over linear groups asks: one less than there are elements, and none where there are none.
@@ -145,4 +146,38 @@ pub fn longest_and_questions(xs: &[u32]) -> (usize, usize)
         longest = longest.max(len);
     }
     (longest, count)
+}
+
+/// The keys of a walk over binary groups, through `map`: at most two for each question that may be asked.
+pub fn longest_and_binary_keys(xs: &[u32]) -> (usize, usize)
+    ensures { result.1 ≤ 2 * (length xs.now * digits (length xs.now)) }
+{
+    let mut count = 0usize;
+    let groups = BinaryGroupByKey::new(xs, |x: &u32| {
+        count = count.wrapping_add(1);
+        *x / 10
+    });
+    questions_count(&groups);
+    let lens = groups.map(|group| group.len());
+    mapped_calls_ask(&lens);
+    let mut longest = 0usize;
+    for len in lens {
+        longest = longest.max(len);
+    }
+    (longest, count)
+}
+
+/// The keys of a walk over exponential groups from the back.
+pub fn exponential_keys_of_rev(xs: &[u32]) -> usize
+    ensures { result ≤ 6 * length xs.now }
+{
+    let mut count = 0usize;
+    let groups = ExponentialGroupByKey::new(xs, |x: &u32| {
+        count = count.wrapping_add(1);
+        *x / 10
+    });
+    calls_ask(&groups);
+    questions_count(&groups);
+    for _group in groups.rev() {}
+    count
 }

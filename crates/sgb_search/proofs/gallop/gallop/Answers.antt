@@ -4,7 +4,7 @@ use Rattle.sgb_search.proofs.gallop.gallop.Goals as goal
 pub halve-requires : goal.halve-requires
 halve-requires g c =
     let b = c.bracket-low.ensures in
-    record { order = b.order.0; callable = bracket_may _ _ _ _ _ _ _ b c.requires }
+    record { order = b.order; callable = bracket_may _ _ _ _ _ _ _ b c.requires }
 
 pub returns : goal.returns
 returns g c = gallop_ends _ _ _ _ _ _ _ c.bracket-low.ensures _ _ c.halve.ensures
