@@ -60,8 +60,9 @@ impl<'a, T, B: Ord + Drop, F: FnMut(&T) -> B> Places<F> for Keyed<'a, T, B> {
 /// Whatever it answers, a search that gives place i asks at most `2 * digits(i + 1) + 1` questions, where `digits` is the
 /// number of binary digits, so it is cheap where the place is near the beginning; it asks none of an empty slice. The questions
 /// show the answer: of `Ok`, that the last was answered `Equal`; of `Err`, that the element before the place was answered
-/// `Less` and the one at it `Greater`, unless one of the two was answered in two ways. The contract speaks of the run of calls
-/// that found the place; that no call comes after it is read in the code.
+/// `Less`, unless the one at it was answered in two ways, and that the one at it was answered `Greater`, unless the one before it
+/// was answered in two ways. The contract speaks of the run of calls that found the place; that no call comes after it is read in
+/// the code.
 ///
 /// ```
 /// let slice = [0, 1, 1, 1, 1, 2, 3, 5, 8, 13, 21, 34, 55];

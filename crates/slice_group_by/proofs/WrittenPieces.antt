@@ -1,46 +1,31 @@
--- Which piece a call on groups for writing gives, where the group is noted then: lemmas that a proof of a caller's loop cites.
---     linear_piece, search_piece          the split of what remained is the group, at the call's end, and the split of what remains
---     linear_settled, search_settled      the iterator stays settled
---     noted_at_front                      a group from the front, noted as f leaves it, moves to what is done
+-- Which piece a call on binary or exponential groups for writing gives, where the group is noted then: lemmas that a proof of a caller's
+-- loop cites.
+--     search_piece        the split of what remained is the group, at the call's end, and the split of what remains
+--     search_settled      the iterator stays settled
+--     noted_at_front      a group from the front, noted as f leaves it, moves to what is done
 use Rattle.std.proofs.Common.{◌≡◌, Bool, List, [], ◌∷◌, ◌++◌, Some, map, sym, ap, ◌∙◌, append_assoc}
 use Rattle.std.specs.Borrow.{MutBor}
 use Rattle.sgb_search.specs.declared.end.End.{End}
 use Rattle.sgb_search.specs.declared.judge.Judge.{Ghosts}
 use Rattle.sgb_search.specs.Split.{put_at, concat, split}
-use Rattle.sgb_search.specs.Calls.{Groups}
 use Rattle.sgb_search.specs.Searching.{SearchCost, IsSettledApart, SearchQuestions}
-use Rattle.sgb_search.specs.Linear.{IsSettled, LinearQuestions}
-use Rattle.sgb_search.proofs.LinearQueue as linear
-use Rattle.sgb_search.proofs.SearchQueue as searched
+use Rattle.sgb_search.proofs.SearchQueue.{piece}
 use Rattle.sgb_loans.specs.Loans.{GroupsMut}
 use Rattle.sgb_slice_group.specs.Gives.{seen, GivesMut}
 use Rattle.slice_group_by.proofs.Chains.{piece_and_others}
 
 -- a call leads from s to t, and a note from t to u
 module _ {T J : Type 0} (g : Ghosts J T) (p : T → T → Bool) (e : End) (s t u : GroupsMut T J) (x : MutBor (List T))
-    (same : u.remainder ≡ t.remainder) where
-  still : (settled : Groups T J → (T → T → Bool) → Type 0) → u.judge ≡ t.judge → settled (seen t) p → settled (seen u) p
-  still settled asked h = rw (same, asked) h
-
-  pub linear_piece : GivesMut (LinearQuestions g) e s (Some x) t → IsSettled g (seen s) p
+    (same : u.remainder ≡ t.remainder) (cost : SearchCost) where
+  pub search_piece : GivesMut (SearchQuestions g cost) e s (Some x) t → IsSettledApart g (seen s) p
       → split p s.remainder ≡ put_at e (x.now ∷ []) (split p u.remainder)
-  linear_piece steps m =
-      piece_and_others e p _ _ _ (linear.piece g e (seen s) (Some x.now) (seen t) p steps.0 m).0
+  search_piece steps m =
+      piece_and_others e p _ _ _ (piece g cost e (seen s) (Some x.now) (seen t) p steps.0 m).0
       ∙ ap (λ l. put_at e (x.now ∷ []) (split p l)) (sym same)
 
-  pub linear_settled : GivesMut (LinearQuestions g) e s (Some x) t → u.judge ≡ t.judge → IsSettled g (seen s) p → IsSettled g (seen u) p
-  linear_settled steps asked m = still (IsSettled g) asked (linear.piece g e (seen s) (Some x.now) (seen t) p steps.0 m).1
-
-  module _ (cost : SearchCost) where
-    pub search_piece : GivesMut (SearchQuestions g cost) e s (Some x) t → IsSettledApart g (seen s) p
-        → split p s.remainder ≡ put_at e (x.now ∷ []) (split p u.remainder)
-    search_piece steps m =
-        piece_and_others e p _ _ _ (searched.piece g cost e (seen s) (Some x.now) (seen t) p steps.0 m).0
-        ∙ ap (λ l. put_at e (x.now ∷ []) (split p l)) (sym same)
-
-    pub search_settled : GivesMut (SearchQuestions g cost) e s (Some x) t → u.judge ≡ t.judge → IsSettledApart g (seen s) p
-        → IsSettledApart g (seen u) p
-    search_settled steps asked m = still (IsSettledApart g) asked (searched.piece g cost e (seen s) (Some x.now) (seen t) p steps.0 m).1
+  pub search_settled : GivesMut (SearchQuestions g cost) e s (Some x) t → u.judge ≡ t.judge → IsSettledApart g (seen s) p
+      → IsSettledApart g (seen u) p
+  search_settled steps asked m = rw (same, asked) (piece g cost e (seen s) (Some x.now) (seen t) p steps.0 m).1
 
 -- what is done, and after it what f makes of each piece to come, stays the same list when a group from the front is noted as f leaves it:
 -- for every judge and every way to find a group's end

@@ -1,9 +1,10 @@
 //! Predicates that may be called only on some elements: over the part of an array that has these alone, once for each family.
 ghost use Rattle.std.specs.Prelude.{◌≡◌, ◌≢◌, [], ◌∷◌};
 
+use case_queues::holds;
 use slice_group_by::{
     BinaryGroupBy, BinaryGroupByMut, ExponentialGroupBy, ExponentialGroupByMut, GroupQueue,
-    LinearGroupByMut,
+    LinearGroupBy, LinearGroupByMut,
 };
 
 #[derive(Drop)]
@@ -32,23 +33,44 @@ fn valid_between_invalid() -> [Guarded; 4]
     ]
 }
 
-// Whether the group is the whole valid part.
-fn is_valid_part(group: &[Guarded]) -> bool {
-    matches!(group, [Guarded::Valid(1), Guarded::Valid(2)])
+// Whether there is a group, and it is the whole valid part.
+fn is_valid_part(group: Option<&[Guarded]>) -> bool {
+    matches!(group, Some([Guarded::Valid(1), Guarded::Valid(2)]))
+}
+
+// The same of a group for writing.
+fn is_valid_part_mut(group: Option<&mut [Guarded]>) -> bool {
+    match group {
+        Some(group) => is_valid_part(Some(group)),
+        None => false,
+    }
 }
 
 // Whether the valid part comes as one group, and nothing after it.
 fn comes_whole<'a, Q: GroupQueue<Item = &'a [Guarded]>>(queue: &mut Q) -> bool
     requires { Q.can_pop queue.old }
 {
-    queue.pop_front().is_some_and(|group| is_valid_part(group)) && queue.pop_front().is_none()
+    is_valid_part(queue.pop_front()) && queue.pop_front().is_none()
 }
 
 // For groups for writing.
 fn comes_whole_mut<'a, Q: GroupQueue<Item = &'a mut [Guarded]>>(queue: &mut Q) -> bool
     requires { Q.can_pop queue.old }
 {
-    queue.pop_front().is_some_and(|group| is_valid_part(group)) && queue.pop_front().is_none()
+    is_valid_part_mut(queue.pop_front()) && queue.pop_front().is_none()
+}
+
+#[test]
+fn overflow(rt: HostRuntime) {
+    let array = valid_between_invalid();
+    assert!(rt; comes_whole(&mut LinearGroupBy::new(&array[1..3], accept_valid)));
+}
+
+#[test]
+fn last_overflow(rt: HostRuntime) {
+    let array = valid_between_invalid();
+    let groups = LinearGroupBy::new(&array[1..3], accept_valid);
+    assert!(rt; is_valid_part(groups.last()));
 }
 
 #[test]
@@ -67,14 +89,14 @@ fn exponential_overflow(rt: HostRuntime) {
 fn binary_last_overflow(rt: HostRuntime) {
     let array = valid_between_invalid();
     let groups = BinaryGroupBy::new(&array[1..3], accept_valid);
-    assert!(rt; groups.last().is_some_and(|group| is_valid_part(group)));
+    assert!(rt; is_valid_part(groups.last()));
 }
 
 #[test]
 fn exponential_last_overflow(rt: HostRuntime) {
     let array = valid_between_invalid();
     let groups = ExponentialGroupBy::new(&array[1..3], accept_valid);
-    assert!(rt; groups.last().is_some_and(|group| is_valid_part(group)));
+    assert!(rt; is_valid_part(groups.last()));
 }
 
 #[test]
@@ -99,21 +121,21 @@ fn exponential_overflow_mut(rt: HostRuntime) {
 fn linear_last_overflow_mut(rt: HostRuntime) {
     let mut array = valid_between_invalid();
     let groups = LinearGroupByMut::new(&mut array[1..3], accept_valid);
-    assert!(rt; groups.last().is_some_and(|group| is_valid_part(group)));
+    assert!(rt; is_valid_part_mut(groups.last()));
 }
 
 #[test]
 fn binary_last_overflow_mut(rt: HostRuntime) {
     let mut array = valid_between_invalid();
     let groups = BinaryGroupByMut::new(&mut array[1..3], accept_valid);
-    assert!(rt; groups.last().is_some_and(|group| is_valid_part(group)));
+    assert!(rt; is_valid_part_mut(groups.last()));
 }
 
 #[test]
 fn exponential_last_overflow_mut(rt: HostRuntime) {
     let mut array = valid_between_invalid();
     let groups = ExponentialGroupByMut::new(&mut array[1..3], accept_valid);
-    assert!(rt; groups.last().is_some_and(|group| is_valid_part(group)));
+    assert!(rt; is_valid_part_mut(groups.last()));
 }
 
 // Whether the elements come one by one.
@@ -121,37 +143,30 @@ fn come_one_by_one<'a, Q: GroupQueue<Item = &'a mut [u8]>>(queue: &mut Q, elemen
     requires { Q.can_pop queue.old }
 {
     for element in elements {
-        if !queue
-            .pop_front()
-            .is_some_and(|group| &*group == [*element].as_slice())
-        {
+        if !holds(queue.pop_front(), Some(&[*element])) {
             return false;
         }
     }
     queue.pop_front().is_none()
 }
 
-// A predicate that may be called only on two different elements.
+// Says no, and may be called only on two different elements.
+fn differ_always(a: &u8, b: &u8) -> bool
+    requires { a.now ≢ b.now }
+{
+    false
+}
+
 #[test]
 fn binary_asks_no_element_about_itself(rt: HostRuntime) {
     let mut slice = [1u8, 2, 3];
-    let mut groups = BinaryGroupByMut::new(
-        &mut slice,
-        |a: &u8, b: &u8| -> bool
-            requires { a.now ≢ b.now }
-        { false },
-    );
+    let mut groups = BinaryGroupByMut::new(&mut slice, differ_always);
     assert!(rt; come_one_by_one(&mut groups, &[1, 2, 3]));
 }
 
 #[test]
 fn exponential_asks_no_element_about_itself(rt: HostRuntime) {
     let mut slice = [1u8, 2, 3];
-    let mut groups = ExponentialGroupByMut::new(
-        &mut slice,
-        |a: &u8, b: &u8| -> bool
-            requires { a.now ≢ b.now }
-        { false },
-    );
+    let mut groups = ExponentialGroupByMut::new(&mut slice, differ_always);
     assert!(rt; come_one_by_one(&mut groups, &[1, 2, 3]));
 }

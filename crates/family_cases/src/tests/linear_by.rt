@@ -1,5 +1,5 @@
 //! Linear groups by predicate and by key, case by case.
-ghost use Rattle.std.specs.Prelude.{◌≡◌, ◌<◌};
+ghost use Rattle.std.specs.Prelude.{◌<◌};
 
 use case_queues::{answers, writes};
 use slice_group_by::End::{self, Back, Front};
@@ -26,81 +26,28 @@ fn by_equality_of_neighbours(rt: HostRuntime) {
     assert!(rt; answers(slice.linear_group_by(equal), &calls));
 }
 
-// A predicate that may be called only where the left element is below the right one.
+// Says yes, and may be called only where the left element is below the right one.
+fn ascend_always(a: &u8, b: &u8) -> bool
+    requires { a.now < b.now }
+{
+    true
+}
+
 #[test]
 fn predicate_call_param_order(rt: HostRuntime) {
     let slice = [1u8, 2, 3, 4, 5];
-    let mut groups = LinearGroupBy::new(
-        &slice,
-        |a: &u8, b: &u8| -> bool
-            requires { a.now < b.now }
-        { true },
-    );
-    assert_eq!(rt; groups.next(), Some([1, 2, 3, 4, 5].as_slice()));
-    assert_eq!(rt; groups.next(), None);
+    let calls: [(End, Option<&[u8]>); 2] = [(Front, Some(&[1, 2, 3, 4, 5])), (Front, None)];
+    assert!(rt; answers(LinearGroupBy::new(&slice, ascend_always), &calls));
 }
 
 #[test]
 fn rev_predicate_call_param_order(rt: HostRuntime) {
     let slice: &[u8] = &[1, 2, 3, 4, 5];
-    let mut groups = slice.linear_group_by(
-        |a: &u8, b: &u8| -> bool
-            requires { a.now < b.now }
-        { true },
-    );
-    assert_eq!(rt; groups.next_back(), Some([1, 2, 3, 4, 5].as_slice()));
-    assert_eq!(rt; groups.next_back(), None);
+    let calls: [(End, Option<&[u8]>); 2] = [(Back, Some(&[1, 2, 3, 4, 5])), (Back, None)];
+    assert!(rt; answers(slice.linear_group_by(ascend_always), &calls));
 }
 
-#[derive(Debug, PartialEq, Drop)]
-enum Guarded {
-    Valid(u8),
-    Invalid(u8),
-}
-
-// A predicate that may be called only on two valid elements, over the valid part of an array.
-#[test]
-fn overflow(rt: HostRuntime) {
-    let array = [
-        Guarded::Invalid(0),
-        Guarded::Valid(1),
-        Guarded::Valid(2),
-        Guarded::Invalid(3),
-    ];
-    let mut groups = LinearGroupBy::new(
-        &array[1..3],
-        |a: &Guarded, b: &Guarded| -> bool
-            requires left { (n : _) × (a.now ≡ Guarded.Valid n) }
-            requires right { (n : _) × (b.now ≡ Guarded.Valid n) }
-        { true },
-    );
-    assert_eq!(rt;
-        groups.next(),
-        Some([Guarded::Valid(1), Guarded::Valid(2)].as_slice())
-    );
-    assert_eq!(rt; groups.next(), None);
-}
-
-#[test]
-fn last_overflow(rt: HostRuntime) {
-    let array = [
-        Guarded::Invalid(0),
-        Guarded::Valid(1),
-        Guarded::Valid(2),
-        Guarded::Invalid(3),
-    ];
-    let groups = LinearGroupBy::new(
-        &array[1..3],
-        |a: &Guarded, b: &Guarded| -> bool
-            requires left { (n : _) × (a.now ≡ Guarded.Valid n) }
-            requires right { (n : _) × (b.now ≡ Guarded.Valid n) }
-        { true },
-    );
-    assert_eq!(rt;
-        groups.last(),
-        Some([Guarded::Valid(1), Guarded::Valid(2)].as_slice())
-    );
-}
+const PAIRS: [Option<&'static [i32]>; 4] = [Some(&[1, 2]), Some(&[5, 6]), Some(&[3, 4]), None];
 
 // A predicate whose answers change from call to call.
 #[test]
@@ -113,8 +60,8 @@ fn answers_that_change(rt: HostRuntime) {
         questions % 2 == 1
     });
     walk(&mut groups, &[Front, Back, Front, Back], &mut out);
-    assert!(rt; matches!(out, [Some([1, 2]), Some([5, 6]), Some([3, 4]), None]));
     assert_eq!(rt; questions, 5);
+    assert!(rt; out == PAIRS);
 }
 
 // Two calls of the key function a question, on the left element first, from both ends.

@@ -67,31 +67,33 @@ fn three_groups_for_writing(rt: HostRuntime) {
 #[test]
 fn grouped_for_unequal(rt: HostRuntime) {
     let slice: &[i32] = &[1, 2, 3];
-    let mut binary = slice.binary_group_by(differ);
-    assert!(rt; matches!((binary.next(), binary.next()), (Some([1, 2, 3]), None)));
-    let mut exponential = slice.exponential_group_by(differ);
-    assert!(rt;
-        matches!(
-            (exponential.next(), exponential.next()),
-            (Some([1, 2, 3]), None)
-        )
-    );
+    assert!(rt; answers(slice.binary_group_by(differ), &FROM_FRONT));
+    assert!(rt; answers(slice.exponential_group_by(differ), &FROM_FRONT));
 }
+
+const FROM_FRONT: [(End, Option<&'static [i32]>); 2] = [
+    (End::Front, Some(&[1, 2, 3])),
+    (End::Front, None),
+];
+
+const FROM_BACK: [(End, Option<&'static [i32]>); 2] = [
+    (End::Back, Some(&[1, 2, 3])),
+    (End::Back, None),
+];
+
+const LAST_ALONE: [(End, Option<&'static [i32]>); 1] = [(End::Back, Some(&[3]))];
 
 // The outermost element is the left one from both ends, so the ends differ for a test that is not symmetric. They do not for
 // linear groups, where the left one of two neighbours is.
 #[test]
 fn not_grouped_for_less(rt: HostRuntime) {
     let slice: &[i32] = &[1, 2, 3];
-    let front = slice.binary_group_by(ascend).next();
-    let back = slice.binary_group_by(ascend).next_back();
-    assert!(rt; matches!((front, back), (Some([1, 2, 3]), Some([3]))));
-    let front = slice.exponential_group_by(ascend).next();
-    let back = slice.exponential_group_by(ascend).next_back();
-    assert!(rt; matches!((front, back), (Some([1, 2, 3]), Some([3]))));
-    let front = slice.linear_group_by(ascend).next();
-    let back = slice.linear_group_by(ascend).next_back();
-    assert!(rt; matches!((front, back), (Some([1, 2, 3]), Some([1, 2, 3]))));
+    assert!(rt; answers(slice.binary_group_by(ascend), &FROM_FRONT));
+    assert!(rt; answers(slice.binary_group_by(ascend), &LAST_ALONE));
+    assert!(rt; answers(slice.exponential_group_by(ascend), &FROM_FRONT));
+    assert!(rt; answers(slice.exponential_group_by(ascend), &LAST_ALONE));
+    assert!(rt; answers(slice.linear_group_by(ascend), &FROM_FRONT));
+    assert!(rt; answers(slice.linear_group_by(ascend), &FROM_BACK));
 }
 
 // A group ends where the element beyond is refused, even if the slice is not grouped.
@@ -104,17 +106,19 @@ fn ends_where_refused(rt: HostRuntime) {
     assert!(rt; matches!(back, Some([2] | [2, 1, 1, 2])));
 }
 
-// A predicate that may be called only on two different elements. The loops end at the first `None`.
+// Says no, and may be called only on two different elements.
+fn differ_always(a: &u8, b: &u8) -> bool
+    requires { a.now ≢ b.now }
+{
+    false
+}
+
+// The loops end at the first `None`.
 #[test]
 fn asks_no_element_about_itself(rt: HostRuntime) {
     let slice: &[u8] = &[1, 2, 3];
-    let binary = slice.binary_group_by(
-        |a: &u8, b: &u8| -> bool
-            requires { a.now ≢ b.now }
-        { false },
-    );
     let mut next = 1u8;
-    for group in binary {
+    for group in slice.binary_group_by(differ_always) {
         assert!(rt; group == [next].as_slice());
         next = next.wrapping_add(1);
     }
@@ -124,13 +128,8 @@ fn asks_no_element_about_itself(rt: HostRuntime) {
 #[test]
 fn exponential_asks_no_element_about_itself(rt: HostRuntime) {
     let slice: &[u8] = &[1, 2, 3];
-    let exponential = slice.exponential_group_by(
-        |a: &u8, b: &u8| -> bool
-            requires { a.now ≢ b.now }
-        { false },
-    );
     let mut next = 1u8;
-    for group in exponential {
+    for group in slice.exponential_group_by(differ_always) {
         assert!(rt; group == [next].as_slice());
         next = next.wrapping_add(1);
     }
@@ -139,28 +138,19 @@ fn exponential_asks_no_element_about_itself(rt: HostRuntime) {
 
 const ALONE: [(End, Option<&'static [u8]>); 2] = [(End::Front, Some(&[1])), (End::Front, None)];
 
-// A predicate that may never be called.
+// May never be called.
+fn never(_a: &u8, _b: &u8) -> bool
+    requires { ⊥ }
+{
+    true
+}
+
 #[test]
 fn one_element_asks_nothing(rt: HostRuntime) {
     let slice: &[u8] = &[1];
-    let linear = slice.linear_group_by(
-        |_a: &u8, _b: &u8| -> bool
-            requires { ⊥ }
-        { true },
-    );
-    assert!(rt; answers(linear, &ALONE));
-    let binary = slice.binary_group_by(
-        |_a: &u8, _b: &u8| -> bool
-            requires { ⊥ }
-        { true },
-    );
-    assert!(rt; answers(binary, &ALONE));
-    let exponential = slice.exponential_group_by(
-        |_a: &u8, _b: &u8| -> bool
-            requires { ⊥ }
-        { true },
-    );
-    assert!(rt; answers(exponential, &ALONE));
+    assert!(rt; answers(slice.linear_group_by(never), &ALONE));
+    assert!(rt; answers(slice.binary_group_by(never), &ALONE));
+    assert!(rt; answers(slice.exponential_group_by(never), &ALONE));
 }
 
 // How many binary digits the number has.

@@ -1,11 +1,9 @@
 //! Cases of the groups of slices, all families, for reading: case by case, and each method once.
 mod aliases;
 mod alike;
-mod binary;
-mod exponential;
+mod by_name;
 mod families;
 mod guarded;
-mod linear;
 mod linear_by;
 mod methods;
 mod owners;

@@ -6,6 +6,14 @@ ghost use Rattle.slice_group_by.specs.Walk.{given_at};
 
 use slice_group_by::{End, LinearGroup, walk};
 
+const THREE_GROUPS: [Option<&'static [i32]>; 5] = [
+    Some(&[1, 1, 1]),
+    Some(&[2, 2, 2]),
+    Some(&[3, 3]),
+    None,
+    None,
+];
+
 #[test]
 fn from_both_ends(rt: HostRuntime) {
     let slice = [1, 1, 1, 3, 3, 2, 2, 2];
@@ -13,12 +21,7 @@ fn from_both_ends(rt: HostRuntime) {
     let ends = [End::Front, End::Back, End::Front, End::Back, End::Front];
     let mut out: [Option<&[i32]>; 5] = [None; 5];
     walk(&mut groups, &ends, &mut out);
-    assert!(rt;
-        matches!(
-            out,
-            [Some([1, 1, 1]), Some([2, 2, 2]), Some([3, 3]), None, None]
-        )
-    );
+    assert!(rt; out == THREE_GROUPS);
 }
 
 #[test]
@@ -39,6 +42,23 @@ fn over_nothing(rt: HostRuntime) {
     let mut out: [Option<&[i32]>; 2] = [Some(&other); 2];
     walk(&mut groups, &[End::Front, End::Back], &mut out);
     assert!(rt; out == [None, None]);
+}
+
+#[test]
+fn size_hint_and_last(rt: HostRuntime) {
+    let slice = [1, 1, 2];
+    let mut groups = LinearGroup::new(&slice);
+    assert!(rt; groups.size_hint() == (1, Some(3)) && matches!(groups.next(), Some([1, 1])));
+    assert!(rt; groups.size_hint() == (1, Some(1)) && matches!(groups.next(), Some([2])));
+    assert!(rt; groups.size_hint() == (0, Some(0)) && groups.last().is_none());
+}
+
+#[test]
+fn elements_of_no_bytes(rt: HostRuntime) {
+    let slice = [(), (), (), (), ()];
+    let mut groups = LinearGroup::new(&slice);
+    assert!(rt; groups.size_hint() == (1, Some(5)) && groups.next_back() == Some(&slice));
+    assert!(rt; groups.next().is_none());
 }
 
 fn queue_of_three()
