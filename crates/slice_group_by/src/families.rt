@@ -10,51 +10,24 @@ ghost use Rattle.sgb_loans.specs.Loans.{GroupsMut};
 ghost use Rattle.sgb_search.specs.declared.end.End.{End};
 ghost use Rattle.slice_group_by.specs.Walk.{IsChain};
 
+use crate::queue::GroupQueue;
 use sgb_search::judge::Judge;
-use sgb_slice_group::groups::{GroupEnd, SearchGroups, SliceGroups};
-use sgb_slice_group::groups_mut::{SearchGroupsMut, SliceGroupsMut};
+use sgb_slice_group::groups::SearchGroups;
+use sgb_slice_group::groups_mut::SearchGroupsMut;
 use sgb_slice_group::searching::GroupSearch;
 
-/// The families agree: linear, binary and exponential groups, any two, that are settled for one test, of equal remainders, give
-/// equal groups to equal lists of calls, by whatever judges. It follows from what `walk` and `chains_answer` say of each.
-pub fn families_agree<T, I: Judge<T>, B: GroupEnd, J: Judge<T>, C: GroupEnd>(
-    _one: &SliceGroups<'_, T, I, B>,
-    _other: &SliceGroups<'_, T, J, C>,
+/// The families agree: any two queues of groups that are settled for one test, of equal remainders, give groups of equal elements to
+/// equal lists of calls, by whatever judges. So do linear, binary and exponential groups of a slice, for reading and for writing, as
+/// the groups are when they are handed out.
+pub fn families_agree<T, Q: GroupQueue<Element = T>, R: GroupQueue<Element = T>>(
+    _one: &Q,
+    _other: &R,
 )
-    ensures { (p : T → T → Bool) (q q' : SliceGroups T I B) (r r' : SliceGroups T J C) (ends : List End)
-        (out other : List (Option (Bor (List T))))
-        → B.settled T I I.Judge (shown q) p → C.settled T J J.Judge (shown r) p
-        → (shown q).remainder ≡ (shown r).remainder
-        → IsChain (Gives (B.asks T I I.Judge)) q ends out q'
-        → IsChain (Gives (C.asks T J J.Judge)) r ends other r'
-        → map (option_map (λ group. group.now)) out ≡ map (option_map (λ group. group.now)) other }
-{}
-
-/// The same of any two for writing.
-pub fn families_agree_mut<T, I: Judge<T>, B: GroupEnd, J: Judge<T>, C: GroupEnd>(
-    _one: &SliceGroupsMut<'_, T, I, B>,
-    _other: &SliceGroupsMut<'_, T, J, C>,
-)
-    ensures { (p : T → T → Bool) (q q' : GroupsMut T I) (r r' : GroupsMut T J) (ends : List End)
-        (out other : List (Option (MutBor (List T))))
-        → B.settled T I I.Judge (seen q) p → C.settled T J J.Judge (seen r) p → q.remainder ≡ r.remainder
-        → IsChain (GivesMut (B.asks T I I.Judge)) q ends out q'
-        → IsChain (GivesMut (C.asks T J J.Judge)) r ends other r'
-        → map (option_map (λ group. group.now)) out ≡ map (option_map (λ group. group.now)) other }
-{}
-
-/// The same of one for reading and one for writing: a group for writing holds, when it is handed out, what a group for reading
-/// holds.
-pub fn reading_and_writing_agree<T, I: Judge<T>, B: GroupEnd, J: Judge<T>, C: GroupEnd>(
-    _reading: &SliceGroups<'_, T, I, B>,
-    _writing: &SliceGroupsMut<'_, T, J, C>,
-)
-    ensures { (p : T → T → Bool) (q q' : SliceGroups T I B) (r r' : GroupsMut T J) (ends : List End)
-        (out : List (Option (Bor (List T)))) (other : List (Option (MutBor (List T))))
-        → B.settled T I I.Judge (shown q) p → C.settled T J J.Judge (seen r) p → (shown q).remainder ≡ r.remainder
-        → IsChain (Gives (B.asks T I I.Judge)) q ends out q'
-        → IsChain (GivesMut (C.asks T J J.Judge)) r ends other r'
-        → map (option_map (λ group. group.now)) out ≡ map (option_map (λ group. group.now)) other }
+    ensures { (p : T → T → Bool) (q q' : Q) (r r' : R) (ends : List End) (out : List (Option Q.Item))
+        (other : List (Option R.Item))
+        → Q.is_settled q p → R.is_settled r p → Q.remainder q ≡ R.remainder r
+        → IsChain Q.gives q ends out q' → IsChain R.gives r ends other r'
+        → map (option_map Q.shows) out ≡ map (option_map R.shows) other }
 {}
 
 /// On any slice, grouped or not: a call of binary or exponential groups, whose judge answers by its arguments alone, gives a

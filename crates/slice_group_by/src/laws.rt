@@ -32,10 +32,7 @@ ghost use Rattle.slice_group_by.specs.Queue.{pops, after_pops};
 pub use crate::counts::{
     Judged, calls_ask, linear_counts, mapped_calls_ask, questions_count, search_asks, text_counts,
 };
-pub use crate::families::{
-    families_agree, families_agree_mut, groups_end_locally, groups_end_locally_mut,
-    reading_and_writing_agree,
-};
+pub use crate::families::{families_agree, groups_end_locally, groups_end_locally_mut};
 pub use crate::join::{
     joins_may_go_on, pairs_ascend, pairs_match, partners_are_unique, sees_pairs,
 };
