@@ -58,7 +58,7 @@ module _ {J : Type 0} (g : Ghosts J ℕ) where
     pub group_utf8 : IsUtf8 group
     pub rest_utf8 : IsUtf8 t.text
 
-  -- a call: it gives the group there; where it gives `None`, nothing is asked
+  -- a call: it gives the group there; where it gives `None`, the judge is the same, and so nothing is asked
   abbrev pub TextCallAt : End → TextGroups J → Option (List ℕ) → TextGroups J → Type 0
   TextCallAt e s group t = TakesItem (λ q. q.text ≡ []) (IsTextAt e) s group t
 

@@ -30,7 +30,7 @@ module _ {T J : Type 0} where
       pub cut : s.remainder ≡ put_at e group t.remainder
       pub asked : asks e s.remainder (length group) s.judge t.judge
 
-    -- a call: it gives the group there; where it gives `None`, nothing is asked
+    -- a call: it gives the group there; where it gives `None`, the judge is the same, and so nothing is asked
     abbrev pub CallAt : Groups T J → Option (List T) → Groups T J → Type 0
     CallAt s group t = TakesItem (λ q. q.remainder ≡ []) IsGroupAt s group t
 
