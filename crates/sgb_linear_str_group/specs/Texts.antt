@@ -1,12 +1,12 @@
 -- What an iterator over groups of a text shows, and what its calls give. A text is its bytes, and questions are about its characters.
-use Rattle.std.specs.Prelude.{◌≡◌, ℕ, ◌<◌, Bool, ◌&&◌, ◌||◌, if◌then◌else◌, List, [], length, nat_lt, nat_le, slice_index, slice_range, Option}
+use Rattle.std.specs.Prelude.{◌≡◌, ℕ, ◌<◌, Bool, ◌&&◌, ◌||◌, if◌then◌else◌, List, [], length, nat_lt, nat_le, slice_index, slice_range, Option, MatchOption}
 use Rattle.std.specs.Borrow.{Bor}
 use Rattle.std.specs.Iterator.{Count, at_most}
 use Rattle.std.specs.Str.{chars, IsUtf8}
 use Rattle.sgb_search.specs.declared.judge.Judge.{Ghosts}
 use Rattle.sgb_search.specs.declared.end.End.{End}
 use Rattle.sgb_search.specs.Split.{put_at}
-use Rattle.sgb_search.specs.Calls.{TakesItem, IsGroupAt, Groups}
+use Rattle.sgb_search.specs.Calls.{IsGroupAt, Groups}
 use Rattle.sgb_search.specs.Linear.{IsCallable, IsSettled, LinearQuestions}
 use Rattle.sgb_linear_str_group.specs.declared.groups.LinearStrGroups.{LinearStrGroups}
 
@@ -58,11 +58,10 @@ module _ {J : Type 0} (g : Ghosts J ℕ) where
     pub group_utf8 : IsUtf8 group
     pub rest_utf8 : IsUtf8 t.text
 
-  -- a call: it gives the group there; where it gives `None`, the judge is the same, and so nothing is asked
+  -- a call: it gives the group there, or `None` exactly where nothing remains, and then nothing is asked and nothing changes
   abbrev pub TextCallAt : End → TextGroups J → Option (List ℕ) → TextGroups J → Type 0
-  TextCallAt e s group t = TakesItem (λ q. q.text ≡ []) (IsTextAt e) s group t
+  TextCallAt e s group t = MatchOption group ((s.text ≡ []) × (t ≡ s)) (λ x. IsTextAt e s x t)
 
   -- what a call at the end gives for reading: the same of what it shows, and where it gives `None` nothing at all changes
   abbrev pub GivesText : End → LinearStrGroups J → Option (Bor (List ℕ)) → LinearStrGroups J → Type 0
-  GivesText e s group t =
-      TakesItem (λ q. (shown_text q).text ≡ []) (λ q x r. IsTextAt e (shown_text q) x.now (shown_text r)) s group t
+  GivesText e s group t = MatchOption group (((shown_text s).text ≡ []) × (t ≡ s)) (λ x. IsTextAt e (shown_text s) x.now (shown_text t))

@@ -16,11 +16,6 @@ pub record Groups (T J : Type 0) : Type 0 where
 abbrev pub groups_to_come : {T J : Type 0} → Groups T J → Count
 groups_to_come s = at_most (length s.remainder)
 
--- what a call gives, of which `takes s x t` says that it took x off s and left t: such an x; or `None` exactly where nothing is left, and
--- then nothing changes
-abbrev pub TakesItem : {S X : Type 0} → (S → Type 0) → (S → X → S → Type 0) → S → Option X → S → Type 0
-TakesItem nothing_left takes s item t = MatchOption item (nothing_left s × (t ≡ s)) (λ x. takes s x t)
-
 module _ {T J : Type 0} where
   -- asks e xs n j k: a call at the end e that takes n of the elements xs may lead the judge from j to k
   module _ (asks : End → List T → ℕ → J → J → Type 0) (e : End) where
@@ -30,9 +25,9 @@ module _ {T J : Type 0} where
       pub cut : s.remainder ≡ put_at e group t.remainder
       pub asked : asks e s.remainder (length group) s.judge t.judge
 
-    -- a call: it gives the group there; where it gives `None`, the judge is the same, and so nothing is asked
+    -- a call: it gives the group there, or `None` exactly where nothing remains, and then nothing is asked and nothing changes
     abbrev pub CallAt : Groups T J → Option (List T) → Groups T J → Type 0
-    CallAt s group t = TakesItem (λ q. q.remainder ≡ []) IsGroupAt s group t
+    CallAt s group t = MatchOption group ((s.remainder ≡ []) × (t ≡ s)) (λ x. IsGroupAt s x t)
 
   -- allowed xs are the pairs that a call may ask about where xs remains: the judge may be asked about each, now and after any such
   -- questions

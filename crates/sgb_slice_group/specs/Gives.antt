@@ -3,7 +3,7 @@ use Rattle.std.specs.Prelude.{◌≡◌, ℕ, List, [], Option, MatchOption, sli
 use Rattle.std.specs.Option.{option_copied_mut}
 use Rattle.std.specs.Borrow.{Bor, MutBor}
 use Rattle.sgb_search.specs.declared.judge.Judge.{Ghosts}
-use Rattle.sgb_search.specs.Calls.{Groups, IsCallableBy, TakesItem, CallAt, IsGroupAt}
+use Rattle.sgb_search.specs.Calls.{Groups, IsCallableBy, CallAt, IsGroupAt}
 use Rattle.sgb_search.specs.declared.end.End.{End}
 use Rattle.sgb_loans.specs.Loans.{GroupsMut, HandsOut}
 use Rattle.sgb_slice_group.specs.declared.groups.SliceGroups.{SliceGroups}
@@ -26,7 +26,7 @@ IsCallableByMut allowed g s = IsCallableBy allowed g (seen s)
 -- what a call at the end e gives for reading: what `CallAt` says of what the two show, and where it gives `None` nothing at all changes
 abbrev pub Gives : {T J C : Type 0} → (End → List T → ℕ → J → J → Type 0)
     → End → SliceGroups T J C → Option (Bor (List T)) → SliceGroups T J C → Type 0
-Gives asks e s group t = TakesItem (λ q. (shown q).remainder ≡ []) (λ q x r. IsGroupAt asks e (shown q) x.now (shown r)) s group t
+Gives asks e s group t = MatchOption group (((shown s).remainder ≡ []) × (t ≡ s)) (λ x. IsGroupAt asks e (shown s) x.now (shown t))
 
 -- what a call at the end e gives for writing: the same, and the group is out then; or nothing, and then nothing changes
 abbrev pub GivesMut : {T J : Type 0} → (End → List T → ℕ → J → J → Type 0)
