@@ -7,7 +7,8 @@ ghost use Rattle.slice_group_by.specs.Search.{NeverDescends};
 ghost use Rattle.slice_group_by.specs.Queue.{pops};
 
 use slice_group_by::laws::{
-    ascending_is_grouped, groups_end_locally, search_asks, sees_pieces, sorts_ascend,
+    ascending_is_grouped, families_agree, groups_end_locally, search_asks, sees_pieces,
+    sorts_ascend,
 };
 use slice_group_by::{
     BinaryGroup, BinaryGroupByKeyMut, BinaryGroupMut, End, ExponentialGroup, ExponentialGroupByKey,
@@ -71,6 +72,29 @@ pub fn walk_families_mut<'a, T: Ord>(
     walk(&mut LinearGroupMut::new(first), ends, linear);
     walk(&mut BinaryGroupMut::new(second), ends, binary);
     walk(&mut ExponentialGroupMut::new(third), ends, exponential);
+}
+
+/// The same calls on two families, for reading and for writing, over slices that hold the same: the law that the families agree.
+pub fn walk_two_families<'a, T: Ord>(
+    slice: &'a [T],
+    other: &'a mut [T],
+    ends: &[End],
+    reading: &mut [Option<&'a [T]>],
+    writing: &mut [Option<&'a mut [T]>],
+)
+    requires sorted { NeverDescends T.cmp slice.now }
+    requires same { other.old ≡ slice.now }
+    requires reading { length reading.old ≡ length ends.now }
+    requires writing { length writing.old ≡ length ends.now }
+    ensures { map (option_map (λ group. group.now)) writing.new
+        ≡ map (option_map (λ group. group.now)) reading.new }
+{
+    ascending_is_grouped::<T, T>();
+    let mut groups = LinearGroup::new(slice);
+    let mut others = ExponentialGroupMut::new(other);
+    families_agree(&others, &groups);
+    walk(&mut groups, ends, reading);
+    walk(&mut others, ends, writing);
 }
 
 /// By a predicate for which the slice is grouped.

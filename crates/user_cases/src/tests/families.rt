@@ -1,8 +1,9 @@
 //! Users' functions over the families of groups.
 use slice_group_by::End;
+use std::slice::from_mut;
 use walkers::families::{
     after_first, count_sorted, first_len, grouped_at_small_cases, sort_and_count, walk_by_first,
-    walk_by_tens, walk_families, walk_families_mut,
+    walk_by_tens, walk_families, walk_families_mut, walk_two_families,
 };
 
 #[test]
@@ -25,6 +26,27 @@ fn walks_families(rt: HostRuntime) {
     );
     assert_eq!(rt; binary[0], Some([2].as_slice()));
     assert_eq!(rt; exponential[1], Some([1, 1].as_slice()));
+}
+
+fn is_two(group: &mut [u8]) -> bool {
+    matches!(group, [2])
+}
+
+#[test]
+fn walks_two_families(rt: HostRuntime) {
+    let slice = [1u8, 1, 2];
+    let mut other = slice;
+    let mut reading: [Option<&[u8]>; 1] = [None; 1];
+    let mut last: Option<&mut [u8]> = None;
+    walk_two_families(
+        &slice,
+        &mut other,
+        &[End::Back],
+        &mut reading,
+        from_mut(&mut last),
+    );
+    assert_eq!(rt; reading[0], Some([2].as_slice()));
+    assert!(rt; last.is_some_and(is_two));
 }
 
 #[test]
