@@ -35,7 +35,7 @@ less_below Less e = refl
 less_below Equal e = absurd (true≢false e)
 less_below Greater e = absurd (true≢false e)
 
--- halving asks about no place twice
+-- what is shown without a contradiction, as halving shows its ends
 one_way : {A B : Type 0} → A ⊎ ((false ≡ true) × B) → A
 one_way (inl a) = a
 one_way (inr never) = cc never.0

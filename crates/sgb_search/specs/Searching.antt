@@ -72,8 +72,8 @@ module _ {T : Type 0} (xs : List T) where
   abbrev pub IsBeyond : List ((T × T) × Bool) → ℕ → Type 0
   IsBeyond qs g = (g ≡ length xs) ⊎ IsAskedAt qs g false
 
-  -- the first g end there by the answers; where the judge may contradict itself, one of the two may be unknown, and then both answers came
-  -- about the other
+  -- the first g end there by the answers; where the judge may contradict itself, an answer beside the boundary may be unknown, and then
+  -- both came about the element on its other side
   pub record EndsBy (both : Bool) (qs : List ((T × T) × Bool)) (g : ℕ) : Type 0 where
     pub inner : IsInner qs g ⊎ ((both ≡ true) × ContradictsAt qs g)
     pub beyond : IsBeyond qs g ⊎ ((both ≡ true) × ((1 < g) × ContradictsAt qs (g - 1)))
@@ -146,8 +146,8 @@ module _ (qs : List (ℕ × Ordering)) where
   abbrev pub Contradicts : ℕ → Type 0
   Contradicts i = (a : Ordering) × (b : Ordering) × Contains qs (i, a) × Contains qs (i, b) × (a ≢ b)
 
-  -- both ends are at i; where answers may contradict each other, one of the two may be unknown, and then two came about the place on the
-  -- other side
+  -- both ends are at i; where answers may contradict each other, an end may be unknown, and then two came about the place on its other
+  -- side
   pub record TellsBoundary (both : Bool) (low high i : ℕ) : Type 0 where
     pub low_end : IsLowEnd low i ⊎ ((both ≡ true) × Contradicts i)
     pub high_end : IsHighEnd high i ⊎ ((both ≡ true) × ((low < i) × Contradicts (i - 1)))

@@ -1,0 +1,114 @@
+//! How many questions a call asks at most.
+use crate::queues::len_of;
+use slice_group_by::{BinaryGroupBy, ExponentialGroupBy};
+use std::array;
+use std::cell::Cell;
+
+// Whether two numbers are equal, which is a question more.
+fn asks(questions: &Cell<usize>, a: &usize, b: &usize) -> bool {
+    questions.set(questions.get().wrapping_add(1));
+    a == b
+}
+
+// Each helper: how long the group at that end of the slice is, and how many questions were asked for it.
+fn binary_front(slice: &[usize]) -> (usize, usize) {
+    let questions = Cell::new(0usize);
+    let mut groups = BinaryGroupBy::new(slice, |a, b| asks(&questions, a, b));
+    let len = len_of(groups.next());
+    (len, questions.get())
+}
+
+fn binary_back(slice: &[usize]) -> (usize, usize) {
+    let questions = Cell::new(0usize);
+    let mut groups = BinaryGroupBy::new(slice, |a, b| asks(&questions, a, b));
+    let len = len_of(groups.next_back());
+    (len, questions.get())
+}
+
+fn exponential_front(slice: &[usize]) -> (usize, usize) {
+    let questions = Cell::new(0usize);
+    let mut groups = ExponentialGroupBy::new(slice, |a, b| asks(&questions, a, b));
+    let len = len_of(groups.next());
+    (len, questions.get())
+}
+
+fn exponential_back(slice: &[usize]) -> (usize, usize) {
+    let questions = Cell::new(0usize);
+    let mut groups = ExponentialGroupBy::new(slice, |a, b| asks(&questions, a, b));
+    let len = len_of(groups.next_back());
+    (len, questions.get())
+}
+
+#[test]
+fn binary(rt: HostRuntime) {
+    let zeros = [0usize; 1000];
+    let places: [usize; 1000] = array::from_fn(|place| place);
+    for (n, most) in [
+        (1, 0),
+        (2, 1),
+        (3, 2),
+        (4, 2),
+        (5, 3),
+        (8, 3),
+        (9, 4),
+        (1000, 10),
+    ] {
+        assert!(rt; n <= 1000);
+        for (len, questions) in [binary_front(&zeros[..n]), binary_back(&zeros[..n])] {
+            assert!(rt; len == n && questions <= most, "{questions} at {n}");
+        }
+        for (len, questions) in [binary_front(&places[..n]), binary_back(&places[..n])] {
+            assert!(rt; len == 1 && questions <= most, "{questions} at {n}");
+        }
+    }
+}
+
+#[test]
+fn exponential(rt: HostRuntime) {
+    for (g, most) in [
+        (1, 3),
+        (2, 5),
+        (3, 5),
+        (4, 7),
+        (7, 7),
+        (8, 9),
+        (10, 9),
+        (14, 9),
+        (1001, 21),
+    ] {
+        assert!(rt; g < 1200);
+        let mut slice = [1usize; 1200];
+        slice[..g].fill(0);
+        let (len, questions) = exponential_front(&slice);
+        assert!(rt; len == g && questions <= most, "{questions} at {g}");
+        let mut slice = [1usize; 1200];
+        slice[1200 - g..].fill(2);
+        let (len, questions) = exponential_back(&slice);
+        assert!(rt; len == g && questions <= most, "{questions} at {g}");
+    }
+}
+
+#[test]
+fn thousand_first(rt: HostRuntime) {
+    let mut slice = [0usize; 1001];
+    slice[1000] = 1;
+    let (len, questions) = exponential_front(&slice);
+    assert!(rt; len == 1000 && questions <= 21);
+    let (len, questions) = binary_front(&slice);
+    assert!(rt; len == 1000 && questions <= 10);
+    let (len, questions) = binary_back(&slice);
+    assert!(rt; len == 1 && questions <= 10);
+}
+
+#[test]
+fn three_groups(rt: HostRuntime) {
+    let slice = [1, 1, 1, 2, 2, 2, 3, 3];
+    let questions = Cell::new(0usize);
+    let mut groups = BinaryGroupBy::new(&slice, |a, b| asks(&questions, a, b));
+    assert!(rt; matches!(groups.next(), Some([1, 1, 1])));
+    assert!(rt; questions.replace(0) <= 3);
+    assert!(rt; matches!(groups.next_back(), Some([3, 3])));
+    assert!(rt; questions.replace(0) <= 3);
+    assert!(rt; matches!(groups.next(), Some([2, 2, 2])));
+    assert!(rt; questions.replace(0) <= 2);
+}

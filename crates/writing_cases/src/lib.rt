@@ -1,5 +1,0 @@
-//! Cases of the groups of slices for writing.
-#![tactic(auto)]
-
-#[cfg(test)]
-mod tests;
