@@ -1,4 +1,4 @@
-use Rattle.std.proofs.Common.{arith}
+use Rattle.std.proofs.Common.{arith, rules}
 use Rattle.sgb_search.proofs.Galloping.{doubles_start, doubles_may, doubles_low, doubles_end, doubles_stop, doubles_on, less_below, not_less}
 use Rattle.sgb_search.proofs.gallop.bracket.Goals as goal
 
@@ -33,3 +33,6 @@ returns g c =
     let i = c.loop-low.invariant in
     let may = doubles_may _ _ _ _ _ _ _ i.doubles c.requires i.below in
     doubles_stop _ _ _ _ _ _ _ i.doubles i.below may _ _ c.compare.ensures (not_less _ c.loop-low-test.ensures)
+
+pub loop-low-init : goal.loop-low-init
+loop-low-init g c = search rules
