@@ -1,4 +1,5 @@
-use Rattle.std.proofs.Common.{rules, ◌≡◌, ℕ, min, List, map, nat_eq, sum_by, ap, ◌∙◌}
+use Rattle.std.proofs.lemmas.Grind.{common_steps}
+use Rattle.std.proofs.Common.{rules, ◌≡◌, ℕ, min, List, map, nat_eq, sum_by, ap, ◌∙◌, arith}
 use Rattle.std.proofs.lemmas.Fn.{always_returns_same}
 use Rattle.std.proofs.lemmas.List.Sorted.{sum_by-IsPermutation}
 use Rattle.std.specs.Cmp.{unsigned_ties}
@@ -55,3 +56,6 @@ pub returns-clause-total : goal.returns-clause-total
 returns-clause-total c =
     ap (sum_by amount) (lines c) ∙ sums_of_lines (split same (sorted c))
     ∙ c.pieces_add_up.ensures.sums same amount (sorted c) ∙ sum_by-IsPermutation amount _ _ c.in_ok-sort_by_key.ensures.permutation
+
+pub loop-group-preserved : goal.loop-group-preserved
+loop-group-preserved c = grind (arith, common_steps)

@@ -1,4 +1,5 @@
-use Rattle.std.proofs.Common.{◌≡◌, map, nat_eq, ap, ◌∙◌, sym}
+use Rattle.std.proofs.lemmas.Grind.{common_steps}
+use Rattle.std.proofs.Common.{◌≡◌, map, nat_eq, ap, ◌∙◌, sym, arith}
 use Rattle.std.proofs.lemmas.Bool.{eqb-true}
 use Rattle.std.proofs.lemmas.List.Folds.{flat_map-map}
 use Rattle.std.proofs.lemmas.Simd.{map-map}
@@ -25,3 +26,6 @@ pub returns-clause-decodes : goal.returns-clause-decodes
 returns-clause-decodes c =
     sym (flat_map-map (λ g. g) copies c.loop-group.runs.items) ∙ ap concat (pieces c)
     ∙ c.one_split.ensures.covers nat_eq c.args.bytes.now
+
+pub loop-group-preserved : goal.loop-group-preserved
+loop-group-preserved c = grind (arith, common_steps)
