@@ -6,14 +6,11 @@
 //! one with a negative amount.
 #![tactic(auto)]
 
-mod rows;
-mod subtotals;
-
-use rows::parse_row;
+use programs::grouped_report::rows::parse_row;
+use programs::grouped_report::subtotals::{subtotals, total};
 use std::io;
 use std::io::{BufRead, BufReader};
 use std::process::ExitCode;
-use subtotals::{subtotals, total};
 
 fn main(rt: HostRuntime) -> io::Result<ExitCode> {
     let mut rows = Vec::new(rt.alloc());

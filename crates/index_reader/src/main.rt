@@ -9,13 +9,9 @@
 //! entry 1999 stands an entry with the key 0, and after query 99 one that is negative.
 #![tactic(auto)]
 
-mod answer;
-mod entries;
-mod lookup;
-
-use answer::Answer;
-use entries::{next_entry, parse_query};
-use lookup::entries_of;
+use programs::index_reader::answer::Answer;
+use programs::index_reader::entries::{next_entry, parse_query};
+use programs::index_reader::lookup::entries_of;
 use std::io;
 use std::io::{BufRead, BufReader};
 use std::process::ExitCode;

@@ -4,9 +4,7 @@
 //! of the middle: `1` in column x of row y where (x - 48)^2 + (y - 32)^2 <= 900, and else `0`.
 #![tactic(auto)]
 
-mod coder;
-
-use coder::round_trip;
+use programs::run_length_coder::coder::round_trip;
 use std::io;
 use std::io::Read;
 

@@ -9,16 +9,12 @@
 //! with the key 0, after right row 499 one with the key -1, and after right row 999 one with the value 2^64.
 #![tactic(auto)]
 
-mod matches;
-mod rows;
-mod table;
-
-use matches::matches;
-use rows::parse_row;
+use programs::table_join::matches::matches;
+use programs::table_join::rows::parse_row;
+use programs::table_join::table::Table;
 use std::io::{BufRead, BufReader};
 use std::process::ExitCode;
 use std::{io, mem};
-use table::Table;
 
 fn main(rt: HostRuntime) -> io::Result<ExitCode> {
     let mut left = Table::new(rt.alloc());

@@ -4,12 +4,9 @@
 //! The stored input is a copy of a source file of this repository, `families.rt` of the crate `users`.
 #![tactic(auto)]
 
-mod class;
-mod tokens;
-
-use class::Class;
+use programs::token_counter::class::Class;
+use programs::token_counter::tokens::count_tokens;
 use std::io;
-use tokens::count_tokens;
 
 fn main(rt: HostRuntime) -> io::Result<()> {
     let text = io::read_to_string(rt.alloc(), rt.reader())?;

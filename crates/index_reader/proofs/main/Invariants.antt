@@ -1,4 +1,4 @@
-use Rattle.index_reader.specs.Keys.{IsAscending}
+use Rattle.programs.specs.index_reader.Keys.{IsAscending}
 use Rattle.index_reader.proofs.main.Given as goal
 
 abbrev pub invariant-loop-number : goal.invariant-loop-number

@@ -1,0 +1,91 @@
+//! Entries of an index, and queries, as they stand in lines.
+ghost use Rattle.std.specs.Prelude.{◌≡◌, ℕ, ◌<◌, ◌^◌, [], ◌∷◌, ◌++◌, codes, decimal, IfOk, IsTrue, ◌↔◌};
+ghost use Rattle.std.specs.Str.Parse.{ParsesUnsigned};
+ghost use Rattle.programs.specs.index_reader.Keys.{IsAscending};
+ghost use Rattle.programs.specs.index_reader.Lines.{IsReadFrom};
+
+use std::fmt;
+
+/// An entry of an index: where something stands that has the key.
+#[derive(Clone, Copy)]
+pub struct Entry {
+    pub key: u32,
+    pub place: u64,
+}
+
+/// What is wrong with a line.
+#[derive(Clone, Copy)]
+pub enum LineError {
+    NoComma,
+    Key,
+    Place,
+    Order,
+    Query,
+}
+
+impl fmt::Display for LineError {
+    fn fmt<W: fmt::Write>(&self, f: &mut fmt::Formatter<W>) -> fmt::Result {
+        match self {
+            LineError::NoComma => write!(f, "it has no comma"),
+            LineError::Key => write!(f, "its key is no number of 32 bits"),
+            LineError::Place => write!(f, "its place is no number of 64 bits"),
+            LineError::Order => write!(f, "its key is lower than the one before"),
+            LineError::Query => write!(f, "it is no number of 32 bits"),
+        }
+    }
+}
+
+// The entry that a line is: two numbers with a comma between them. Each entry that is written as `key,place` is read.
+fn parse_entry(line: &str) -> Result<Entry, LineError>
+    ensures written { (k p : ℕ) → k < 2 ^ 32 → p < 2 ^ 64 → line.now ≡ decimal k ++ codes "," ++ decimal p
+        → result ≡ Ok (record { key = k; place = p }) }
+    ensures read { IfOk result (IsReadFrom line.now) }
+{
+    let Some((key, place)) = line.split_once(',') else {
+        return Err(LineError::NoComma);
+    };
+    let Ok(key) = key.parse::<u32>() else {
+        return Err(LineError::Key);
+    };
+    let Ok(place) = place.parse::<u64>() else {
+        return Err(LineError::Place);
+    };
+    Ok(Entry { key, place })
+}
+
+// Whether an index that ascends still does with the entry at its end.
+fn may_follow(index: &[Entry], entry: Entry) -> bool
+    requires { IsAscending index.now }
+    ensures { IsTrue result ↔ IsAscending (index.now ++ entry ∷ []) }
+{
+    match index.last() {
+        Some(last) => last.key <= entry.key,
+        None => true,
+    }
+}
+
+/// The entry that a line is, if it may follow those of the index. Each entry that is written as `key,place`, and may
+/// follow them, is read.
+pub fn next_entry(index: &[Entry], line: &str) -> Result<Entry, LineError>
+    requires { IsAscending index.now }
+    ensures ascending { IfOk result (λ entry. IsAscending (index.now ++ entry ∷ [])) }
+    ensures written { (k p : ℕ) → k < 2 ^ 32 → p < 2 ^ 64 → line.now ≡ decimal k ++ codes "," ++ decimal p
+        → IsAscending (index.now ++ record { key = k; place = p } ∷ [])
+        → result ≡ Ok (record { key = k; place = p }) }
+    ensures read { IfOk result (IsReadFrom line.now) }
+{
+    let entry = parse_entry(line)?;
+    if may_follow(index, entry) {
+        Ok(entry)
+    } else {
+        Err(LineError::Order)
+    }
+}
+
+/// The key that a line asks for. Each key that is written is read.
+pub fn parse_query(line: &str) -> Result<u32, LineError>
+    ensures written { (k : ℕ) → k < 2 ^ 32 → line.now ≡ decimal k → result ≡ Ok k }
+    ensures read { IfOk result (λ key. ParsesUnsigned {E = Unit {0}} 32 10 line.now (Ok key)) }
+{
+    line.parse::<u32>().or(Err(LineError::Query))
+}

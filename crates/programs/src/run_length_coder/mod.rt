@@ -1,0 +1,2 @@
+//! Bytes as runs, and back.
+pub mod coder;
