@@ -91,16 +91,10 @@ pub(super) fn numbers(zeros: usize, calls: &Cell<usize>) -> [Counted<'_>; 1001] 
 fn compares_a_thousand(rt: HostRuntime) {
     let calls = Cell::new(0usize);
     let slice = numbers(1000, &calls);
-    let mut groups = LinearGroup::new(&slice);
-    assert!(rt; len_of(groups.next()) == 1000);
-    assert_eq!(rt; calls.replace(0), 1000);
+    assert!(rt; len_of(LinearGroup::new(&slice).next()) == 1000 && calls.replace(0) == 1000);
     let slice = numbers(1, &calls);
-    let mut groups = LinearGroup::new(&slice);
-    assert!(rt; len_of(groups.next_back()) == 1000);
-    assert_eq!(rt; calls.replace(0), 1000);
-    let groups = LinearGroup::new(&slice);
-    assert!(rt; len_of(groups.last()) == 1000);
-    assert_eq!(rt; calls.replace(0), 1000);
+    assert!(rt; len_of(LinearGroup::new(&slice).next_back()) == 1000 && calls.replace(0) == 1000);
+    assert!(rt; len_of(LinearGroup::new(&slice).last()) == 1000 && calls.replace(0) == 1000);
 }
 
 #[test]

@@ -1,37 +1,30 @@
 //! How often `==` of the elements itself is called, which no contract can say.
-use super::counted::numbers;
+use super::counted::{Counted, numbers};
 use crate::queues::len_of;
 use slice_group_by::{BinaryGroup, ExponentialGroup};
 use std::cell::Cell;
+
+// Whether the group is one of a thousand.
+fn is_thousand(group: Option<&[Counted<'_>]>) -> bool {
+    len_of(group) == 1000
+}
 
 #[test]
 fn thousand_first(rt: HostRuntime) {
     let calls = Cell::new(0usize);
     let slice = numbers(1000, &calls);
-    let mut binary = BinaryGroup::new(&slice);
-    assert!(rt; len_of(binary.next()) == 1000);
-    assert!(rt; calls.replace(0) <= 10);
-    let mut exponential = ExponentialGroup::new(&slice);
-    assert!(rt; len_of(exponential.next()) == 1000);
-    assert!(rt; calls.replace(0) <= 21);
+    assert!(rt; is_thousand(BinaryGroup::new(&slice).next()) && calls.replace(0) <= 10);
+    assert!(rt; is_thousand(ExponentialGroup::new(&slice).next()) && calls.replace(0) <= 21);
 }
 
 #[test]
 fn thousand_last(rt: HostRuntime) {
     let calls = Cell::new(0usize);
     let slice = numbers(1, &calls);
-    let mut binary = BinaryGroup::new(&slice);
-    assert!(rt; len_of(binary.next_back()) == 1000);
-    assert!(rt; calls.replace(0) <= 10);
-    let binary = BinaryGroup::new(&slice);
-    assert!(rt; len_of(binary.last()) == 1000);
-    assert!(rt; calls.replace(0) <= 10);
-    let mut exponential = ExponentialGroup::new(&slice);
-    assert!(rt; len_of(exponential.next_back()) == 1000);
-    assert!(rt; calls.replace(0) <= 21);
-    let exponential = ExponentialGroup::new(&slice);
-    assert!(rt; len_of(exponential.last()) == 1000);
-    assert!(rt; calls.replace(0) <= 21);
+    assert!(rt; is_thousand(BinaryGroup::new(&slice).next_back()) && calls.replace(0) <= 10);
+    assert!(rt; is_thousand(BinaryGroup::new(&slice).last()) && calls.replace(0) <= 10);
+    assert!(rt; is_thousand(ExponentialGroup::new(&slice).next_back()) && calls.replace(0) <= 21);
+    assert!(rt; is_thousand(ExponentialGroup::new(&slice).last()) && calls.replace(0) <= 21);
 }
 
 // By halving it would be ten calls.

@@ -39,6 +39,13 @@ fn exponential_back(slice: &[usize]) -> (usize, usize) {
     (len, questions.get())
 }
 
+// Whether the group at either end has this length, and at most so many questions were asked for it.
+fn binary_asks(slice: &[usize], len: usize, most: usize) -> bool {
+    let (first, of_first) = binary_front(slice);
+    let (last, of_last) = binary_back(slice);
+    first == len && last == len && of_first <= most && of_last <= most
+}
+
 #[test]
 fn binary(rt: HostRuntime) {
     let zeros = [0usize; 1000];
@@ -54,12 +61,11 @@ fn binary(rt: HostRuntime) {
         (1000, 10),
     ] {
         assert!(rt; n <= 1000);
-        for (len, questions) in [binary_front(&zeros[..n]), binary_back(&zeros[..n])] {
-            assert!(rt; len == n && questions <= most, "{questions} at {n}");
-        }
-        for (len, questions) in [binary_front(&places[..n]), binary_back(&places[..n])] {
-            assert!(rt; len == 1 && questions <= most, "{questions} at {n}");
-        }
+        assert!(rt; binary_asks(&zeros[..n], n, most), "equal numbers: {n}");
+        assert!(rt;
+            binary_asks(&places[..n], 1, most),
+            "different numbers: {n}"
+        );
     }
 }
 
@@ -105,10 +111,7 @@ fn three_groups(rt: HostRuntime) {
     let slice = [1, 1, 1, 2, 2, 2, 3, 3];
     let questions = Cell::new(0usize);
     let mut groups = BinaryGroupBy::new(&slice, |a, b| asks(&questions, a, b));
-    assert!(rt; matches!(groups.next(), Some([1, 1, 1])));
-    assert!(rt; questions.replace(0) <= 3);
-    assert!(rt; matches!(groups.next_back(), Some([3, 3])));
-    assert!(rt; questions.replace(0) <= 3);
-    assert!(rt; matches!(groups.next(), Some([2, 2, 2])));
-    assert!(rt; questions.replace(0) <= 2);
+    assert!(rt; groups.next() == Some(&[1, 1, 1]) && questions.replace(0) <= 3);
+    assert!(rt; groups.next_back() == Some(&[3, 3]) && questions.replace(0) <= 3);
+    assert!(rt; groups.next() == Some(&[2, 2, 2]) && questions.replace(0) <= 2);
 }

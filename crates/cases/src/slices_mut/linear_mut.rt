@@ -85,10 +85,14 @@ fn leaves_the_other_elements(rt: HostRuntime) {
     assert_eq!(rt; array, [1, 2, 3, 4, 5, 6, 7, 8, 9, 10, 0, 0]);
     let mut array = [1, 2, 2, 9, 9];
     let mut slice: &mut [i32] = &mut array;
+    look_at_groups(&mut slice);
+    assert_eq!(rt; &*slice, [1, 2, 2, 9, 9].as_slice());
+}
+
+fn look_at_groups(slice: &mut &mut [i32]) {
     let _ = slice.linear_group_mut().next();
     let _ = slice.linear_group_by_mut(ascend).next_back();
     let _ = slice.linear_group_by_key_mut(itself).last();
-    assert_eq!(rt; &*slice, [1, 2, 2, 9, 9].as_slice());
 }
 
 #[test]
@@ -169,17 +173,27 @@ fn every_order_of_four_calls(rt: HostRuntime) {
     }
 }
 
+// Each helper: the array with one of its groups filled.
+fn first_filled(mut array: [i32; 5]) -> [i32; 5] {
+    fill(LinearGroupMut::new(&mut array).next(), 7);
+    array
+}
+
+fn last_ascending_filled(mut array: [i32; 5]) -> [i32; 5] {
+    fill(LinearGroupByMut::new(&mut array, ascend).next_back(), 0);
+    array
+}
+
+fn first_ten_filled(mut array: [i32; 5]) -> [i32; 5] {
+    fill(LinearGroupByKeyMut::new(&mut array, tens).next(), 0);
+    array
+}
+
 #[test]
 fn documentation_examples(rt: HostRuntime) {
-    let mut array = [1, 1, 2, 3, 3];
-    fill(LinearGroupMut::new(&mut array).next(), 7);
-    assert_eq!(rt; array, [7, 7, 2, 3, 3]);
-    let mut array = [1, 2, 3, 2, 3];
-    fill(LinearGroupByMut::new(&mut array, ascend).next_back(), 0);
-    assert_eq!(rt; array, [1, 2, 3, 0, 0]);
-    let mut array = [10, 11, 20, 21, 22];
-    fill(LinearGroupByKeyMut::new(&mut array, tens).next(), 0);
-    assert_eq!(rt; array, [0, 0, 20, 21, 22]);
+    assert_eq!(rt; first_filled([1, 1, 2, 3, 3]), [7, 7, 2, 3, 3]);
+    assert_eq!(rt; last_ascending_filled([1, 2, 3, 2, 3]), [1, 2, 3, 0, 0]);
+    assert_eq!(rt; first_ten_filled([10, 11, 20, 21, 22]), [0, 0, 20, 21, 22]);
     let mut slice = [3, 3, 5, 3, 7, 7];
     rank_groups(&mut slice);
     assert_eq!(rt; slice, [0, 0, 1, 2, 3, 3]);

@@ -74,24 +74,20 @@ fn remainder_stays_text(rt: HostRuntime) -> Result<(), Fail> {
     Ok(())
 }
 
+const DIGITS_FROM_BACK: [Call; 3] = [
+    (Back, Some(b"\xC3\xA9")),
+    (Front, Some(b"12")),
+    (Back, None),
+];
+
 #[test]
 fn by_key_from_both_ends(rt: HostRuntime) -> Result<(), Fail> {
     let mut array = [0x61, 0x62, 0x31, 0x32, 0xC3, 0xA9];
     std::str::from_utf8(&array)?;
     let mut bytes: &mut [u8] = &mut array;
     let mut groups = bytes.linear_group_by_key_mut(is_digit);
-    assert!(rt; holds(groups.next(), Some(b"ab")));
-    assert!(rt; groups.as_str() == "12é" && groups.remainder_len() == 4);
-    assert!(rt;
-        answers_mut(
-            groups,
-            &[
-                (Back, Some("é".as_bytes())),
-                (Front, Some(b"12")),
-                (Back, None)
-            ]
-        )
-    );
+    assert!(rt; holds(groups.next(), Some(b"ab")) && groups.as_str() == "12é");
+    assert!(rt; groups.remainder_len() == 4 && answers_mut(groups, &DIGITS_FROM_BACK));
     Ok(())
 }
 
