@@ -8,7 +8,7 @@ use sgb_search::end::End;
 use sgb_search::gallop::Places;
 use sgb_search::judge::Judge;
 use std::cmp::Ordering;
-use std::marker::{Model, PhantomData};
+use std::marker::PhantomData;
 
 /// How the end of a group is sought.
 pub trait GroupSearch {
@@ -75,18 +75,10 @@ struct FromFront<'a, T> {
     slice: &'a [T],
 }
 
-impl<'a, T> Model for FromFront<'a, T> {
-    ghost use Rattle.std.specs.Prelude.{List};
-
-    ghost Value = { List T };
-
-    ghost view = { λ c. c.slice.now };
-}
-
 impl<'a, T, J: Judge<T>> Places<J> for FromFront<'a, T> {
-    ghost may_compare = { λ j xs i. MayAskAt J.may_ask J.answers xs j i };
+    ghost may_compare = { λ j c i. MayAskAt J.may_ask J.answers c.slice.now j i };
 
-    ghost compares = { λ j xs i o k. AnsweredAt J.may_ask J.answers xs j i o k };
+    ghost compares = { λ j c i o k. AnsweredAt J.may_ask J.answers c.slice.now j i o k };
 
     #[inline]
     fn compare(&self, judge: &mut J, place: usize) -> Ordering {
@@ -100,18 +92,10 @@ struct FromBack<'a, T> {
     slice: &'a [T],
 }
 
-impl<'a, T> Model for FromBack<'a, T> {
-    ghost use Rattle.std.specs.Prelude.{List, reverse};
-
-    ghost Value = { List T };
-
-    ghost view = { λ c. reverse c.slice.now };
-}
-
 impl<'a, T, J: Judge<T>> Places<J> for FromBack<'a, T> {
-    ghost may_compare = { λ j xs i. MayAskAt J.may_ask J.answers xs j i };
+    ghost may_compare = { λ j c i. MayAskAt J.may_ask J.answers (reverse c.slice.now) j i };
 
-    ghost compares = { λ j xs i o k. AnsweredAt J.may_ask J.answers xs j i o k };
+    ghost compares = { λ j c i o k. AnsweredAt J.may_ask J.answers (reverse c.slice.now) j i o k };
 
     #[inline]
     fn compare(&self, judge: &mut J, place: usize) -> Ordering {

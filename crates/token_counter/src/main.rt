@@ -1,7 +1,7 @@
 //! Cuts the text of standard input into tokens, the longest runs of characters of one class, and prints how many there
 //! are of each class.
 //!
-//! The stored input is a copy of a source file of this repository, `families.rt` of the crate `users`.
+//! The stored input is Rattle source: a file of this repository as it once stood.
 #![tactic(auto)]
 
 use programs::token_counter::class::Class;

@@ -1,7 +1,7 @@
 use Rattle.std.proofs.Common.{Some, codes, sym, ◌∙◌, append_assoc, arith}
 use Rattle.std.proofs.lemmas.Fmt.{parse-decimal}
 use Rattle.std.proofs.lemmas.Str.Pattern.{split_parts}
-use Rattle.programs.proofs.grouped_report.Written.{some_comma, parts}
+use Rattle.programs.proofs.Written.{some_comma, parts}
 use Rattle.programs.proofs.grouped_report.rows.parse_row.Goals as goal
 
 pub returns-in_default-clause-written : goal.returns-in_default-clause-written
