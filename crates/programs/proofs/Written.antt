@@ -1,4 +1,4 @@
--- The two parts of a written row.
+-- The two parts of a written pair of numbers.
 use Rattle.std.proofs.Common.{◌≡◌, ◌≢◌, ℕ, zero, suc, ◌<◌, ◌^◌, List, [], ◌∷◌, ◌++◌, length, get_or, Option, None, Some, codes, decimal, Bor, MatchOption, arith, append_assoc, ◌∙◌, subst}
 use Rattle.std.specs.Char.{digit_value}
 use Rattle.std.specs.Str.Parse.{AllDigits}

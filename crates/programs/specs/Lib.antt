@@ -1,3 +1,4 @@
+pub mod Pairs
 pub mod grouped_report
 pub mod index_reader
 pub mod run_length_coder

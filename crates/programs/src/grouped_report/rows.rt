@@ -1,7 +1,8 @@
 //! Rows of a table, as they stand in its lines.
-ghost use Rattle.std.specs.Prelude.{◌≡◌, ℕ, ◌<◌, ◌^◌, List, ◌++◌, codes, decimal, IfOk};
-ghost use Rattle.std.specs.Str.Parse.{ParsesUnsigned};
+ghost use Rattle.std.specs.Prelude.{◌≡◌, ℕ, ◌<◌, ◌^◌, ◌++◌, codes, decimal, IfErr, IfOk};
+ghost use Rattle.programs.specs.Pairs.{Says, IsWrong};
 
+use crate::pairs::{PairError, parse_pair};
 use std::fmt;
 
 /// An amount of a department.
@@ -16,18 +17,14 @@ pub type Row = Entry<u64>;
 
 /// What is wrong with a line.
 #[derive(Clone, Copy)]
-pub enum RowError {
-    NoComma,
-    Department,
-    Amount,
-}
+pub struct RowError(pub PairError);
 
 impl fmt::Display for RowError {
     fn fmt<W: fmt::Write>(&self, f: &mut fmt::Formatter<W>) -> fmt::Result {
-        match self {
-            RowError::NoComma => write!(f, "it has no comma"),
-            RowError::Department => write!(f, "its department is no number of 32 bits"),
-            RowError::Amount => write!(f, "its amount is no number of 64 bits"),
+        match self.0 {
+            PairError::NoComma => write!(f, "it has no comma"),
+            PairError::First => write!(f, "its department is no number of 32 bits"),
+            PairError::Second => write!(f, "its amount is no number of 64 bits"),
         }
     }
 }
@@ -37,18 +34,11 @@ impl fmt::Display for RowError {
 pub fn parse_row(line: &str) -> Result<Row, RowError>
     ensures written { (d a : ℕ) → d < 2 ^ 32 → a < 2 ^ 64 → line.now ≡ decimal d ++ codes "," ++ decimal a
         → result ≡ Ok (record { department = d; amount = a }) }
-    ensures read { IfOk result (λ row. (d a : List ℕ) × (line.now ≡ d ++ codes "," ++ a)
-        × ParsesUnsigned {E = Unit {0}} 32 10 d (Ok row.department)
-        × ParsesUnsigned {E = Unit {0}} 64 10 a (Ok row.amount)) }
+    ensures says { IfOk result (λ row. Says line.now row.department row.amount) }
+    ensures wrong { IfErr result (λ error. IsWrong line.now error.0) }
 {
-    let Some((department, amount)) = line.split_once(',') else {
-        return Err(RowError::NoComma);
-    };
-    let Ok(department) = department.parse::<u32>() else {
-        return Err(RowError::Department);
-    };
-    let Ok(amount) = amount.parse::<u64>() else {
-        return Err(RowError::Amount);
-    };
-    Ok(Row { department, amount })
+    match parse_pair(line) {
+        Ok((department, amount)) => Ok(Row { department, amount }),
+        Err(error) => Err(RowError(error)),
+    }
 }

@@ -2,8 +2,9 @@
 ghost use Rattle.std.specs.Prelude.{◌≡◌, ℕ, ◌<◌, ◌^◌, [], ◌∷◌, ◌++◌, codes, decimal, IfOk, IsTrue, ◌↔◌};
 ghost use Rattle.std.specs.Str.Parse.{ParsesUnsigned};
 ghost use Rattle.programs.specs.index_reader.Keys.{IsAscending};
-ghost use Rattle.programs.specs.index_reader.Lines.{IsReadFrom};
+ghost use Rattle.programs.specs.Pairs.{Says};
 
+use crate::pairs::{PairError, parse_pair};
 use std::fmt;
 
 /// An entry of an index: where something stands that has the key.
@@ -16,9 +17,7 @@ pub struct Entry {
 /// What is wrong with a line.
 #[derive(Clone, Copy)]
 pub enum LineError {
-    NoComma,
-    Key,
-    Place,
+    NoEntry(PairError),
     Order,
     Query,
 }
@@ -26,31 +25,13 @@ pub enum LineError {
 impl fmt::Display for LineError {
     fn fmt<W: fmt::Write>(&self, f: &mut fmt::Formatter<W>) -> fmt::Result {
         match self {
-            LineError::NoComma => write!(f, "it has no comma"),
-            LineError::Key => write!(f, "its key is no number of 32 bits"),
-            LineError::Place => write!(f, "its place is no number of 64 bits"),
+            LineError::NoEntry(PairError::NoComma) => write!(f, "it has no comma"),
+            LineError::NoEntry(PairError::First) => write!(f, "its key is no number of 32 bits"),
+            LineError::NoEntry(PairError::Second) => write!(f, "its place is no number of 64 bits"),
             LineError::Order => write!(f, "its key is lower than the one before"),
             LineError::Query => write!(f, "it is no number of 32 bits"),
         }
     }
-}
-
-// The entry that a line is: two numbers with a comma between them. Each entry that is written as `key,place` is read.
-fn parse_entry(line: &str) -> Result<Entry, LineError>
-    ensures written { (k p : ℕ) → k < 2 ^ 32 → p < 2 ^ 64 → line.now ≡ decimal k ++ codes "," ++ decimal p
-        → result ≡ Ok (record { key = k; place = p }) }
-    ensures read { IfOk result (IsReadFrom line.now) }
-{
-    let Some((key, place)) = line.split_once(',') else {
-        return Err(LineError::NoComma);
-    };
-    let Ok(key) = key.parse::<u32>() else {
-        return Err(LineError::Key);
-    };
-    let Ok(place) = place.parse::<u64>() else {
-        return Err(LineError::Place);
-    };
-    Ok(Entry { key, place })
 }
 
 // Whether an index that ascends still does with the entry at its end.
@@ -72,9 +53,13 @@ pub fn next_entry(index: &[Entry], line: &str) -> Result<Entry, LineError>
     ensures written { (k p : ℕ) → k < 2 ^ 32 → p < 2 ^ 64 → line.now ≡ decimal k ++ codes "," ++ decimal p
         → IsAscending (index.now ++ record { key = k; place = p } ∷ [])
         → result ≡ Ok (record { key = k; place = p }) }
-    ensures read { IfOk result (IsReadFrom line.now) }
+    ensures says { IfOk result (λ entry. Says line.now entry.key entry.place) }
 {
-    let entry = parse_entry(line)?;
+    let (key, place) = match parse_pair(line) {
+        Ok(pair) => pair,
+        Err(error) => return Err(LineError::NoEntry(error)),
+    };
+    let entry = Entry { key, place };
     if may_follow(index, entry) {
         Ok(entry)
     } else {

@@ -1,8 +1,10 @@
 //! Rows of a table, as they stand in its lines.
 ghost use Rattle.std.specs.Prelude.{IfErr, IfOk};
 ghost use Rattle.programs.specs.table_join.Joins.{Follows};
-ghost use Rattle.programs.specs.table_join.Lines.{Says, IsWrong};
+ghost use Rattle.programs.specs.Pairs.{Says};
+ghost use Rattle.programs.specs.table_join.Lines.{IsWrong};
 
+use crate::pairs::{PairError, parse_pair};
 use crate::table_join::table::Table;
 use std::fmt;
 
@@ -16,18 +18,16 @@ pub struct Row {
 /// What is wrong with a line.
 #[derive(Clone, Copy)]
 pub enum RowError {
-    NoComma,
-    Key,
-    Value,
+    NoRow(PairError),
     Descends,
 }
 
 impl fmt::Display for RowError {
     fn fmt<W: fmt::Write>(&self, f: &mut fmt::Formatter<W>) -> fmt::Result {
         match self {
-            RowError::NoComma => write!(f, "it has no comma"),
-            RowError::Key => write!(f, "its key is no number of 32 bits"),
-            RowError::Value => write!(f, "its value is no number of 64 bits"),
+            RowError::NoRow(PairError::NoComma) => write!(f, "it has no comma"),
+            RowError::NoRow(PairError::First) => write!(f, "its key is no number of 32 bits"),
+            RowError::NoRow(PairError::Second) => write!(f, "its value is no number of 64 bits"),
             RowError::Descends => write!(f, "its key is lower than the one before"),
         }
     }
@@ -36,18 +36,13 @@ impl fmt::Display for RowError {
 /// The next row of the table, as a line says it: two numbers with a comma between them, of which the first is no lower
 /// than the last key of the table.
 pub fn parse_row(line: &str, table: &Table) -> Result<Row, RowError>
-    ensures says { IfOk result (λ row. Says line.now row) }
+    ensures says { IfOk result (λ row. Says line.now row.key row.value) }
     ensures follows { IfOk result (λ row. Follows table.now row) }
     ensures wrong { IfErr result (λ error. IsWrong line.now table.now error) }
 {
-    let Some((key, value)) = line.split_once(',') else {
-        return Err(RowError::NoComma);
-    };
-    let Ok(key) = key.parse::<u32>() else {
-        return Err(RowError::Key);
-    };
-    let Ok(value) = value.parse::<u64>() else {
-        return Err(RowError::Value);
+    let (key, value) = match parse_pair(line) {
+        Ok(pair) => pair,
+        Err(error) => return Err(RowError::NoRow(error)),
     };
     let row = Row { key, value };
     if table.takes(row) {
