@@ -156,15 +156,13 @@ impl<'a, J: Judge<char> + Drop> LinearStrGroups<'a, J> {
         match end {
             End::Front => {
                 let len = first_len(rest, &mut self.judge);
-                let (group, _) = rest.split_at(len);
                 self.low += len;
-                Some(group)
+                Some(&rest[..len])
             }
             End::Back => {
                 let start = rest.len() - last_len(rest, &mut self.judge);
-                let (_, group) = rest.split_at(start);
                 self.high = self.low + start;
-                Some(group)
+                Some(&rest[start..])
             }
         }
     }

@@ -127,7 +127,7 @@ impl<'a, J: Drop> LinearStrGroupsMut<'a, J> {
         ensures after { self.new.loans.after ≡ self.old.loans.after }
         ensures cuts { self.new.loans.cuts ≡ drop 1 self.old.loans.cuts }
     {
-        self.loans.note_front(group);
+        self.loans.note(&End::Front, group);
     }
 
     /// Takes note of how the oldest group that is out was left, which came off at the back.
@@ -141,7 +141,7 @@ impl<'a, J: Drop> LinearStrGroupsMut<'a, J> {
         ensures after { self.new.loans.after ≡ group.entry.value ++ self.old.loans.after }
         ensures cuts { self.new.loans.cuts ≡ drop 1 self.old.loans.cuts }
     {
-        self.loans.note_back(group);
+        self.loans.note(&End::Back, group);
     }
 
     /// No group is out: what remains stays as it is, and so the whole input is known.

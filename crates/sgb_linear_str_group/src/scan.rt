@@ -17,18 +17,20 @@ pub(crate) fn first_len<J: Judge<char>>(text: &str, judge: &mut J) -> usize
     ensures asked { IsRun J.may_ask J.answers judge.old
         (questions Front (chars text.now) (length (chars (take result text.now)))) judge.new }
 {
-    let mut characters = text.char_indices();
-    let Some((_, mut last)) = characters.next() else {
+    let mut characters = text.chars();
+    let Some(mut last) = characters.next() else {
         unreachable!()
     };
-    for (place, next) in characters {
+    let mut after = characters.as_str();
+    while let Some(next) = characters.next() {
         let together = judge.ask(&last, &next);
         if !together {
-            return place;
+            break;
         }
         last = next;
+        after = characters.as_str();
     }
-    text.len()
+    text.len() - after.len()
 }
 
 /// How many bytes the last group of the characters has, of a text that is not empty.
@@ -42,17 +44,18 @@ pub(crate) fn last_len<J: Judge<char>>(text: &str, judge: &mut J) -> usize
     ensures asked { IsRun J.may_ask J.answers judge.old
         (questions Back (chars text.now) (length (chars (drop (length text.now - result) text.now)))) judge.new }
 {
-    let mut characters = text.char_indices();
-    let Some((mut start, mut first)) = characters.next_back() else {
+    let mut characters = text.chars();
+    let Some(mut first) = characters.next_back() else {
         unreachable!()
     };
-    while let Some((place, previous)) = characters.next_back() {
+    let mut before = characters.as_str();
+    while let Some(previous) = characters.next_back() {
         let together = judge.ask(&previous, &first);
         if !together {
-            return text.len() - start;
+            break;
         }
-        start = place;
         first = previous;
+        before = characters.as_str();
     }
-    text.len() - start
+    text.len() - before.len()
 }

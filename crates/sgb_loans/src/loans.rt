@@ -3,7 +3,6 @@ ghost use Rattle.std.specs.Prelude.{◌≡◌, ℕ, List, ◌++◌, ◌≤◌, [
 ghost use Rattle.std.specs.Coded.{coded_list};
 ghost use Rattle.std.specs.Borrow.{sem, LendsBoth, Array};
 ghost use Rattle.sgb_search.specs.declared.end.End.{End};
-ghost use Rattle.sgb_search.specs.declared.end.End.TheVariants.{Front, Back};
 ghost use Rattle.sgb_search.specs.Split.{put_at};
 
 use sgb_search::end::End;
@@ -119,39 +118,13 @@ impl<T> Loans<T> {
         }
     }
 
-    // Takes note of how the oldest part was left, which came off at the end: it is out no more.
+    /// Takes note of how the oldest part was left, which came off at the end: it is out no more.
     #[inline]
-    fn note(&mut self, end: &End, part: Ended<'_, T>)
+    pub fn note(&mut self, end: &End, part: Ended<'_, T>)
         requires { self.old.cuts ≡ (end.now, part.name) ∷ drop 1 self.old.cuts }
         ensures { self.new ≡ noted end.now part.entry.value self.old }
     {
         let Ended { marker: _ } = part;
-    }
-
-    /// Takes note of how the oldest part was left, which came off at the front: it is out no more.
-    #[inline]
-    pub fn note_front(&mut self, part: Ended<'_, T>)
-        requires { self.old.cuts ≡ (Front, part.name) ∷ drop 1 self.old.cuts }
-        ensures root { self.new.root ≡ self.old.root }
-        ensures before { self.new.before ≡ self.old.before ++ part.entry.value }
-        ensures after { self.new.after ≡ self.old.after }
-        ensures rest { self.new.rest ≡ self.old.rest }
-        ensures cuts { self.new.cuts ≡ drop 1 self.old.cuts }
-    {
-        self.note(&End::Front, part)
-    }
-
-    /// Takes note of how the oldest part was left, which came off at the back: it is out no more.
-    #[inline]
-    pub fn note_back(&mut self, part: Ended<'_, T>)
-        requires { self.old.cuts ≡ (Back, part.name) ∷ drop 1 self.old.cuts }
-        ensures root { self.new.root ≡ self.old.root }
-        ensures before { self.new.before ≡ self.old.before }
-        ensures after { self.new.after ≡ part.entry.value ++ self.old.after }
-        ensures rest { self.new.rest ≡ self.old.rest }
-        ensures cuts { self.new.cuts ≡ drop 1 self.old.cuts }
-    {
-        self.note(&End::Back, part)
     }
 
     /// No part is out, and the rest is given up: so the whole slice is known.

@@ -10,20 +10,15 @@ use crate::gallop::{Places, gallop};
 use std::cmp::Ordering;
 
 // The elements of a slice, of which a comparator is asked.
-#[derive(Drop)]
-pub(crate) struct Elements<'a, T> {
-    slice: &'a [T],
-}
+impl<'a, T, F: FnMut(&T) -> Ordering> Places<F> for &'a [T] {
+    ghost may_compare = { λ f xs i. (i < length xs.now)
+        × ((x : T) → slice_get xs.now i ≡ Some x → TakesAt F.FnMut f x) };
 
-impl<'a, T, F: FnMut(&T) -> Ordering> Places<F> for Elements<'a, T> {
-    ghost may_compare = { λ f c i. (i < length c.slice.now)
-        × ((x : T) → slice_get c.slice.now i ≡ Some x → TakesAt F.FnMut f x) };
-
-    ghost compares = { λ f c i o h. (x : T) × (slice_get c.slice.now i ≡ Some x) × CalledAt F.FnMut f x o h };
+    ghost compares = { λ f xs i o h. (x : T) × (slice_get xs.now i ≡ Some x) × CalledAt F.FnMut f x o h };
 
     #[inline]
     fn compare(&self, asker: &mut F, place: usize) -> Ordering {
-        asker(&self.slice[place])
+        asker(&self[place])
     }
 }
 
@@ -81,7 +76,7 @@ where
     ensures found { (ord : T → Ordering) → Computes F.FnMut slice.now ord f → IsLessEqualGreater ord slice.now
         → FindsIn ord slice.now result }
 {
-    gallop(&mut f, &Elements { slice }, slice.len())
+    gallop(&mut f, &slice, slice.len())
 }
 
 /// Searches a slice for an element: `Ok` of a place where an equal element stands, or `Err` of a place where it could be

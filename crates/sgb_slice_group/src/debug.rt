@@ -8,60 +8,49 @@ use crate::searching::Search;
 use sgb_search::judge::{KeyJudge, PredicateJudge};
 use std::fmt;
 
+type Names = (&'static str, &'static str, &'static str);
+
 /// The names in the text of the groups that a way to find a group's end makes with a judge.
 pub trait DebugNames<J> {
-    /// The type for reading; `Mut` is put after it for writing.
-    const TYPE: &'static str;
-
-    /// The field that holds what remains, for reading.
-    const FIELD: &'static str = "remainder";
-
-    /// The same for writing.
-    const FIELD_MUT: &'static str = "remainder";
+    /// The type for reading, after which `Mut` is put for writing; the field that holds what remains, for reading; and the one
+    /// for writing.
+    const NAMES: Names;
 }
 
 impl<P> DebugNames<PredicateJudge<P>> for Linear {
-    const TYPE: &'static str = "LinearGroupBy";
-
-    const FIELD: &'static str = "slice";
-
-    const FIELD_MUT: &'static str = "slice";
+    const NAMES: Names = ("LinearGroupBy", "slice", "slice");
 }
 
 impl<F, K> DebugNames<KeyJudge<F, K>> for Linear {
-    const TYPE: &'static str = "LinearGroupByKey";
+    const NAMES: Names = ("LinearGroupByKey", "remainder", "remainder");
 }
 
 impl<P> DebugNames<PredicateJudge<P>> for Search<Binary> {
-    const TYPE: &'static str = "BinaryGroupBy";
+    const NAMES: Names = ("BinaryGroupBy", "remainder", "remainder");
 }
 
 impl<F, K> DebugNames<KeyJudge<F, K>> for Search<Binary> {
-    const TYPE: &'static str = "BinaryGroupByKey";
+    const NAMES: Names = ("BinaryGroupByKey", "remainder", "remainder");
 }
 
 impl<P> DebugNames<PredicateJudge<P>> for Search<Exponential> {
-    const TYPE: &'static str = "ExponentialGroupBy";
-
-    const FIELD_MUT: &'static str = "remaining";
+    const NAMES: Names = ("ExponentialGroupBy", "remainder", "remaining");
 }
 
 impl<F, K> DebugNames<KeyJudge<F, K>> for Search<Exponential> {
-    const TYPE: &'static str = "ExponentialGroupByKey";
-
-    const FIELD_MUT: &'static str = "remaining";
+    const NAMES: Names = ("ExponentialGroupByKey", "remainder", "remaining");
 }
 
 impl<'a, T: fmt::Debug, J, C: DebugNames<J>> fmt::Debug for SliceGroups<'a, T, J, C> {
     fn fmt<W: fmt::Write>(&self, f: &mut fmt::Formatter<W>) -> fmt::Result {
-        let (name, field) = (C::TYPE, C::FIELD);
+        let (name, field, _) = C::NAMES;
         write!(f, "{name} {{ {field}: {:?} }}", self.remainder())
     }
 }
 
 impl<'a, T: fmt::Debug, J, C: DebugNames<J>> fmt::Debug for SliceGroupsMut<'a, T, J, C> {
     fn fmt<W: fmt::Write>(&self, f: &mut fmt::Formatter<W>) -> fmt::Result {
-        let (name, field) = (C::TYPE, C::FIELD_MUT);
+        let (name, _, field) = C::NAMES;
         write!(f, "{name}Mut {{ {field}: {:?} }}", self.remainder())
     }
 }

@@ -1,18 +1,22 @@
 //! The groups of a slice for reading, over any judge and any way to find where a group ends.
 ghost use Rattle.std.specs.Prelude.{◌≡◌, ℕ, ◌<◌, ◌≤◌, Bool, List, length, Option, MatchOption, nat_eq, if◌then◌else◌, IfSome};
+ghost use Rattle.std.specs.Fn.{ComputesKey, ComputesOnPairs};
 ghost use Rattle.std.specs.Iterator.{UpTo};
 ghost use Rattle.std.specs.Iterator.SizeHint.{IsWithinCount};
 ghost use Rattle.sgb_search.specs.declared.end.End.{End};
 ghost use Rattle.sgb_search.specs.declared.end.End.TheVariants.{Front, Back};
 ghost use Rattle.sgb_search.specs.declared.judge.Judge.{Ghosts};
+ghost use Rattle.sgb_search.specs.declared.judge.EqualityJudge.{EqualityJudge};
+ghost use Rattle.sgb_search.specs.declared.judge.PredicateJudge.{PredicateJudge};
+ghost use Rattle.sgb_search.specs.declared.judge.KeyJudge.{KeyJudge};
 ghost use Rattle.sgb_search.specs.Calls.{CallAt, IsCallableBy, ComputesBy, Groups, groups_to_come};
-ghost use Rattle.sgb_search.specs.Judges.{MayAskAll, IsRunOf, AsksWithin};
+ghost use Rattle.sgb_search.specs.Judges.{MayAskAll, IsRunOf, AsksWithin, by_equality, by_predicate, predicate_judge, by_key, key_judge};
 ghost use Rattle.sgb_search.specs.Split.{TakesPiece};
 
 use crate::linear_group::Linear;
 use crate::searching::Search;
 use sgb_search::end::End;
-use sgb_search::judge::Judge;
+use sgb_search::judge::{EqualityJudge, Judge, KeyJudge, PredicateJudge};
 use std::iter::FusedIterator;
 use std::marker::PhantomData;
 
@@ -103,7 +107,7 @@ impl<'a, T, J, C> SliceGroups<'a, T, J, C> {
 
     // All groups of the slice are still to come.
     #[inline]
-    pub(crate) fn with_judge(slice: &'a [T], judge: J) -> Self
+    fn with_judge(slice: &'a [T], judge: J) -> Self
         ensures remainder { (shown result).remainder ≡ slice.now }
         ensures judge { result.judge ≡ judge }
     {
@@ -145,6 +149,89 @@ impl<'a, T, J, C> SliceGroups<'a, T, J, C> {
         ensures { result ≡ nat_eq (length (shown self.now).remainder) 0 }
     {
         self.remainder_len() == 0
+    }
+}
+
+impl<'a, T: PartialEq, C: GroupEnd> SliceGroups<'a, T, EqualityJudge, C> {
+    ghost use Rattle.sgb_slice_group.specs.Gives.{shown};
+
+    /// All groups of equal elements of the slice, which are still to come. Nothing is asked yet.
+    ///
+    /// For binary and exponential groups the slice should be grouped: equal elements should stand side by side, as in one that
+    /// is sorted.
+    #[inline]
+    pub fn new(slice: &'a [T]) -> Self
+        ensures remainder { (shown result).remainder ≡ slice.now }
+        ensures asked { result.judge.asked ≡ 0 }
+        ensures callable { IsCallableBy (C.allowed T) (by_equality T.eq) (shown result) }
+        ensures computes { ComputesBy (C.allowed T) (by_equality T.eq) (shown result) T.eq }
+        ensures settled { C.fits T T.eq slice.now → C.settled T EqualityJudge (by_equality T.eq) (shown result) T.eq }
+    {
+        SliceGroups::with_judge(slice, EqualityJudge::new())
+    }
+}
+
+impl<'a, T, P: FnMut(&T, &T) -> bool, C: GroupEnd> SliceGroups<'a, T, PredicateJudge<P>, C> {
+    ghost use Rattle.sgb_slice_group.specs.Gives.{shown};
+
+    /// All groups of the slice by the predicate, which are still to come. Nothing is asked yet.
+    ///
+    /// The predicate has to be such that it may be called on the pairs that are `allowed`, in every state that its answers can
+    /// lead to: of linear groups on each neighbouring pair of the slice, the left element first, and of binary and exponential
+    /// ones on every two different places, in both orders. Of a slice of at most one element nothing is asked. A closure whose
+    /// body may run on all elements, in every state, meets this at once. One with a `requires` meets it where the slice is
+    /// known to have only such pairs. A caller that is handed the closure takes `P.IsAlwaysCallable predicate` as a
+    /// `requires`, and calls `laws::always_callable`, or `laws::always_callable_apart`.
+    ///
+    /// The result is settled for each test that the predicate computes. For binary and exponential groups the slice should be
+    /// grouped for the test: any two different places should agree exactly if all neighbours between them do.
+    #[inline]
+    pub fn new(slice: &'a [T], predicate: P) -> Self
+        requires { IsCallableBy (C.allowed T) (by_predicate P.FnMut)
+            (record { remainder = slice.now; judge = predicate_judge predicate }) }
+        ensures remainder { (shown result).remainder ≡ slice.now }
+        ensures judge { result.judge ≡ predicate_judge predicate }
+        ensures callable { IsCallableBy (C.allowed T) (by_predicate P.FnMut) (shown result) }
+        ensures computes { (p : T → T → Bool) → ComputesOnPairs P.FnMut p predicate
+            → ComputesBy (C.allowed T) (by_predicate P.FnMut) (shown result) p }
+        ensures settled { (p : T → T → Bool) → ComputesOnPairs P.FnMut p predicate → C.fits T p slice.now
+            → C.settled T (PredicateJudge P) (by_predicate P.FnMut) (shown result) p }
+    {
+        SliceGroups::with_judge(slice, PredicateJudge { predicate })
+    }
+}
+
+type ByKey<'a, T, F, K, C> = SliceGroups<'a, T, KeyJudge<F, K>, C>;
+
+impl<'a, T, K: PartialEq + Drop, F: FnMut(&T) -> K, C: GroupEnd> ByKey<'a, T, F, K, C> {
+    ghost use Rattle.sgb_slice_group.specs.Gives.{shown};
+
+    /// All groups of the slice by the key, which are still to come. Nothing is asked yet.
+    ///
+    /// A question is a call of the key function on the element that stands first in it, then one on the other. The key function
+    /// has to be such that it may be called so on the pairs that are `allowed`, in every state that its calls can lead to: of
+    /// linear groups on each neighbouring pair, the left element first, and of binary and exponential ones on every two
+    /// different places, in both orders. Of a slice of at most one element nothing is asked. A closure whose body may run on
+    /// all elements, in every state, meets this at once. A caller that is handed the function takes `F.IsAlwaysCallable func`
+    /// as a `requires`, calls `laws::always_callable_key`, or `laws::always_callable_key_apart`, and answers with
+    /// `c.always_callable_key.ensures _ _ c.requires`.
+    ///
+    /// The result is settled for equality of the keys that the function computes. For binary and exponential groups the slice
+    /// should be grouped for the key: equal keys should stand side by side, as where the slice ascends by the key.
+    #[inline]
+    pub fn new(slice: &'a [T], func: F) -> Self
+        requires { IsCallableBy (C.allowed T) (by_key F.FnMut K.eq)
+            (record { remainder = slice.now; judge = key_judge func }) }
+        ensures remainder { (shown result).remainder ≡ slice.now }
+        ensures judge { result.judge ≡ key_judge func }
+        ensures callable { IsCallableBy (C.allowed T) (by_key F.FnMut K.eq) (shown result) }
+        ensures computes { (key : T → K) → ComputesKey F.FnMut key func
+            → ComputesBy (C.allowed T) (by_key F.FnMut K.eq) (shown result) (λ x y. K.eq (key x) (key y)) }
+        ensures settled { (key : T → K) → ComputesKey F.FnMut key func
+            → C.fits T (λ x y. K.eq (key x) (key y)) slice.now
+            → C.settled T (KeyJudge F K) (by_key F.FnMut K.eq) (shown result) (λ x y. K.eq (key x) (key y)) }
+    {
+        SliceGroups::with_judge(slice, KeyJudge::new(func))
     }
 }
 
@@ -226,15 +313,13 @@ impl<'a, T, J: Judge<T> + Drop, C: GroupEnd> SliceGroups<'a, T, J, C> {
         let len = C::group_len(end, rest, &mut self.judge);
         match end {
             End::Front => {
-                let (group, _) = rest.split_at(len);
                 self.low += len;
-                Some(group)
+                Some(&rest[..len])
             }
             End::Back => {
                 let start = rest.len() - len;
-                let (_, group) = rest.split_at(start);
                 self.high = self.low + start;
-                Some(group)
+                Some(&rest[start..])
             }
         }
     }

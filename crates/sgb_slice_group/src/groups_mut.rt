@@ -1,8 +1,14 @@
 //! The groups of a slice for writing, over any judge and any way to find where a group ends.
 ghost use Rattle.std.specs.Prelude.{◌≡◌, ℕ, Bool, [], ◌∷◌, ◌++◌, drop, length, nat_eq, if◌then◌else◌, IfSome};
+ghost use Rattle.std.specs.Fn.{ComputesKey, ComputesOnPairs};
 ghost use Rattle.std.specs.Iterator.{UpTo};
 ghost use Rattle.std.specs.Iterator.SizeHint.{IsWithinCount};
 ghost use Rattle.sgb_search.specs.declared.end.End.TheVariants.{Front, Back};
+ghost use Rattle.sgb_search.specs.declared.judge.EqualityJudge.{EqualityJudge};
+ghost use Rattle.sgb_search.specs.declared.judge.PredicateJudge.{PredicateJudge};
+ghost use Rattle.sgb_search.specs.declared.judge.KeyJudge.{KeyJudge};
+ghost use Rattle.sgb_search.specs.Calls.{IsCallableBy, ComputesBy};
+ghost use Rattle.sgb_search.specs.Judges.{by_equality, by_predicate, predicate_judge, by_key, key_judge};
 ghost use Rattle.sgb_loans.specs.Loans.{GroupsMut, NothingOut, groups_mut_to_come};
 
 use crate::groups::GroupEnd;
@@ -10,7 +16,7 @@ use crate::linear_group::Linear;
 use crate::searching::Search;
 use sgb_loans::loans::{Ended, Loans};
 use sgb_search::end::End;
-use sgb_search::judge::Judge;
+use sgb_search::judge::{EqualityJudge, Judge, KeyJudge, PredicateJudge};
 use std::iter::FusedIterator;
 use std::marker::{Model, PhantomData};
 use std::mem;
@@ -49,7 +55,7 @@ impl<'a, T, J, C> Model for SliceGroupsMut<'a, T, J, C> {
 impl<'a, T, J, C> SliceGroupsMut<'a, T, J, C> {
     // All groups of the slice are still to come.
     #[inline]
-    pub(crate) fn with_judge(slice: &'a mut [T], judge: J) -> Self
+    fn with_judge(slice: &'a mut [T], judge: J) -> Self
         ensures remainder { result.remainder ≡ slice.old }
         ensures judge { result.judge ≡ judge }
         ensures loans { NothingOut slice.entry.ghost_name result.loans }
@@ -88,6 +94,75 @@ impl<'a, T, J, C> SliceGroupsMut<'a, T, J, C> {
     }
 }
 
+impl<'a, T: PartialEq, C: GroupEnd> SliceGroupsMut<'a, T, EqualityJudge, C> {
+    ghost use Rattle.sgb_slice_group.specs.Gives.{seen};
+
+    /// All groups of equal elements of the slice, which are still to come. Nothing is asked yet, and nothing is out.
+    ///
+    /// For binary and exponential groups the slice should be grouped: equal elements should stand side by side, as in one that
+    /// is sorted.
+    #[inline]
+    pub fn new(slice: &'a mut [T]) -> Self
+        ensures remainder { result.remainder ≡ slice.old }
+        ensures asked { result.judge.asked ≡ 0 }
+        ensures callable { IsCallableBy (C.allowed T) (by_equality T.eq) (seen result) }
+        ensures computes { ComputesBy (C.allowed T) (by_equality T.eq) (seen result) T.eq }
+        ensures settled { C.fits T T.eq slice.old → C.settled T EqualityJudge (by_equality T.eq) (seen result) T.eq }
+        ensures loans { NothingOut slice.entry.ghost_name result.loans }
+    {
+        SliceGroupsMut::with_judge(slice, EqualityJudge::new())
+    }
+}
+
+impl<'a, T, P: FnMut(&T, &T) -> bool, C: GroupEnd> SliceGroupsMut<'a, T, PredicateJudge<P>, C> {
+    ghost use Rattle.sgb_slice_group.specs.Gives.{seen};
+
+    /// All groups of the slice by the predicate, which are still to come. Nothing is asked yet, and nothing is out.
+    ///
+    /// It requires of the predicate what `new` for reading requires, of the elements as they are now.
+    #[inline]
+    pub fn new(slice: &'a mut [T], predicate: P) -> Self
+        requires { IsCallableBy (C.allowed T) (by_predicate P.FnMut)
+            (record { remainder = slice.old; judge = predicate_judge predicate }) }
+        ensures remainder { result.remainder ≡ slice.old }
+        ensures judge { result.judge ≡ predicate_judge predicate }
+        ensures callable { IsCallableBy (C.allowed T) (by_predicate P.FnMut) (seen result) }
+        ensures computes { (p : T → T → Bool) → ComputesOnPairs P.FnMut p predicate
+            → ComputesBy (C.allowed T) (by_predicate P.FnMut) (seen result) p }
+        ensures settled { (p : T → T → Bool) → ComputesOnPairs P.FnMut p predicate → C.fits T p slice.old
+            → C.settled T (PredicateJudge P) (by_predicate P.FnMut) (seen result) p }
+        ensures loans { NothingOut slice.entry.ghost_name result.loans }
+    {
+        SliceGroupsMut::with_judge(slice, PredicateJudge { predicate })
+    }
+}
+
+type ByKeyMut<'a, T, F, K, C> = SliceGroupsMut<'a, T, KeyJudge<F, K>, C>;
+
+impl<'a, T, K: PartialEq + Drop, F: FnMut(&T) -> K, C: GroupEnd> ByKeyMut<'a, T, F, K, C> {
+    ghost use Rattle.sgb_slice_group.specs.Gives.{seen};
+
+    /// All groups of the slice by the key, which are still to come. Nothing is asked yet, and nothing is out.
+    ///
+    /// It requires of the key function what `new` for reading requires, of the elements as they are now.
+    #[inline]
+    pub fn new(slice: &'a mut [T], func: F) -> Self
+        requires { IsCallableBy (C.allowed T) (by_key F.FnMut K.eq)
+            (record { remainder = slice.old; judge = key_judge func }) }
+        ensures remainder { result.remainder ≡ slice.old }
+        ensures judge { result.judge ≡ key_judge func }
+        ensures callable { IsCallableBy (C.allowed T) (by_key F.FnMut K.eq) (seen result) }
+        ensures computes { (key : T → K) → ComputesKey F.FnMut key func
+            → ComputesBy (C.allowed T) (by_key F.FnMut K.eq) (seen result) (λ x y. K.eq (key x) (key y)) }
+        ensures settled { (key : T → K) → ComputesKey F.FnMut key func
+            → C.fits T (λ x y. K.eq (key x) (key y)) slice.old
+            → C.settled T (KeyJudge F K) (by_key F.FnMut K.eq) (seen result) (λ x y. K.eq (key x) (key y)) }
+        ensures loans { NothingOut slice.entry.ghost_name result.loans }
+    {
+        SliceGroupsMut::with_judge(slice, KeyJudge::new(func))
+    }
+}
+
 impl<'a, T, J: Drop, C> SliceGroupsMut<'a, T, J, C> {
     /// Takes note of how the oldest group that is out was left, which came off at the front.
     #[inline]
@@ -100,7 +175,7 @@ impl<'a, T, J: Drop, C> SliceGroupsMut<'a, T, J, C> {
         ensures after { self.new.loans.after ≡ self.old.loans.after }
         ensures cuts { self.new.loans.cuts ≡ drop 1 self.old.loans.cuts }
     {
-        self.loans.note_front(group);
+        self.loans.note(&End::Front, group);
     }
 
     /// Takes note of how the oldest group that is out was left, which came off at the back.
@@ -114,7 +189,7 @@ impl<'a, T, J: Drop, C> SliceGroupsMut<'a, T, J, C> {
         ensures after { self.new.loans.after ≡ group.entry.value ++ self.old.loans.after }
         ensures cuts { self.new.loans.cuts ≡ drop 1 self.old.loans.cuts }
     {
-        self.loans.note_back(group);
+        self.loans.note(&End::Back, group);
     }
 
     /// The elements that no call has handed out yet, for writing, with what is known of the input. The judge is given up.
@@ -135,8 +210,7 @@ impl<'a, T, J: Drop, C> SliceGroupsMut<'a, T, J, C> {
         ensures value { result.now ≡ self.entry.remainder }
         ensures name { result.ghost_name ≡ self.entry.loans.rest }
     {
-        let (rest, _loans) = self.into_parts();
-        rest
+        self.into_parts().0
     }
 
     /// No group is out: what remains stays as it is, and so the whole input is known.

@@ -3,9 +3,6 @@
 #![tactic(auto)]
 
 pub mod binary_group;
-mod by_equality;
-mod by_key;
-mod by_predicate;
 mod debug;
 pub mod exponential_group;
 pub mod groups;

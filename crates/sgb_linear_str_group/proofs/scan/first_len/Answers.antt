@@ -1,35 +1,47 @@
-use Rattle.std.proofs.Common.{◌+◌, length, ap, sym, ◌∙◌}
-use Rattle.std.specs.Char.{encode_utf8}
+use Rattle.std.proofs.Common.{sym, ◌∙◌}
 use Rattle.std.proofs.lemmas.List.{nil_from_length}
-use Rattle.sgb_linear_str_group.proofs.Scanned.{front_start, front_near, front_more, front_refused, front_all, may_ask_next}
+use Rattle.sgb_linear_str_group.proofs.Scanned.{front_start, front_fits, front_nonempty, front_near, front_more, front_refused, front_all, may_ask_next}
 use Rattle.sgb_linear_str_group.proofs.scan.first_len.Goals as goal
+use Rattle.sgb_linear_str_group.proofs.scan.first_len.Goals.{in-Some-next+then-not-together, in_default-next}
 
-pub loop-place-init : goal.loop-place-init
-loop-place-init g c =
-    let all = c.char_indices-characters.ensures in
-    let first = c.in-Some.ensures.steps in
-    rw c.into_iter-place-iterator.ensures.into_iter_gives
-    (front_start g.J.Judge _ c.utf8.text _ _ _ _ c.requires.callable (sym all.rest ∙ first.1)
-    (first.2 ∙ ap (λ n. n + length (encode_utf8 c.in-Some.last)) all.offset))
+pub loop-next-init : goal.loop-next-init
+loop-next-init g c =
+    let rest_is = c.as_str-after.ensures in
+    (
+      front_start g.J.Judge _ c.utf8.text _ _ _ c.requires.callable (sym c.chars-characters.ensures.rest ∙ rw (← rest_is) at c.in-Some.ensures.steps.0),
+      sym rest_is,
+    )
 
 pub ask-together-requires : goal.ask-together-requires
 ask-together-requires g c =
-    let i = c.loop-place.invariant in
-    may_ask_next g.J.Judge _ _ _ (front_near g.J.Judge _ c.utf8.text _ _ _ _ i.0 _ _ (sym i.1 ∙ c.in-Some-2.ensures.steps.1)) _ i.0.callable
+    let i = c.loop-next.invariant in
+    may_ask_next g.J.Judge _ _ _ (front_near g.J.Judge _ c.utf8.text _ _ _ _ i.0 _ _ (sym i.1 ∙ c.in-Some-next.ensures.steps.0)) _ i.0.callable
 
-pub returns-then-not-together-clause-asked : goal.returns-then-not-together-clause-asked
-returns-then-not-together-clause-asked g c =
-    let i = c.loop-place.invariant in
-    let next = c.in-Some-2.ensures.steps in
-    rw next.0 (front_refused g.J.Judge _ c.utf8.text _ _ _ _ i.0 _ _ (sym i.1 ∙ next.1) _ c.if-not-together.ensures)
+pub loop-next-preserved : goal.loop-next-preserved
+loop-next-preserved g c =
+    let i = c.loop-next.invariant in
+    let rest_is = c.as_str-after-in-Some-next.ensures in
+    (
+      front_more g.J.Judge _ c.utf8.text _ _ _ _ i.0 _ _ (sym i.1 ∙ rw (← rest_is) at c.in-Some-next.ensures.steps.0) _
+      c.if-not-together.ensures,
+      sym rest_is,
+    )
 
-pub loop-place-preserved : goal.loop-place-preserved
-loop-place-preserved g c =
-    let i = c.loop-place.invariant in
-    let next = c.in-Some-2.ensures.steps in
-    front_more g.J.Judge _ c.utf8.text _ _ _ _ i.0 _ _ (sym i.1 ∙ next.1) _ c.if-not-together.ensures _ next.2
+pub overflow_sub-result : goal.overflow_sub-result
+overflow_sub-result g c = front_fits g.J.Judge _ c.utf8.text _ _ _ _ c.loop-next.invariant.0
+
+pub returns-clause-nonempty : goal.returns-clause-nonempty
+returns-clause-nonempty g c = front_nonempty g.J.Judge _ c.utf8.text _ _ _ _ c.loop-next.invariant.0
+
+pub returns-clause-boundary : goal.returns-clause-boundary
+returns-clause-boundary g c = c.loop-next.invariant.0.boundary
 
 pub returns-clause-asked : goal.returns-clause-asked
 returns-clause-asked g c =
-    let i = c.loop-place.invariant in
-    front_all g.J.Judge _ c.utf8.text _ _ _ _ i.0 (sym i.1 ∙ nil_from_length _ c.in-None.ensures.steps.0)
+    let i = c.loop-next.invariant in
+    elim c.match-next-2.branch [
+    | in-Some-next+then-not-together w ↦
+        rw w.judge-is (front_refused g.J.Judge _ c.utf8.text _ _ _ _ i.0 _ _ (sym i.1 ∙ w.in-Some-next.ensures.steps.0) _ w.if-not-together.ensures)
+    | in_default-next w ↦
+        rw w.judge-is (front_all g.J.Judge _ c.utf8.text _ _ _ _ i.0 (sym i.1 ∙ nil_from_length _ w.in_default-next.ensures.steps.0.0))
+    ]

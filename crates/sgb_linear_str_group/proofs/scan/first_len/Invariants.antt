@@ -1,9 +1,7 @@
-use Rattle.std.proofs.Common.{◌≡◌, drop}
-use Rattle.std.specs.Str.Iter.{char_indices_rest, char_indices_offset}
+use Rattle.std.proofs.Common.{◌≡◌}
+use Rattle.std.specs.Str.Iter.{chars_rest}
 use Rattle.sgb_linear_str_group.proofs.Scanned.{FrontScanned}
 use Rattle.sgb_linear_str_group.proofs.scan.first_len.Given as goal
 
-abbrev pub invariant-loop-place : goal.invariant-loop-place
-invariant-loop-place g l =
-    let place = char_indices_offset l.place-iterator in
-    FrontScanned g.J.Judge l.text l.initial.judge place l.last l.judge × (char_indices_rest l.place-iterator ≡ drop place l.text)
+abbrev pub invariant-loop-next : goal.invariant-loop-next
+invariant-loop-next g l = FrontScanned g.J.Judge l.text l.initial.judge l.after l.last l.judge × (chars_rest l.characters ≡ l.after)

@@ -1,40 +1,49 @@
-use Rattle.std.proofs.Common.{arith, ◌+◌, length, ap, sym, ◌∙◌}
-use Rattle.std.specs.Str.Iter.{char_indices_rest}
+use Rattle.std.proofs.Common.{sym, ◌∙◌}
 use Rattle.std.proofs.lemmas.List.{nil_from_length}
-use Rattle.sgb_linear_str_group.proofs.Scanned.{back_first, back_near, back_more, back_refused, back_before, back_all, may_ask_next}
+use Rattle.sgb_linear_str_group.proofs.Scanned.{back_first, back_boundary, back_nonempty, back_near, back_more, back_refused, back_all, may_ask_next}
 use Rattle.sgb_linear_str_group.proofs.scan.last_len.Goals as goal
+use Rattle.sgb_linear_str_group.proofs.scan.last_len.Goals.{in-Some-next_back+then-not-together, in_default-next_back}
 
-pub loop-place-init : goal.loop-place-init
-loop-place-init g c =
-    let all = c.char_indices-characters.ensures in
-    let last = c.in-Some.ensures.steps in
-    let s = back_first g.J.Judge _ c.utf8.text _ _ _ _ c.requires.callable (sym all.rest ∙ last.1.0)
-    (last.1.1 ∙ ap (λ n. n + length (char_indices_rest c.next_back.new.self)) all.offset) in
-    (s.0, s.1, last.0 ∙ all.offset)
+pub loop-previous-init : goal.loop-previous-init
+loop-previous-init g c =
+    let rest_is = c.as_str-before.ensures in
+    (
+      back_first g.J.Judge _ c.utf8.text _ _ _ c.requires.callable (sym c.chars-characters.ensures.rest ∙ rw (← rest_is) at c.in-Some.ensures.steps),
+      sym rest_is,
+    )
 
 pub ask-together-requires : goal.ask-together-requires
 ask-together-requires g c =
-    let i = c.loop-place.invariant in
-    may_ask_next g.J.Judge _ _ _ (back_near g.J.Judge _ c.utf8.text _ _ _ _ i.0 _ _ (sym i.1 ∙ c.in-Some-next_back.ensures.steps.1.0)) _
-    i.0.callable
+    let i = c.loop-previous.invariant in
+    may_ask_next g.J.Judge _ _ _ (back_near g.J.Judge _ c.utf8.text _ _ _ _ i.0 _ _ (sym i.1 ∙ c.in-Some-next_back.ensures.steps)) _ i.0.callable
 
-pub returns-then-not-together-clause-nonempty : goal.returns-then-not-together-clause-nonempty
-returns-then-not-together-clause-nonempty g c = omega (arith, back_before g.J.Judge _ c.utf8.text _ _ _ _ c.loop-place.invariant.0)
+pub loop-previous-preserved : goal.loop-previous-preserved
+loop-previous-preserved g c =
+    let i = c.loop-previous.invariant in
+    let rest_is = c.as_str-before-in-Some-next_back.ensures in
+    (
+      back_more g.J.Judge _ c.utf8.text _ _ _ _ i.0 _ _ (sym i.1 ∙ rw (← rest_is) at c.in-Some-next_back.ensures.steps) _
+      c.if-not-together.ensures,
+      sym rest_is,
+    )
 
-pub returns-then-not-together-clause-asked : goal.returns-then-not-together-clause-asked
-returns-then-not-together-clause-asked g c =
-    let i = c.loop-place.invariant in
-    back_refused g.J.Judge _ c.utf8.text _ _ _ _ i.0 _ _ (sym i.1 ∙ c.in-Some-next_back.ensures.steps.1.0) _ c.if-not-together.ensures
+pub overflow_sub-result : goal.overflow_sub-result
+overflow_sub-result g c = c.loop-previous.invariant.0.boundary.0
 
-pub loop-place-preserved : goal.loop-place-preserved
-loop-place-preserved g c =
-    let i = c.loop-place.invariant in
-    let next = c.in-Some-next_back.ensures.steps in
-    let s = back_more g.J.Judge _ c.utf8.text _ _ _ _ i.0 _ _ (sym i.1 ∙ next.1.0) _ c.if-not-together.ensures _
-    (next.1.1 ∙ ap (λ n. n + length (char_indices_rest c.next_back-in-loop-place.new.self)) i.2) in
-    (s.0, s.1, next.0 ∙ i.2)
+pub returns-clause-nonempty : goal.returns-clause-nonempty
+returns-clause-nonempty g c = back_nonempty g.J.Judge _ c.utf8.text _ _ _ _ c.loop-previous.invariant.0
+
+pub returns-clause-boundary : goal.returns-clause-boundary
+returns-clause-boundary g c = back_boundary g.J.Judge _ c.utf8.text _ _ _ _ c.loop-previous.invariant.0
 
 pub returns-clause-asked : goal.returns-clause-asked
 returns-clause-asked g c =
-    let i = c.loop-place.invariant in
-    back_all g.J.Judge _ c.utf8.text _ _ _ _ i.0 (sym i.1 ∙ nil_from_length _ c.in_default-next_back.ensures.steps.1.0)
+    let i = c.loop-previous.invariant in
+    elim c.match-next_back-2.branch [
+    | in-Some-next_back+then-not-together w ↦
+        rw w.judge-is
+        (back_refused g.J.Judge _ c.utf8.text _ _ _ _ i.0 _ _ (sym i.1 ∙ w.in-Some-next_back.ensures.steps) _ w.if-not-together.ensures)
+    | in_default-next_back w ↦
+        rw w.judge-is
+        (back_all g.J.Judge _ c.utf8.text _ _ _ _ i.0 (sym i.1 ∙ nil_from_length _ w.in_default-next_back.ensures.steps.0))
+    ]

@@ -1,4 +1,4 @@
-use Rattle.std.proofs.Common.{List, ℕ, Some, arith}
+use Rattle.std.proofs.Common.{List, ℕ, Some, take, ap, ◌∙◌, arith}
 use Rattle.sgb_linear_str_group.proofs.Cuts.{front_cut, back_cut}
 use Rattle.sgb_linear_str_group.proofs.Queue.{keeps}
 use Rattle.sgb_linear_str_group.specs.Texts.{TextGroups}
@@ -10,7 +10,7 @@ returns-in-Front-clause-gives g c =
     let cut = c.first_len-len.ensures in
     rw c.in-Front.is
     (front_cut g.J.Judge _ _ _ _ rest.value c.part-rest.utf8 _ cut.boundary (omega arith) _ _ cut.nonempty cut.asked _
-    c.split_at.ensures.front)
+    (c.range.ensures.value ∙ ap (λ (n : ℕ). take n c.part-rest.result.now) (omega arith)))
 
 pub returns-in-Front-clause-callable : goal.returns-in-Front-clause-callable
 returns-in-Front-clause-callable g c =
@@ -21,7 +21,7 @@ returns-in-Back-clause-gives g c =
     let rest = c.part-rest.ensures in
     let cut = c.last_len.ensures in
     rw c.in-Back.is (back_cut g.J.Judge _ _ _ _ rest.value c.part-rest.utf8 _ cut.boundary (omega (arith, cut.nonempty, cut.within)) _ _
-    (omega (arith, cut.nonempty, cut.within)) cut.asked _ c.split_at-in-Back.ensures.back)
+    (omega (arith, cut.nonempty, cut.within)) cut.asked _ c.range_from.ensures.value)
 
 pub returns-in-Back-clause-callable : goal.returns-in-Back-clause-callable
 returns-in-Back-clause-callable g c =

@@ -1,4 +1,4 @@
-use Rattle.std.proofs.Common.{Some, arith}
+use Rattle.std.proofs.Common.{Some, ◌≡◌, ◌-◌, length, take, drop, length-drop, take_all, arith}
 use Rattle.sgb_slice_group.proofs.Cuts.{front_cut, back_cut}
 use Rattle.sgb_slice_group.proofs.groups.SliceGroups.take.Goals as goal
 
@@ -6,7 +6,7 @@ pub returns-in-Front-clause-gives : goal.returns-in-Front-clause-gives
 returns-in-Front-clause-gives g c =
     let s = c.args.self.now in
     let e = c.group_len-len.ensures in
-    rw (c.in-Front.is, c.split_at.ensures.front) (front_cut (g.C.GroupEnd.asks _ _ g.J.Judge) s.slice.now s.low s.high _ _ _
+    rw c.in-Front.is (front_cut (g.C.GroupEnd.asks _ _ g.J.Judge) s.slice.now s.low s.high _ _ _
     c.remainder-rest.ensures _ e.within e.nonempty (rw c.in-Front.is at e.asked))
 
 pub returns-in-Front-clause-callable : goal.returns-in-Front-clause-callable
@@ -16,7 +16,10 @@ pub returns-in-Back-clause-gives : goal.returns-in-Back-clause-gives
 returns-in-Back-clause-gives g c =
     let s = c.args.self.now in
     let e = c.group_len-len.ensures in
-    rw (c.in-Back.is, c.split_at-in-Back.ensures.back) (back_cut (g.C.GroupEnd.asks _ _ g.J.Judge) s.slice.now s.low s.high _ _ _
+    let rest = c.remainder-rest.result.now in
+    let start = length rest - c.group_len-len.result in
+    let all : take (length rest - start) (drop start rest) ≡ drop start rest = take_all _ _ (omega (arith, length-drop start rest)) in
+    rw (c.in-Back.is, all) (back_cut (g.C.GroupEnd.asks _ _ g.J.Judge) s.slice.now s.low s.high _ _ _
     c.remainder-rest.ensures _ (omega (arith, e.within)) _ (omega (arith, e.within)) e.nonempty (rw c.in-Back.is at e.asked))
 
 pub returns-in-Back-clause-callable : goal.returns-in-Back-clause-callable

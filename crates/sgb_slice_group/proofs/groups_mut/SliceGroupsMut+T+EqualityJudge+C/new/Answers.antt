@@ -1,5 +1,5 @@
 use Rattle.sgb_search.proofs.Equality.{equality_settled}
-use Rattle.sgb_slice_group.proofs.by_equality.SliceGroups+T+EqualityJudge+C.new.Goals as goal
+use Rattle.sgb_slice_group.proofs.groups_mut.SliceGroupsMut+T+EqualityJudge+C.new.Goals as goal
 
 pub returns-clause-computes : goal.returns-clause-computes
 returns-clause-computes g c = equality_settled g.T.PartialEq.eq _ _

@@ -1,6 +1,6 @@
 use Rattle.std.proofs.Common.{refl, sym}
 use Rattle.std.proofs.lemmas.Option.{slice_get_read}
-use Rattle.sgb_search.proofs.search.ElementsPlaces.compare.Goals as goal
+use Rattle.sgb_search.proofs.search.RefSlicePlaces.compare.Goals as goal
 
 pub returns : goal.returns
 returns g c = (

@@ -1,5 +1,5 @@
 use Rattle.sgb_search.proofs.Closures.{predicate_settled}
-use Rattle.sgb_slice_group.proofs.by_predicate.SliceGroupsMut+T+PredicateJudge+P+C.new.Goals as goal
+use Rattle.sgb_slice_group.proofs.groups_mut.SliceGroupsMut+T+PredicateJudge+P+C.new.Goals as goal
 
 pub returns-clause-computes : goal.returns-clause-computes
 returns-clause-computes g c p h = rw c.with_judge.ensures.judge (predicate_settled g.P.FnMut p _ _ h)

@@ -1,5 +1,5 @@
 use Rattle.sgb_search.proofs.Closures.{key_settled}
-use Rattle.sgb_slice_group.proofs.by_key.ByKey+T+F+K+C.new.Goals as goal
+use Rattle.sgb_slice_group.proofs.groups_mut.ByKeyMut+T+F+K+C.new.Goals as goal
 
 pub returns-clause-callable : goal.returns-clause-callable
 returns-clause-callable g c = rw (c.with_judge.ensures.remainder, c.with_judge.ensures.judge, c.new.ensures) c.requires
