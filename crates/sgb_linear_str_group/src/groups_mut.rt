@@ -58,7 +58,7 @@ fn text_of(bytes: &[u8]) -> &str
 }
 
 // How many bytes the group at the end of the text has: where the text is cut in two so, the part there is the group.
-#[inline]
+#[inline(always)]
 fn group_len<J: Judge<char>>(end: &End, text: &str, judge: &mut J) -> usize
     requires nonempty { 0 < length text.now }
     requires callable { MayAskAlong J.Judge (chars text.now) judge.old }

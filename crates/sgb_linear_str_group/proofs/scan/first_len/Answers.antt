@@ -6,8 +6,7 @@ use Rattle.sgb_linear_str_group.proofs.scan.first_len.Goals.{in-Some-next+then-n
 
 pub loop-next-init : goal.loop-next-init
 loop-next-init g c =
-    let rest_is = c.as_str-after.ensures in
-    (
+    let rest_is = c.as_str-after.ensures in (
       front_start g.J.Judge _ c.utf8.text _ _ _ c.requires.callable (sym c.chars-characters.ensures.rest ∙ rw (← rest_is) at c.in-Some.ensures.steps.0),
       sym rest_is,
     )
@@ -20,10 +19,9 @@ ask-together-requires g c =
 pub loop-next-preserved : goal.loop-next-preserved
 loop-next-preserved g c =
     let i = c.loop-next.invariant in
-    let rest_is = c.as_str-after-in-Some-next.ensures in
-    (
+    let rest_is = c.as_str-after-in-Some-next.ensures in (
       front_more g.J.Judge _ c.utf8.text _ _ _ _ i.0 _ _ (sym i.1 ∙ rw (← rest_is) at c.in-Some-next.ensures.steps.0) _
-      c.if-not-together.ensures,
+          c.if-not-together.ensures,
       sym rest_is,
     )
 
@@ -40,8 +38,8 @@ pub returns-clause-asked : goal.returns-clause-asked
 returns-clause-asked g c =
     let i = c.loop-next.invariant in
     elim c.match-next-2.branch [
-    | in-Some-next+then-not-together w ↦
-        rw w.judge-is (front_refused g.J.Judge _ c.utf8.text _ _ _ _ i.0 _ _ (sym i.1 ∙ w.in-Some-next.ensures.steps.0) _ w.if-not-together.ensures)
-    | in_default-next w ↦
-        rw w.judge-is (front_all g.J.Judge _ c.utf8.text _ _ _ _ i.0 (sym i.1 ∙ nil_from_length _ w.in_default-next.ensures.steps.0.0))
+      | in-Some-next+then-not-together w ↦
+          rw w.judge-is (front_refused g.J.Judge _ c.utf8.text _ _ _ _ i.0 _ _ (sym i.1 ∙ w.in-Some-next.ensures.steps.0) _ w.if-not-together.ensures)
+      | in_default-next w ↦
+          rw w.judge-is (front_all g.J.Judge _ c.utf8.text _ _ _ _ i.0 (sym i.1 ∙ nil_from_length _ w.in_default-next.ensures.steps.0.0))
     ]

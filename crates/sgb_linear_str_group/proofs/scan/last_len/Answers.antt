@@ -6,8 +6,7 @@ use Rattle.sgb_linear_str_group.proofs.scan.last_len.Goals.{in-Some-next_back+th
 
 pub loop-previous-init : goal.loop-previous-init
 loop-previous-init g c =
-    let rest_is = c.as_str-before.ensures in
-    (
+    let rest_is = c.as_str-before.ensures in (
       back_first g.J.Judge _ c.utf8.text _ _ _ c.requires.callable (sym c.chars-characters.ensures.rest ∙ rw (← rest_is) at c.in-Some.ensures.steps),
       sym rest_is,
     )
@@ -20,10 +19,9 @@ ask-together-requires g c =
 pub loop-previous-preserved : goal.loop-previous-preserved
 loop-previous-preserved g c =
     let i = c.loop-previous.invariant in
-    let rest_is = c.as_str-before-in-Some-next_back.ensures in
-    (
+    let rest_is = c.as_str-before-in-Some-next_back.ensures in (
       back_more g.J.Judge _ c.utf8.text _ _ _ _ i.0 _ _ (sym i.1 ∙ rw (← rest_is) at c.in-Some-next_back.ensures.steps) _
-      c.if-not-together.ensures,
+          c.if-not-together.ensures,
       sym rest_is,
     )
 
@@ -40,10 +38,10 @@ pub returns-clause-asked : goal.returns-clause-asked
 returns-clause-asked g c =
     let i = c.loop-previous.invariant in
     elim c.match-next_back-2.branch [
-    | in-Some-next_back+then-not-together w ↦
-        rw w.judge-is
-        (back_refused g.J.Judge _ c.utf8.text _ _ _ _ i.0 _ _ (sym i.1 ∙ w.in-Some-next_back.ensures.steps) _ w.if-not-together.ensures)
-    | in_default-next_back w ↦
-        rw w.judge-is
-        (back_all g.J.Judge _ c.utf8.text _ _ _ _ i.0 (sym i.1 ∙ nil_from_length _ w.in_default-next_back.ensures.steps.0))
+      | in-Some-next_back+then-not-together w ↦
+          rw w.judge-is
+          (back_refused g.J.Judge _ c.utf8.text _ _ _ _ i.0 _ _ (sym i.1 ∙ w.in-Some-next_back.ensures.steps) _ w.if-not-together.ensures)
+      | in_default-next_back w ↦
+          rw w.judge-is
+          (back_all g.J.Judge _ c.utf8.text _ _ _ _ i.0 (sym i.1 ∙ nil_from_length _ w.in_default-next_back.ensures.steps.0))
     ]
