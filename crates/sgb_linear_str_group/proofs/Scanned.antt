@@ -29,7 +29,8 @@ module _ {J : Type 0} (g : Ghosts J ℕ) (text : List ℕ) where
     callable_next b m a = may_next g.may_ask g.answers (AreNeighbours (chars text)) k (left, right) b m callable near a
 
 module _ {J : Type 0} (g : Ghosts J ℕ) (text : List ℕ) (j : J) where
-  -- from the front: the characters before the rest are asked about, and left is the last of them
+  -- from the front: the neighbours before the rest were all accepted, which leads the judge from j to k, and left is the last character
+  -- there
   pub record FrontScanned (rest : List ℕ) (left : ℕ) (k : J) : Type 0 where
     pub boundary : IsCharBoundary text (length text - length rest)
     pub is_rest : drop (length text - length rest) text ≡ rest
@@ -38,7 +39,8 @@ module _ {J : Type 0} (g : Ghosts J ℕ) (text : List ℕ) (j : J) where
     pub callable : MayAskAlong g (chars text) k
     pub accepted : Accepted g.may_ask g.answers (neighbours (chars text)) j (length seen) k
 
-  -- from the back: the characters after the rest are asked about, and right is the first of them
+  -- from the back: the neighbours after the rest were all accepted, which leads the judge from j to k, and right is the first character
+  -- there
   pub record BackScanned (rest : List ℕ) (right : ℕ) (k : J) : Type 0 where
     pub boundary : IsCharBoundary text (length rest)
     pub is_rest : take (length rest) text ≡ rest
@@ -48,7 +50,7 @@ module _ {J : Type 0} (g : Ghosts J ℕ) (text : List ℕ) (j : J) where
     pub accepted : Accepted g.may_ask g.answers (reverse (neighbours (chars text))) j (length later) k
 
 module _ {J : Type 0} (g : Ghosts J ℕ) (text : List ℕ) (u : IsUtf8 text) (j : J) where
-  -- from the front, over the character c
+  -- beyond the character c, what is left begins between characters
   module _ (place c : ℕ) (rest : List ℕ) (b : IsCharBoundary text place) (e : drop place text ≡ encode_utf8 c ++ rest) where
     past : place + len_utf8 c ≡ length text - length rest
     past = omega (arith, b.0, length-drop place text, ap length e, length-append (encode_utf8 c) rest, length-encode c)
@@ -59,6 +61,7 @@ module _ {J : Type 0} (g : Ghosts J ℕ) (text : List ℕ) (u : IsUtf8 text) (j 
     rest_past : drop (length text - length rest) text ≡ rest
     rest_past = ap (λ (n : ℕ). drop n text) (sym past) ∙ rest_after text u place c rest b e
 
+  -- from the front
   pub front_start : (left : ℕ) (rest : List ℕ) → MayAskAlong g (chars text) j → text ≡ encode_utf8 left ++ rest
       → FrontScanned g text j rest left j
   front_start left rest callable e =
@@ -93,11 +96,11 @@ module _ {J : Type 0} (g : Ghosts J ℕ) (text : List ℕ) (u : IsUtf8 text) (j 
         omega (arith, some, length-take-le (length text - length rest) text s.boundary.0)
 
     module _ (right : ℕ) (more : List ℕ) (e : rest ≡ encode_utf8 right ++ more) where
-      after : chars rest ≡ right ∷ chars more
-      after = ap chars (sym s.is_rest) ∙ chars_after text u (length text - length rest) right more s.boundary (s.is_rest ∙ e)
+      rest_begins : chars rest ≡ right ∷ chars more
+      rest_begins = ap chars (sym s.is_rest) ∙ chars_after text u (length text - length rest) right more s.boundary (s.is_rest ∙ e)
 
       front_here : PairAt (neighbours (chars text)) (length s.seen) (left, right)
-      front_here = pair_between (chars text) s.seen (chars more) left right (s.whole ∙ ap (λ l. s.seen ++ left ∷ l) after)
+      front_here = pair_between (chars text) s.seen (chars more) left right (s.whole ∙ ap (λ l. s.seen ++ left ∷ l) rest_begins)
 
       pub front_near : AreNeighbours (chars text) (left, right)
       front_near = one_of_at (neighbours (chars text)) (length s.seen) (left, right) front_here
@@ -107,7 +110,7 @@ module _ {J : Type 0} (g : Ghosts J ℕ) (text : List ℕ) (u : IsUtf8 text) (j 
         boundary = boundary_past (length text - length rest) right more s.boundary (s.is_rest ∙ e);
         is_rest = rest_past (length text - length rest) right more s.boundary (s.is_rest ∙ e);
         seen = s.seen ++ left ∷ [];
-        whole = s.whole ∙ ap (λ l. s.seen ++ left ∷ l) after ∙ sym (append_assoc s.seen (left ∷ []) (right ∷ chars more));
+        whole = s.whole ∙ ap (λ l. s.seen ++ left ∷ l) rest_begins ∙ sym (append_assoc s.seen (left ∷ []) (right ∷ chars more));
         callable = callable_next g text left right front_near k s.callable true m a;
         accepted =
             accepted_more _ _ (neighbours (chars text)) j (length s.seen) k m (left, right) s.accepted front_here
@@ -136,9 +139,9 @@ module _ {J : Type 0} (g : Ghosts J ℕ) (text : List ℕ) (u : IsUtf8 text) (j 
         count_front
 
   -- from the back
-  pub back_first : (right : ℕ) (rest : List ℕ) → MayAskAlong g (chars text) j → text ≡ rest ++ encode_utf8 right
+  pub back_start : (right : ℕ) (rest : List ℕ) → MayAskAlong g (chars text) j → text ≡ rest ++ encode_utf8 right
       → BackScanned g text j rest right j
-  back_first right rest callable e =
+  back_start right rest callable e =
       let end = IsCharBoundary-end text in
       let all : take (length text) text ≡ text = take_all (length text) text (omega arith) in
       record {
@@ -162,7 +165,7 @@ module _ {J : Type 0} (g : Ghosts J ℕ) (text : List ℕ) (u : IsUtf8 text) (j 
           length-append (chars rest) (right ∷ s.later),
         )
 
-    -- so many bytes from the end
+    -- the place, counted from the end and back
     from_end : length text - (length text - length rest) ≡ length rest
     from_end = omega (arith, s.boundary.0)
 
@@ -175,11 +178,11 @@ module _ {J : Type 0} (g : Ghosts J ℕ) (text : List ℕ) (u : IsUtf8 text) (j 
         omega (arith, some, length-drop (length rest) text)
 
     module _ (left : ℕ) (more : List ℕ) (e : rest ≡ more ++ encode_utf8 left) where
-      before : chars rest ≡ chars more ++ left ∷ []
-      before = ap chars (sym s.is_rest) ∙ chars_before text u (length rest) left more s.boundary (s.is_rest ∙ e)
+      rest_ends : chars rest ≡ chars more ++ left ∷ []
+      rest_ends = ap chars (sym s.is_rest) ∙ chars_before text u (length rest) left more s.boundary (s.is_rest ∙ e)
 
       whole_back : chars text ≡ chars more ++ left ∷ right ∷ s.later
-      whole_back = s.whole ∙ ap (λ l. l ++ right ∷ s.later) before ∙ append_assoc (chars more) (left ∷ []) (right ∷ s.later)
+      whole_back = s.whole ∙ ap (λ l. l ++ right ∷ s.later) rest_ends ∙ append_assoc (chars more) (left ∷ []) (right ∷ s.later)
 
       back_here : PairAt (reverse (neighbours (chars text))) (length s.later) (left, right)
       back_here =

@@ -7,7 +7,7 @@ ghost use Rattle.sgb_search.specs.Linear.{questions, MayAskAlong};
 
 use sgb_search::judge::Judge;
 
-/// How many bytes the first group of the characters has, of a text that is not empty.
+/// How many bytes the first group has, of a text that is not empty.
 #[inline(always)]
 pub(crate) fn first_len<J: Judge<char>>(text: &str, judge: &mut J) -> usize
     requires nonempty { 0 < length text.now }
@@ -21,6 +21,7 @@ pub(crate) fn first_len<J: Judge<char>>(text: &str, judge: &mut J) -> usize
     let Some(mut last) = characters.next() else {
         unreachable!()
     };
+    // What stands after the characters that are taken. `characters` has gone one further when a pair is refused.
     let mut after = characters.as_str();
     while let Some(next) = characters.next() {
         let together = judge.ask(&last, &next);
@@ -33,7 +34,7 @@ pub(crate) fn first_len<J: Judge<char>>(text: &str, judge: &mut J) -> usize
     text.len() - after.len()
 }
 
-/// How many bytes the last group of the characters has, of a text that is not empty.
+/// How many bytes the last group has, of a text that is not empty.
 #[inline(always)]
 pub(crate) fn last_len<J: Judge<char>>(text: &str, judge: &mut J) -> usize
     requires nonempty { 0 < length text.now }
@@ -48,6 +49,7 @@ pub(crate) fn last_len<J: Judge<char>>(text: &str, judge: &mut J) -> usize
     let Some(mut first) = characters.next_back() else {
         unreachable!()
     };
+    // What stands before the characters that are taken.
     let mut before = characters.as_str();
     while let Some(previous) = characters.next_back() {
         let together = judge.ask(&previous, &first);

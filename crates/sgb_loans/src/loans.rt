@@ -118,7 +118,7 @@ impl<T> Loans<T> {
         }
     }
 
-    /// Takes note of how the oldest part was left, which came off at the end: it is out no more.
+    /// Takes note of how the oldest part, which came off at `end`, was left: it is out no more.
     #[inline]
     pub fn note(&mut self, end: &End, part: Ended<'_, T>)
         requires { self.old.cuts ≡ (end.now, part.name) ∷ drop 1 self.old.cuts }

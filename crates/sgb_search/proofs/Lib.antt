@@ -9,7 +9,6 @@ pub mod Equality
 pub mod Closures
 pub mod OnElements
 pub mod Calls
-pub mod LinearPieces
 pub mod LinearPairs
 pub mod LinearQueue
 pub mod Digits
@@ -18,7 +17,6 @@ pub mod Galloping
 pub mod Apart
 pub mod GroupSearches
 pub mod Grouped
-pub mod SearchPieces
 pub mod SearchQueue
 pub mod Counting
 pub mod Readings

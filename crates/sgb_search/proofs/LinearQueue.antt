@@ -1,16 +1,31 @@
--- The laws of calls of linear groups.
-use Rattle.std.proofs.Common.{Bool, true, List, length, ℕ, Option, refl, arith}
+-- The laws of calls of linear groups: a call on a settled iterator gives the outermost piece, and leaves it settled.
+use Rattle.std.proofs.Common.{Bool, List, [], ◌∷◌, length, Option, None, Some, arith, true, ℕ, refl}
 use Rattle.sgb_search.specs.declared.end.End.{End}
 use Rattle.sgb_search.specs.declared.judge.Judge.{Ghosts}
+use Rattle.sgb_search.specs.Linear.{questions, IsSettled, LinearQuestions, IsCallable}
+use Rattle.sgb_search.specs.Split.{TakesPiece, neighbours, AreNeighbours}
+use Rattle.sgb_search.specs.Calls.{Groups, IsGroupAt, CallAt}
+use Rattle.sgb_search.proofs.Pairs.{about, says, neighbours_of_rest}
+use Rattle.sgb_search.proofs.Splits.{takes_piece, takes_nothing}
 use Rattle.sgb_search.specs.Judges.{IsRunOf, AsksWithin}
-use Rattle.sgb_search.specs.Split.{neighbours, AreNeighbours, TakesPiece}
-use Rattle.sgb_search.specs.Linear.{questions, IsCallable, IsSettled, LinearQuestions}
-use Rattle.sgb_search.specs.Calls.{Groups, CallAt}
 use Rattle.sgb_search.proofs.Calls as calls
 use Rattle.sgb_search.proofs.Calls.{AsksAllowed}
-use Rattle.sgb_search.proofs.Pairs.{about, neighbours_of_rest}
-use Rattle.sgb_search.proofs.LinearPieces.{gives_piece}
 use Rattle.sgb_search.proofs.LinearPairs.{asks_once, count_asked}
+
+module _ {T J : Type 0} (g : Ghosts J T) (p : T → T → Bool) where
+  taken : (e : End) (s : Groups T J) (group : List T) (t : Groups T J) → IsSettled g s p → IsGroupAt (LinearQuestions g) e s group t
+      → TakesPiece p e s.remainder (Some group) t.remainder
+  taken e s [] t m h = absurd (omega (arith, h.nonempty))
+  taken e s (x ∷ xs) t m h =
+      let len = length (x ∷ xs) in
+      let answered = m.at (questions e s.remainder len) t.judge h.asked (about e s.remainder len) in
+      let said = says p e (x ∷ xs) t.remainder (omega arith) (rw h.cut at answered) in
+      rw h.cut (takes_piece p e x xs t.remainder said.0 said.1)
+
+  gives_piece : (e : End) (s t : Groups T J) (r : Option (List T)) → IsSettled g s p → CallAt (LinearQuestions g) e s r t
+      → TakesPiece p e s.remainder r t.remainder
+  gives_piece e s t None m h = rw (h.1, h.0) (takes_nothing p e)
+  gives_piece e s t (Some x) m h = taken e s x t m h
 
 module _ {T J : Type 0} (g : Ghosts J T) where
   asks_neighbours : (e : End) (xs : List T) (n : ℕ) (j k : J) → LinearQuestions g e xs n j k → AsksAllowed g (AreNeighbours xs) j k

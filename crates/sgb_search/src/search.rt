@@ -9,7 +9,7 @@ ghost use Rattle.sgb_search.specs.Search.{MayCall, Computes, ComparesKey, IsSear
 use crate::gallop::{Places, gallop};
 use std::cmp::Ordering;
 
-// The elements of a slice, of which a comparator is asked.
+// The places of a slice are its elements, of which a comparator is asked.
 impl<'a, T, F: FnMut(&T) -> Ordering> Places<F> for &'a [T] {
     ghost may_compare = { λ f xs i. (i < length xs.now)
         × ((x : T) → slice_get xs.now i ≡ Some x → TakesAt F.FnMut f x) };

@@ -6,15 +6,17 @@ use Rattle.sgb_linear_str_group.proofs.scan.first_len.Goals.{in-Some-next+then-n
 
 pub loop-next-init : goal.loop-next-init
 loop-next-init g c =
-    let rest_is = c.as_str-after.ensures in (
-      front_start g.J.Judge _ c.utf8.text _ _ _ c.requires.callable (sym c.chars-characters.ensures.rest ∙ rw (← rest_is) at c.in-Some.ensures.steps.0),
+    let rest_is = c.as_str-after.ensures in
+    let first = rw (← rest_is) at c.in-Some.ensures.steps.0 in (
+      front_start g.J.Judge _ c.utf8.text _ _ _ c.requires.callable (sym c.chars-characters.ensures.rest ∙ first),
       sym rest_is,
     )
 
 pub ask-together-requires : goal.ask-together-requires
 ask-together-requires g c =
     let i = c.loop-next.invariant in
-    may_ask_next g.J.Judge _ _ _ (front_near g.J.Judge _ c.utf8.text _ _ _ _ i.0 _ _ (sym i.1 ∙ c.in-Some-next.ensures.steps.0)) _ i.0.callable
+    let near = front_near g.J.Judge _ c.utf8.text _ _ _ _ i.0 _ _ (sym i.1 ∙ c.in-Some-next.ensures.steps.0) in
+    may_ask_next g.J.Judge _ _ _ near _ i.0.callable
 
 pub loop-next-preserved : goal.loop-next-preserved
 loop-next-preserved g c =
@@ -39,7 +41,9 @@ returns-clause-asked g c =
     let i = c.loop-next.invariant in
     elim c.match-next-2.branch [
       | in-Some-next+then-not-together w ↦
-          rw w.judge-is (front_refused g.J.Judge _ c.utf8.text _ _ _ _ i.0 _ _ (sym i.1 ∙ w.in-Some-next.ensures.steps.0) _ w.if-not-together.ensures)
+          rw w.judge-is
+          (front_refused g.J.Judge _ c.utf8.text _ _ _ _ i.0 _ _ (sym i.1 ∙ w.in-Some-next.ensures.steps.0) _ w.if-not-together.ensures)
       | in_default-next w ↦
-          rw w.judge-is (front_all g.J.Judge _ c.utf8.text _ _ _ _ i.0 (sym i.1 ∙ nil_from_length _ w.in_default-next.ensures.steps.0.0))
+          rw w.judge-is
+          (front_all g.J.Judge _ c.utf8.text _ _ _ _ i.0 (sym i.1 ∙ nil_from_length _ w.in_default-next.ensures.steps.0.0))
     ]

@@ -1,20 +1,22 @@
 use Rattle.std.proofs.Common.{sym, ◌∙◌}
 use Rattle.std.proofs.lemmas.List.{nil_from_length}
-use Rattle.sgb_linear_str_group.proofs.Scanned.{back_first, back_boundary, back_nonempty, back_near, back_more, back_refused, back_all, may_ask_next}
+use Rattle.sgb_linear_str_group.proofs.Scanned.{back_start, back_boundary, back_nonempty, back_near, back_more, back_refused, back_all, may_ask_next}
 use Rattle.sgb_linear_str_group.proofs.scan.last_len.Goals as goal
 use Rattle.sgb_linear_str_group.proofs.scan.last_len.Goals.{in-Some-next_back+then-not-together, in_default-next_back}
 
 pub loop-previous-init : goal.loop-previous-init
 loop-previous-init g c =
-    let rest_is = c.as_str-before.ensures in (
-      back_first g.J.Judge _ c.utf8.text _ _ _ c.requires.callable (sym c.chars-characters.ensures.rest ∙ rw (← rest_is) at c.in-Some.ensures.steps),
+    let rest_is = c.as_str-before.ensures in
+    let last = rw (← rest_is) at c.in-Some.ensures.steps in (
+      back_start g.J.Judge _ c.utf8.text _ _ _ c.requires.callable (sym c.chars-characters.ensures.rest ∙ last),
       sym rest_is,
     )
 
 pub ask-together-requires : goal.ask-together-requires
 ask-together-requires g c =
     let i = c.loop-previous.invariant in
-    may_ask_next g.J.Judge _ _ _ (back_near g.J.Judge _ c.utf8.text _ _ _ _ i.0 _ _ (sym i.1 ∙ c.in-Some-next_back.ensures.steps)) _ i.0.callable
+    let near = back_near g.J.Judge _ c.utf8.text _ _ _ _ i.0 _ _ (sym i.1 ∙ c.in-Some-next_back.ensures.steps) in
+    may_ask_next g.J.Judge _ _ _ near _ i.0.callable
 
 pub loop-previous-preserved : goal.loop-previous-preserved
 loop-previous-preserved g c =

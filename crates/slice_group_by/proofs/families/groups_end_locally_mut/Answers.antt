@@ -1,7 +1,6 @@
 use Rattle.std.proofs.Common.{Some}
 use Rattle.sgb_slice_group.specs.Gives.{seen}
-use Rattle.sgb_search.proofs.SearchPieces.{ends_locally}
-use Rattle.sgb_search.proofs.SearchQueue.{computes_on}
+use Rattle.sgb_search.proofs.SearchQueue.{ends_locally, computes_on}
 use Rattle.slice_group_by.proofs.families.groups_end_locally_mut.Goals as goal
 
 pub returns-clause-ends : goal.returns-clause-ends
