@@ -77,3 +77,17 @@ pub fn len_of_mut<T>(group: Option<&mut [T]>) -> usize {
         None => 0,
     }
 }
+
+// What the views show of an iterator: what remains, how many elements, whether none do, and how many groups may come.
+macro_rules! views {
+    ($groups:expr) => {
+        (
+            $groups.remainder(),
+            $groups.remainder_len(),
+            $groups.is_empty(),
+            $groups.size_hint(),
+        )
+    };
+}
+
+pub(crate) use views;

@@ -1,5 +1,5 @@
 //! Groups by a key, case by case.
-use crate::queues::{answers, writes};
+use crate::queues::{answers, views, writes};
 use slice_group_by::End::{self, Back, Front};
 use slice_group_by::{BinaryGroupByKey, ExponentialGroupByKey};
 use std::test::Fail;
@@ -29,26 +29,15 @@ fn by_tens(rt: HostRuntime) {
 fn binary_views(rt: HostRuntime) -> Result<(), Fail> {
     let slice = [1, 1, 1, 3, 3, 2, 2, 2];
     let mut groups = BinaryGroupByKey::new(&slice, itself);
-    assert!(rt;
-        matches!(
-            (groups.next(), groups.next_back()),
-            (Some([1, 1, 1]), Some([2, 2, 2]))
-        )
-    );
-    assert!(rt; matches!(groups.remainder(), [3, 3]) && groups.remainder_len() == 2);
-    assert!(rt; !groups.is_empty() && groups.size_hint() == (1, Some(2)));
-    assert!(rt;
-        writes(
-            rt.alloc(),
-            &groups,
-            "BinaryGroupByKey { remainder: [3, 3] }"
-        )?
-    );
-    let rest = groups.next();
-    assert!(rt;
-        matches!(rest, Some([3, 3])) && groups.is_empty() && groups.size_hint() == (0, Some(0))
-    );
-    assert!(rt; writes(rt.alloc(), &groups, "BinaryGroupByKey { remainder: [] }")?);
+    let outer = (groups.next(), groups.next_back());
+    assert!(rt; outer == (Some(&[1, 1, 1]), Some(&[2, 2, 2])));
+    assert!(rt; views!(groups) == (&[3, 3], 2, false, (1, Some(2))));
+    let wanted = "BinaryGroupByKey { remainder: [3, 3] }";
+    assert!(rt; writes(rt.alloc(), &groups, wanted)?);
+    assert!(rt; groups.next() == Some(&[3, 3]));
+    assert!(rt; views!(groups) == (&[], 0, true, (0, Some(0))));
+    let wanted = "BinaryGroupByKey { remainder: [] }";
+    assert!(rt; writes(rt.alloc(), &groups, wanted)?);
     Ok(())
 }
 
@@ -56,32 +45,15 @@ fn binary_views(rt: HostRuntime) -> Result<(), Fail> {
 fn exponential_views(rt: HostRuntime) -> Result<(), Fail> {
     let slice = [1, 1, 1, 3, 3, 2, 2, 2];
     let mut groups = ExponentialGroupByKey::new(&slice, itself);
-    assert!(rt;
-        matches!(
-            (groups.next(), groups.next_back()),
-            (Some([1, 1, 1]), Some([2, 2, 2]))
-        )
-    );
-    assert!(rt; matches!(groups.remainder(), [3, 3]) && groups.remainder_len() == 2);
-    assert!(rt; !groups.is_empty() && groups.size_hint() == (1, Some(2)));
-    assert!(rt;
-        writes(
-            rt.alloc(),
-            &groups,
-            "ExponentialGroupByKey { remainder: [3, 3] }"
-        )?
-    );
-    let rest = groups.next();
-    assert!(rt;
-        matches!(rest, Some([3, 3])) && groups.is_empty() && groups.size_hint() == (0, Some(0))
-    );
-    assert!(rt;
-        writes(
-            rt.alloc(),
-            &groups,
-            "ExponentialGroupByKey { remainder: [] }"
-        )?
-    );
+    let outer = (groups.next(), groups.next_back());
+    assert!(rt; outer == (Some(&[1, 1, 1]), Some(&[2, 2, 2])));
+    assert!(rt; views!(groups) == (&[3, 3], 2, false, (1, Some(2))));
+    let wanted = "ExponentialGroupByKey { remainder: [3, 3] }";
+    assert!(rt; writes(rt.alloc(), &groups, wanted)?);
+    assert!(rt; groups.next() == Some(&[3, 3]));
+    assert!(rt; views!(groups) == (&[], 0, true, (0, Some(0))));
+    let wanted = "ExponentialGroupByKey { remainder: [] }";
+    assert!(rt; writes(rt.alloc(), &groups, wanted)?);
     Ok(())
 }
 

@@ -1,4 +1,5 @@
 //! Groups by a predicate, case by case.
+use crate::queues::views;
 use slice_group_by::{BinaryGroup, ExponentialGroup, ExponentialGroupBy};
 
 fn equal(a: &i32, b: &i32) -> bool {
@@ -9,11 +10,10 @@ fn equal(a: &i32, b: &i32) -> bool {
 fn exponential_views(rt: HostRuntime) {
     let slice = [1, 1, 2];
     let mut groups = ExponentialGroupBy::new(&slice, equal);
-    assert!(rt; groups.size_hint() == (1, Some(3)) && matches!(groups.next(), Some([1, 1])));
-    assert!(rt; groups.size_hint() == (1, Some(1)) && matches!(groups.remainder(), [2]));
-    assert!(rt; groups.remainder_len() == 1 && !groups.is_empty());
-    assert!(rt; matches!(groups.next(), Some([2])) && groups.size_hint() == (0, Some(0)));
-    assert!(rt; groups.is_empty() && groups.remainder_len() == 0);
+    assert!(rt; groups.size_hint() == (1, Some(3)) && groups.next() == Some(&[1, 1]));
+    assert!(rt; views!(groups) == (&[2], 1, false, (1, Some(1))));
+    assert!(rt; groups.next() == Some(&[2]));
+    assert!(rt; views!(groups) == (&[], 0, true, (0, Some(0))));
 }
 
 // A group ends where the element beyond is refused, even if the slice is not grouped.

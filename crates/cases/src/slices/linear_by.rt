@@ -1,7 +1,7 @@
 //! Linear groups by predicate and by key, case by case.
 ghost use Rattle.std.specs.Prelude.{◌<◌};
 
-use crate::queues::{answers, writes};
+use crate::queues::{answers, views, writes};
 use slice_group_by::End::{self, Back, Front};
 use slice_group_by::{GroupBy, LinearGroupBy, LinearGroupByKey, walk};
 use std::test::Fail;
@@ -78,7 +78,7 @@ fn calls_of_the_key_function(rt: HostRuntime) {
         *x
     });
     let last = groups.next_back();
-    assert!(rt; matches!(last, Some([3])) && groups.remainder_len() == 3);
+    assert!(rt; last == Some(&[3]) && groups.remainder_len() == 3);
     assert!(rt; (calls, first, second) == (2, 2, 3));
 }
 
@@ -86,26 +86,15 @@ fn calls_of_the_key_function(rt: HostRuntime) {
 fn views_of_the_remainder(rt: HostRuntime) -> Result<(), Fail> {
     let slice: &[i32] = &[1, 1, 1, 3, 3, 2, 2, 2];
     let mut groups = slice.linear_group_by_key(itself);
-    assert!(rt;
-        matches!(
-            (groups.next(), groups.next_back()),
-            (Some([1, 1, 1]), Some([2, 2, 2]))
-        )
-    );
-    assert!(rt; matches!(groups.remainder(), [3, 3]) && groups.remainder_len() == 2);
-    assert!(rt; !groups.is_empty() && groups.size_hint() == (1, Some(2)));
-    assert!(rt;
-        writes(
-            rt.alloc(),
-            &groups,
-            "LinearGroupByKey { remainder: [3, 3] }"
-        )?
-    );
-    let rest = groups.next();
-    assert!(rt;
-        matches!(rest, Some([3, 3])) && groups.is_empty() && groups.size_hint() == (0, Some(0))
-    );
-    assert!(rt; writes(rt.alloc(), &groups, "LinearGroupByKey { remainder: [] }")?);
+    let outer = (groups.next(), groups.next_back());
+    assert!(rt; outer == (Some(&[1, 1, 1]), Some(&[2, 2, 2])));
+    assert!(rt; views!(groups) == (&[3, 3], 2, false, (1, Some(2))));
+    let wanted = "LinearGroupByKey { remainder: [3, 3] }";
+    assert!(rt; writes(rt.alloc(), &groups, wanted)?);
+    assert!(rt; groups.next() == Some(&[3, 3]));
+    assert!(rt; views!(groups) == (&[], 0, true, (0, Some(0))));
+    let wanted = "LinearGroupByKey { remainder: [] }";
+    assert!(rt; writes(rt.alloc(), &groups, wanted)?);
     Ok(())
 }
 

@@ -1,7 +1,7 @@
 //! Groups by the methods of a slice, family beside family, case by case.
 ghost use Rattle.std.specs.Prelude.{◌≢◌, ◌≤◌};
 
-use crate::queues::{answers, len_of, len_of_mut};
+use crate::queues::{answers, len_of, len_of_mut, views};
 use slice_group_by::{End, GroupBy, GroupByMut};
 use std::cell::Cell;
 
@@ -32,13 +32,10 @@ fn any(_a: &(), _b: &()) -> bool {
 fn views_of_the_remainder(rt: HostRuntime) {
     let slice: &[i32] = &[1, 1, 2];
     let mut groups = slice.binary_group_by(equal);
-    assert!(rt; groups.size_hint() == (1, Some(3)) && matches!(groups.next(), Some([1, 1])));
-    assert_eq!(rt; groups.size_hint(), (1, Some(1)));
-    assert!(rt;
-        matches!(groups.remainder(), [2]) && groups.remainder_len() == 1 && !groups.is_empty()
-    );
-    assert!(rt; matches!(groups.next(), Some([2])) && groups.size_hint() == (0, Some(0)));
-    assert!(rt; groups.is_empty() && groups.remainder_len() == 0);
+    assert!(rt; groups.size_hint() == (1, Some(3)) && groups.next() == Some(&[1, 1]));
+    assert!(rt; views!(groups) == (&[2], 1, false, (1, Some(1))));
+    assert!(rt; groups.next() == Some(&[2]));
+    assert!(rt; views!(groups) == (&[], 0, true, (0, Some(0))));
 }
 
 #[test]
