@@ -5,7 +5,7 @@ use Rattle.std.specs.Prelude.{◌&&◌, slice_range, nat_le}
 use Rattle.std.specs.Str.{IsUtf8, IsCharBoundary}
 use Rattle.std.proofs.lemmas.Bool.{leb-false}
 use Rattle.std.proofs.lemmas.Bool.Decides.{nat_tests}
-use Rattle.std.proofs.lemmas.List.{get_or_past, get_or-drop, get_or-take, take-take, drop-take, drop-drop}
+use Rattle.std.proofs.lemmas.List.{get_or_past, get_or-drop, get_or-take, length-take-le, take-take, drop-take, drop-drop}
 use Rattle.std.proofs.lemmas.Str.{IsCharBoundary-start, IsCharBoundary-end}
 use Rattle.std.proofs.Math.Seq.{take-length}
 use Rattle.sgb_search.proofs.Ranges.{length-range}
@@ -15,6 +15,23 @@ boundary_test : (text : List ℕ) (place : ℕ) → Decides (lies_between_charac
 boundary_test text place =
     let past = get_or_past text place 0 in
     (λ e. (grind (arith, nat_tests), λ l h. grind (arith, nat_tests)), λ b. grind (arith, nat_tests))
+
+-- whether a place lies between characters is seen in the text up to a later place
+module _ (text front : List ℕ) (low high : ℕ) (order : low < high) (within : high ≤ length text) (is : front ≡ slice_range text 0 high) where
+  front_is : front ≡ take high text
+  front_is = is ∙ ap (λ (n : ℕ). take n text) (omega arith)
+
+  front_len : length front ≡ high
+  front_len = ap length front_is ∙ length-take-le high text within
+
+  same_byte : get_or front low 0 ≡ get_or text low 0
+  same_byte = ap (λ (xs : List ℕ). get_or xs low 0) front_is ∙ get_or-take high text low 0 order
+
+  pub from_front : IsCharBoundary front low → IsCharBoundary text low
+  from_front b = (omega (arith, order, within), λ l. rw same_byte at (b.1 (omega (arith, front_len, order))))
+
+  pub to_front : IsCharBoundary text low → IsCharBoundary front low
+  to_front b = (omega (arith, front_len, order), λ l. rw (← same_byte) at (b.1 (omega (arith, order, within))))
 
 -- both places lie between characters, in order
 pub record AreEnds (text : List ℕ) (low high : ℕ) : Type 0 where

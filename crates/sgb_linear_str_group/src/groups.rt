@@ -34,8 +34,9 @@ fn part(string: &str, low: usize, high: usize) -> &str
     ensures value { result.now ≡ text_between string.now low high }
     ensures fits { low + length result.now < 2 ^ 64 }
 {
-    // `get` tests the same, and was slower in groups of a character: an empty part needs no byte of the text here.
-    if low < high && string.is_char_boundary(high) && string.is_char_boundary(low) {
+    // `get` tests the same, and was slower in groups of a character: an empty part needs no byte of the text here, and `low` is
+    // tested where it is known to lie within, so that no length is compared again.
+    if low < high && string.is_char_boundary(high) && string[..high].is_char_boundary(low) {
         &string[low..high]
     } else {
         ""

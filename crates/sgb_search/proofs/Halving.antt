@@ -40,7 +40,7 @@ module _ {S : Type 0} (may : S → ℕ → Type 0) (gives : S → ℕ → Orderi
     fits g m some le most =
         within_halving (high - low + 1) g m some le (omega (arith, most, digits_mono (high - low) (high - low + 1 - 1) (omega arith)))
 
-    module _ (u : S) (middle : ℕ) (is : middle ≡ from + (size - size / 2 - 1)) (some : from < upto) (m : may t middle) where
+    module _ (u : S) (middle : ℕ) (is : middle ≡ from + (size - 1) / 2) (some : from < upto) (m : may t middle) where
       pub narrows_less : gives t middle Less u → Narrows low high s (middle + 1) upto (size / 2) u
       narrows_less g =
           let last = Contains-push n.questions (middle, Less) in

@@ -41,8 +41,7 @@ pub fn halve<A, P: Places<A>>(
     // As many as are left, or one more: so it halves whatever the answer is, and the next question need not wait for it.
     let mut size = high - low;
     while from < upto {
-        let half = size / 2;
-        let middle = from + (size - half - 1);
+        let middle = from + (size - 1) / 2;
         let order = places.compare(asker, middle);
         if order.is_lt() {
             from = middle + 1;
@@ -53,7 +52,7 @@ pub fn halve<A, P: Places<A>>(
         if order.is_eq() {
             return Ok(middle);
         }
-        size = half;
+        size /= 2;
     }
     Err(from)
 }
