@@ -17,7 +17,8 @@ boundary_test text place =
     (λ e. (grind (arith, nat_tests), λ l h. grind (arith, nat_tests)), λ b. grind (arith, nat_tests))
 
 -- whether a place lies between characters is seen in the text up to a later place
-module _ (text front : List ℕ) (low high : ℕ) (order : low < high) (within : high ≤ length text) (is : front ≡ slice_range text 0 high) where
+module _ (text front : List ℕ) (low high : ℕ) (order : low < high) (within : high ≤ length text)
+    (is : front ≡ slice_range text 0 high) where
   front_is : front ≡ take high text
   front_is = is ∙ ap (λ (n : ℕ). take n text) (omega arith)
 

@@ -7,7 +7,8 @@ pub returns-then-is_char_boundary-2-clause-value : goal.returns-then-is_char_bou
 returns-then-is_char_boundary-2-clause-value c =
     let high_is = c.if-is_char_boundary.ensures.test.0 refl in
     let low_is = from_front _ _ _ _ (omega arith) high_is.0 c.range.ensures.value (c.if-is_char_boundary-2.ensures.test.0 refl) in
-    c.range-then-is_char_boundary-2.ensures.value ∙ sym (between_ends _ _ _ (record { order = omega arith; low_is = low_is; high_is = high_is }))
+    c.range-then-is_char_boundary-2.ensures.value
+    ∙ sym (between_ends _ _ _ (record { order = omega arith; low_is = low_is; high_is = high_is }))
 
 -- one of the three tests fails, where both places would pass all
 pub returns-else-low-high-clause-value : goal.returns-else-low-high-clause-value
