@@ -7,20 +7,8 @@ mod inputs;
 mod merge;
 mod peers;
 mod picture;
+mod place;
 mod timing;
-
-// So many bytes before the library's functions: PAD moves its loops to another place in memory.
-std::arch::global_asm!(
-    ".pushsection .text.place,\"ax\",@progbits",
-    ".globl bench_place",
-    "bench_place:",
-    concat!(".space ", env!("PAD")),
-    ".popsection"
-);
-
-extern "C" {
-    static bench_place: u8;
-}
 
 use inputs::{slice, text, Lengths, Numbers};
 use picture::Line;
@@ -246,7 +234,6 @@ fn main() {
         return;
     }
     let rounds = words.first().map_or(31, |word| word.parse().expect("a number of rounds"));
-    std::hint::black_box(&raw const bench_place);
     println!("Least and median of {rounds} rounds, {COUNT} elements of four bytes.");
     let by_element: [Peers; 2] = [&[("`chunk_by`", peers::chunk_by)], &[("`chunk_by(..).rev()`", peers::chunk_by_rev)]];
     let by_key: [Peers; 2] = [&[("`chunk_by`", peers::chunk_by_key)], &[("`chunk_by(..).rev()`", peers::chunk_by_key_rev)]];

@@ -1,11 +1,16 @@
 //! Times the library beside the Rust crate `slice-group-by`, in one process, in alternating rounds, on the same inputs.
 //!
-//! The first argument says how many rounds (31 if none does); the tables go to standard output.
+//! The first argument says how many rounds (31 if none does); the tables go to standard output. `merge FILE..` makes one table of
+//! those of several runs.
 #[path = "../../src/ffi.rs"]
 #[allow(dead_code)]
 mod ffi;
 #[path = "../../src/inputs.rs"]
 mod inputs;
+#[path = "../../src/merge.rs"]
+mod merge;
+#[path = "../../src/place.rs"]
+mod place;
 #[path = "../../src/timing.rs"]
 mod timing;
 
@@ -74,7 +79,12 @@ fn row(name: &str, per: usize, times: &[Time]) {
 }
 
 fn main() {
-    let rounds = std::env::args().nth(1).map_or(31, |word| word.parse().expect("a number of rounds"));
+    let words: Vec<String> = std::env::args().skip(1).collect();
+    if let Some(("merge", files)) = words.split_first().map(|(word, files)| (word.as_str(), files)) {
+        print!("{}", merge::merged(files));
+        return;
+    }
+    let rounds = words.first().map_or(31, |word| word.parse().expect("a number of rounds"));
     let all = [1, 8, 1000, 100_000].map(Lengths::Each).into_iter().chain([8, 1000].map(Lengths::Around));
     for (what, ours, theirs) in READING {
         head(what, "an element");
