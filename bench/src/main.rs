@@ -2,6 +2,7 @@
 //!
 //! The first argument says how many rounds (31 if none does); the tables go to standard output, and the picture of growth to
 //! `growth.svg` in the current folder. `merge FILE..` makes one table of those of several runs.
+mod arguments;
 mod ffi;
 mod inputs;
 mod merge;
@@ -228,12 +229,9 @@ fn questions() {
 type Peers<'a> = &'a [(&'a str, fn(&[u32]) -> usize)];
 
 fn main() {
-    let words: Vec<String> = std::env::args().skip(1).collect();
-    if let Some(("merge", files)) = words.split_first().map(|(word, files)| (word.as_str(), files)) {
-        print!("{}", merge::merged(files));
+    let Some(rounds) = arguments::rounds() else {
         return;
-    }
-    let rounds = words.first().map_or(31, |word| word.parse().expect("a number of rounds"));
+    };
     println!("Least and median of {rounds} rounds, {COUNT} elements of four bytes.");
     let by_element: [Peers; 2] = [&[("`chunk_by`", peers::chunk_by)], &[("`chunk_by(..).rev()`", peers::chunk_by_rev)]];
     let by_key: [Peers; 2] = [&[("`chunk_by`", peers::chunk_by_key)], &[("`chunk_by(..).rev()`", peers::chunk_by_key_rev)]];

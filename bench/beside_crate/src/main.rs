@@ -2,6 +2,8 @@
 //!
 //! The first argument says how many rounds (31 if none does); the tables go to standard output. `merge FILE..` makes one table of
 //! those of several runs.
+#[path = "../../src/arguments.rs"]
+mod arguments;
 #[path = "../../src/ffi.rs"]
 #[allow(dead_code)]
 mod ffi;
@@ -79,12 +81,9 @@ fn row(name: &str, per: usize, times: &[Time]) {
 }
 
 fn main() {
-    let words: Vec<String> = std::env::args().skip(1).collect();
-    if let Some(("merge", files)) = words.split_first().map(|(word, files)| (word.as_str(), files)) {
-        print!("{}", merge::merged(files));
+    let Some(rounds) = arguments::rounds() else {
         return;
-    }
-    let rounds = words.first().map_or(31, |word| word.parse().expect("a number of rounds"));
+    };
     let all = [1, 8, 1000, 100_000].map(Lengths::Each).into_iter().chain([8, 1000].map(Lengths::Around));
     for (what, ours, theirs) in READING {
         head(what, "an element");
