@@ -9,7 +9,7 @@ use Rattle.sgb_search.specs.Judges.{IsRun}
 use Rattle.sgb_search.specs.Linear.{questions, MayAskAlong}
 use Rattle.sgb_search.specs.declared.end.End.TheVariants.{Front, Back}
 use Rattle.sgb_linear_str_group.specs.Texts.{TextGroups, text_between, IsCallableText, IsTextAt}
-use Rattle.sgb_linear_str_group.proofs.Places.{part_after, part_before}
+use Rattle.sgb_linear_str_group.proofs.Places.{text_after, text_before}
 
 -- a text that is not empty has a character
 has_character : (text : List ℕ) → IsUtf8 text → 0 < length text → 0 < length (chars text)
@@ -91,11 +91,11 @@ module _ {J : Type 0} (g : Ghosts J ℕ) (xs : List ℕ) (low high : ℕ) (r : L
       → IsTextAt g Front (record { text = text_between xs low high; judge = j }) group
       (record { text = text_between xs (low + n) high; judge = k })
   front_cut l run group e =
-      rw (e, ← same, part_after xs low high r same n b more) (front_text g r (take n r) (drop n r) parts u n len b j k l run)
+      rw (e, ← same, text_after xs low high r same n b more) (front_text g r (take n r) (drop n r) parts u n len b j k l run)
 
   pub back_cut : n < length r → IsRun g.may_ask g.answers j (questions Back (chars r) (length (chars (drop n r)))) k
       → (group : List ℕ) → group ≡ drop n r
       → IsTextAt g Back (record { text = text_between xs low high; judge = j }) group
       (record { text = text_between xs low (low + n); judge = k })
   back_cut l run group e =
-      rw (e, ← same, part_before xs low high r same n b more) (back_text g r (take n r) (drop n r) parts u n len b j k l run)
+      rw (e, ← same, text_before xs low high r same n b more) (back_text g r (take n r) (drop n r) parts u n len b j k l run)

@@ -1,17 +1,16 @@
--- The part of a text between two places.
-use Rattle.std.proofs.Common.{◌≡◌, ℕ, ◌+◌, ◌-◌, ◌<◌, ◌≤◌, Bool, true, false, cond, List, [], length, get_or, take, drop, Decides, refl, sym, ap, ◌∙◌, subst, arith}
+-- The places of a text that lie between characters.
+use Rattle.std.proofs.Common.{◌≡◌, ℕ, ◌+◌, ◌-◌, ◌<◌, ◌≤◌, Bool, true, false, List, length, get_or, take, drop, Decides, refl, sym, ap, ◌∙◌, subst, arith}
 use lib.Dec.{T, leb, leb→le}
-use Rattle.std.specs.Prelude.{◌&&◌, slice_range, nat_le}
+use Rattle.std.specs.Prelude.{slice_range}
 use Rattle.std.specs.Str.{IsUtf8, IsCharBoundary}
 use Rattle.std.proofs.lemmas.Bool.{leb-false}
 use Rattle.std.proofs.lemmas.Bool.Decides.{nat_tests}
-use Rattle.std.proofs.lemmas.List.{get_or_past, get_or-drop, get_or-take, length-take-le, take-take, drop-take, drop-drop}
+use Rattle.std.proofs.lemmas.List.{get_or_past, get_or-drop, get_or-take, length-take-le}
 use Rattle.std.proofs.lemmas.Str.{IsCharBoundary-start, IsCharBoundary-end}
-use Rattle.std.proofs.Math.Seq.{take-length}
-use Rattle.sgb_search.proofs.Ranges.{length-range}
+use Rattle.sgb_search.proofs.Between.{ArePlaces, between_ends, are_places, is_range, ends_at, part_before, part_after}
 use Rattle.sgb_linear_str_group.specs.Texts.{lies_between_characters, text_between}
 
-boundary_test : (text : List ℕ) (place : ℕ) → Decides (lies_between_characters text place) (IsCharBoundary text place)
+pub boundary_test : (text : List ℕ) (place : ℕ) → Decides (lies_between_characters text place) (IsCharBoundary text place)
 boundary_test text place =
     let past = get_or_past text place 0 in
     (λ e. (grind (arith, nat_tests), λ l h. grind (arith, nat_tests)), λ b. grind (arith, nat_tests))
@@ -28,112 +27,50 @@ module _ (text front : List ℕ) (low high : ℕ) (order : low < high) (within :
   same_byte : get_or front low 0 ≡ get_or text low 0
   same_byte = ap (λ (xs : List ℕ). get_or xs low 0) front_is ∙ get_or-take high text low 0 order
 
-  pub from_front : IsCharBoundary front low → IsCharBoundary text low
-  from_front b = (omega (arith, order, within), λ l. rw same_byte at (b.1 (omega (arith, front_len, order))))
+  pub boundary_of_text : IsCharBoundary front low → IsCharBoundary text low
+  boundary_of_text b = (omega (arith, order, within), λ l. rw same_byte at (b.1 (omega (arith, front_len, order))))
 
-  pub to_front : IsCharBoundary text low → IsCharBoundary front low
-  to_front b = (omega (arith, front_len, order), λ l. rw (← same_byte) at (b.1 (omega (arith, order, within))))
-
--- both places lie between characters, in order
-pub record AreEnds (text : List ℕ) (low high : ℕ) : Type 0 where
-  pub order : low ≤ high
-  pub low_is : IsCharBoundary text low
-  pub high_is : IsCharBoundary text high
-
-module _ (text : List ℕ) (low high : ℕ) where
-  abbrev test : Bool
-  test = nat_le low high && (lies_between_characters text low && lies_between_characters text high)
-
-  ends_pass : AreEnds text low high → test ≡ true
-  ends_pass ends =
-      let a = (boundary_test text low).1 ends.low_is in
-      let b = (boundary_test text high).1 ends.high_is in
-      grind (arith, nat_tests, ends.order)
-
-  pass_ends : test ≡ true → AreEnds text low high
-  pass_ends e =
-      let a : lies_between_characters text low ≡ true = grind (arith, nat_tests) in
-      let b : lies_between_characters text high ≡ true = grind (arith, nat_tests) in
-      record { order = grind (arith, nat_tests); low_is = (boundary_test text low).0 a; high_is = (boundary_test text high).0 b }
-
-  pub between_ends : AreEnds text low high → text_between text low high ≡ slice_range text low high
-  unfolding text_between
-  between_ends ends = ap (λ b. cond b (slice_range text low high) []) (ends_pass ends)
-
-  -- either both places are ends, or the part is empty
-  either : (b : Bool) → test ≡ b → 0 < length (cond b (slice_range text low high) []) → AreEnds text low high
-  either true e l = pass_ends e
-  either false e l = absurd (omega arith)
-
-  pub ends_between : 0 < length (text_between text low high) → AreEnds text low high
-  unfolding text_between
-  ends_between l = either _ refl l
-
-  empty_unless : (b : Bool) → test ≡ b → (AreEnds text low high → high ≤ low) → cond b (slice_range text low high) [] ≡ []
-  empty_unless true e h =
-      let o : high ≤ low = h (pass_ends e) in
-      ap (λ (n : ℕ). take n (drop low text)) {x = high - low} {y = 0} (omega arith)
-  empty_unless false e h = refl
-
-  -- nothing lies between the places where they are no ends, or one place
-  pub between_empty : (AreEnds text low high → high ≤ low) → text_between text low high ≡ []
-  unfolding text_between
-  between_empty h = empty_unless _ refl h
-
-  -- the part ends at `high`, if it is not empty
-  pub length_between : 0 < length (text_between text low high) → low + length (text_between text low high) ≡ high
-  length_between l =
-      let ends = ends_between l in
-      omega (arith, ends.order, ends.high_is.0, ap length (between_ends ends), length-range text low high ends.order ends.high_is.0)
+  pub boundary_of_front : IsCharBoundary text low → IsCharBoundary front low
+  boundary_of_front b = (omega (arith, front_len, order), λ l. rw (← same_byte) at (b.1 (omega (arith, order, within))))
 
 -- a text is the part between its ends
-pub between_all : (text : List ℕ) → IsUtf8 text → text_between text 0 (length text) ≡ text
-between_all text u =
-    between_ends text 0 (length text)
-    (record { order = omega arith; low_is = IsCharBoundary-start text u; high_is = IsCharBoundary-end text })
-    ∙ ap (λ (n : ℕ). take n text) {x = length text - 0} {y = length text} (omega arith) ∙ take-length text
+pub text_ends : (text : List ℕ) → IsUtf8 text → text_between text 0 (length text) ≡ text
+text_ends text u =
+    between_ends (lies_between_characters text) text ((boundary_test text 0).1 (IsCharBoundary-start text u))
+    ((boundary_test text _).1 (IsCharBoundary-end text))
 
 -- the part r between two places, which is not empty, is cut at its place n, between characters
-module _ (text : List ℕ) (low high : ℕ) (r : List ℕ) (same : r ≡ text_between text low high) (n : ℕ)
+module _ (text : List ℕ) (low high : ℕ) (r : List ℕ) (is : r ≡ text_between text low high) (n : ℕ)
     (b : IsCharBoundary r n) (more : 0 < length r) where
-  ends : AreEnds text low high
-  ends = ends_between text low high (omega (arith, ap length same))
+  place_within : (n : ℕ) → lies_between_characters text n ≡ true → n ≤ length text
+  place_within n e = ((boundary_test text n).0 e).0
 
-  is_range : r ≡ slice_range text low high
-  is_range = same ∙ between_ends text low high ends
+  ends : low + length r ≡ high
+  ends = ends_at (lies_between_characters text) text place_within low high r is more
 
-  length_is : length r ≡ high - low
-  length_is = omega (arith, ap length same, length_between text low high)
-
-  inside : low + n ≤ high
-  inside = omega (arith, b.0, length_is, ends.order)
+  places : ArePlaces (lies_between_characters text) low high
+  places = are_places (lies_between_characters text) text place_within low high r is more
 
   byte : n < length r → get_or r n 0 ≡ get_or text (low + n) 0
   byte l =
-      ap (λ (l : List ℕ). get_or l n 0) is_range
-      ∙ get_or-take (high - low) (drop low text) n 0 (omega (arith, length_is)) ∙ get_or-drop low text n 0
+      ap (λ (l : List ℕ). get_or l n 0) (is_range (lies_between_characters text) text place_within low high r is more)
+      ∙ get_or-take (high - low) (drop low text) n 0 (omega (arith, ends)) ∙ get_or-drop low text n 0
 
   middle : IsCharBoundary text (low + n)
-  middle = by (leb high (low + n)) refl
+  middle = by (leb (length r) n) refl
     where
-      by : (t : Bool) → leb high (low + n) ≡ t → IsCharBoundary text (low + n)
+      by : (t : Bool) → leb (length r) n ≡ t → IsCharBoundary text (low + n)
       by true e =
           subst (IsCharBoundary text) {x = high} {y = low + n}
-          (omega (arith, leb→le high (low + n) (subst T (sym e) tt), inside)) ends.high_is
+          (omega (arith, leb→le (length r) n (subst T (sym e) tt), b.0, ends)) ((boundary_test text high).0 places.high_is)
       by false e =
-          let l : n < length r = omega (arith, leb-false high (low + n) e, length_is) in
-          (omega (arith, inside, ends.high_is.0), λ _ a. omega (arith, b.1 l (omega (arith, byte l)), byte l))
+          let l : n < length r = leb-false (length r) n e in
+          (omega (arith, l, ends, place_within high places.high_is), λ _ a. omega (arith, b.1 l (omega (arith, byte l)), byte l))
 
-  pub part_before : text_between text low (low + n) ≡ take n r
-  part_before =
-      between_ends text low (low + n) (record { order = omega arith; low_is = ends.low_is; high_is = middle })
-      ∙ ap (λ (m : ℕ). take m (drop low text)) {x = (low + n) - low} {y = n} (omega arith)
-      ∙ sym (ap (take n) is_range ∙ take-take n (high - low) (drop low text) (omega (arith, b.0, length_is)))
+  pub text_before : text_between text low (low + n) ≡ take n r
+  text_before =
+      part_before (lies_between_characters text) text place_within low high r is more n b.0 ((boundary_test text _).1 middle)
 
-  pub part_after : text_between text (low + n) high ≡ drop n r
-  part_after =
-      between_ends text (low + n) high (record { order = inside; low_is = middle; high_is = ends.high_is })
-      ∙ ap (take (high - (low + n))) (sym (drop-drop n low text))
-      ∙ sym (ap (drop n) is_range
-      ∙ ap (λ (m : ℕ). drop n (take m (drop low text))) {x = high - low} {y = n + (high - (low + n))} (omega (arith, inside))
-      ∙ drop-take n (high - (low + n)) (drop low text))
+  pub text_after : text_between text (low + n) high ≡ drop n r
+  text_after =
+      part_after (lies_between_characters text) text place_within low high r is more n b.0 ((boundary_test text _).1 middle)

@@ -1,12 +1,12 @@
 -- What an iterator over groups of a text shows, and what its calls give. A text is its bytes, and questions are about its characters.
-use Rattle.std.specs.Prelude.{◌≡◌, ℕ, ◌<◌, Bool, ◌&&◌, ◌||◌, if◌then◌else◌, List, [], length, nat_lt, nat_le, slice_index, slice_range, Option, MatchOption}
+use Rattle.std.specs.Prelude.{◌≡◌, ℕ, ◌<◌, Bool, ◌&&◌, ◌||◌, List, [], length, nat_lt, nat_le, slice_index, Option, MatchOption}
 use Rattle.std.specs.Borrow.{Bor}
 use Rattle.std.specs.Iterator.{Count, at_most}
 use Rattle.std.specs.Str.{chars, IsUtf8}
 use Rattle.sgb_search.specs.declared.judge.Judge.{Ghosts}
 use Rattle.sgb_search.specs.declared.end.End.{End}
 use Rattle.sgb_search.specs.Split.{put_at}
-use Rattle.sgb_search.specs.Calls.{IsGroupAt, Groups}
+use Rattle.sgb_search.specs.Calls.{IsGroupAt, Groups, between}
 use Rattle.sgb_search.specs.Linear.{IsCallable, IsSettled, LinearQuestions}
 use Rattle.sgb_linear_str_group.specs.declared.groups.LinearStrGroups.{LinearStrGroups}
 
@@ -25,13 +25,9 @@ abbrev pub lies_between_characters : List ℕ → ℕ → Bool
 lies_between_characters text place =
     nat_le place (length text) && (nat_lt (slice_index text place) 128 || nat_le 192 (slice_index text place))
 
--- the part of a text from `low` up to `high`, where both lie between characters and in this order, and else the empty text:
--- what `get` gives
-unfoldable pub text_between : List ℕ → ℕ → ℕ → List ℕ
-text_between text low high =
-    if nat_le low high && (lies_between_characters text low && lies_between_characters text high)
-    then slice_range text low high
-    else []
+-- the part of a text from `low` up to `high`, where both lie between characters and in this order, and else the empty text
+abbrev pub text_between : List ℕ → ℕ → ℕ → List ℕ
+text_between text = between (lies_between_characters text) text
 
 -- what contracts see of an iterator for reading: the bytes that it has not handed out yet, and its judge
 abbrev pub shown_text : {J : Type 0} → LinearStrGroups J → TextGroups J

@@ -4,6 +4,7 @@ pub mod Splits
 pub mod Pairs
 pub mod Runs
 pub mod Ranges
+pub mod Between
 pub mod Scanning
 pub mod Equality
 pub mod Closures

@@ -1,6 +1,6 @@
 -- What contracts see of an iterator over groups, and what a call gives of the list that remains: one definition for all families, which
 -- differ in what they ask.
-use Rattle.std.specs.Prelude.{List, length, ◌≡◌, ℕ, ◌<◌, Bool, [], Option, MatchOption}
+use Rattle.std.specs.Prelude.{List, length, ◌≡◌, ◌&&◌, ℕ, ◌<◌, Bool, [], Option, MatchOption, slice_range, nat_le, if◌then◌else◌}
 use Rattle.std.specs.Iterator.{Count, at_most}
 use Rattle.sgb_search.specs.declared.end.End.{End}
 use Rattle.sgb_search.specs.declared.judge.Judge.{Ghosts}
@@ -11,6 +11,11 @@ use Rattle.sgb_search.specs.Judges.{MayAskAll, AnswersBy}
 pub record Groups (T J : Type 0) : Type 0 where
   pub remainder : List T
   pub judge : J
+
+-- the part of a list from the place `low` up to the place `high`, where these stand in this order and pass a test, as whether they lie
+-- in the list, and else the empty list: what `get` gives
+unfoldable pub between : {T : Type 0} → (ℕ → Bool) → List T → ℕ → ℕ → List T
+between is_place xs low high = if nat_le low high && (is_place low && is_place high) then slice_range xs low high else []
 
 -- no more groups come than elements remain
 abbrev pub groups_to_come : {T J : Type 0} → Groups T J → Count

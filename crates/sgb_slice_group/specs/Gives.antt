@@ -1,17 +1,21 @@
 -- What the calls of an iterator over the groups of a slice give, for reading and for writing, whatever they ask.
-use Rattle.std.specs.Prelude.{◌≡◌, ℕ, List, [], Option, MatchOption, slice_range}
+use Rattle.std.specs.Prelude.{◌≡◌, ℕ, Bool, List, [], length, Option, MatchOption, nat_le}
 use Rattle.std.specs.Option.{option_copied_mut}
 use Rattle.std.specs.Borrow.{Bor, MutBor}
 use Rattle.sgb_search.specs.declared.judge.Judge.{Ghosts}
-use Rattle.sgb_search.specs.Calls.{Groups, IsCallableBy, CallAt, IsGroupAt}
+use Rattle.sgb_search.specs.Calls.{Groups, between, IsCallableBy, CallAt, IsGroupAt}
 use Rattle.sgb_search.specs.declared.end.End.{End}
 use Rattle.sgb_loans.specs.Loans.{GroupsMut, HandsOut}
 use Rattle.sgb_slice_group.specs.declared.groups.SliceGroups.{SliceGroups}
 
+-- whether the place lies in the list or at its end
+abbrev pub lies_within : {T : Type 0} → List T → ℕ → Bool
+lies_within xs place = nat_le place (length xs)
+
 -- what contracts see of an iterator for reading: the elements that it has not handed out yet, which lie between its two places,
 -- and its judge
 abbrev pub shown : {T J C : Type 0} → SliceGroups T J C → Groups T J
-shown s = record { remainder = slice_range s.slice.now s.low s.high; judge = s.judge }
+shown s = record { remainder = between (lies_within s.slice.now) s.slice.now s.low s.high; judge = s.judge }
 
 -- what an iterator for writing shows of the same
 abbrev pub seen : {T J : Type 0} → GroupsMut T J → Groups T J

@@ -26,7 +26,7 @@ use std::marker::PhantomData;
 #[derive(Drop)]
 pub struct SliceGroups<'a, T, J, C> {
     slice: &'a [T],
-    // The remainder lies from the place `low` up to the place `high`, or to the end of the slice where that comes first.
+    // The remainder lies from the place `low` up to the place `high`, and is empty where these do not lie in the slice in order.
     low: usize,
     high: usize,
     judge: J,
@@ -127,9 +127,8 @@ impl<'a, T, J, C> SliceGroups<'a, T, J, C> {
     {
         // That the places lie in order and within the slice is tested here, and not kept of the fields: what is kept of a struct
         // that holds a closure hides from callers what the closure captured.
-        let high = self.high.min(self.slice.len());
-        if self.low < high {
-            &self.slice[self.low..high]
+        if self.low < self.high && self.high <= self.slice.len() {
+            &self.slice[self.low..self.high]
         } else {
             &[]
         }

@@ -1,22 +1,30 @@
 use Rattle.std.proofs.Common.{sym, refl, ◌∙◌, arith}
-use Rattle.sgb_linear_str_group.proofs.Places.{between_ends, between_empty, from_front, to_front}
+use Rattle.sgb_search.proofs.Between.{between_places, between_empty}
+use Rattle.sgb_linear_str_group.specs.Texts.{lies_between_characters}
+use Rattle.sgb_linear_str_group.proofs.Places.{boundary_test, boundary_of_text, boundary_of_front}
 use Rattle.sgb_linear_str_group.proofs.groups.part.Goals as goal
 use Rattle.sgb_linear_str_group.proofs.groups.part.Goals.{else-low-high-via-then-low-high+then-is_char_boundary+else-is_char_boundary-2, else-low-high-via-then-low-high+else-is_char_boundary, else-low-high-via-else-low-high}
 
 pub returns-then-is_char_boundary-2-clause-value : goal.returns-then-is_char_boundary-2-clause-value
 returns-then-is_char_boundary-2-clause-value c =
+    let text = c.args.string.now in
     let high_is = c.if-is_char_boundary.ensures.test.0 refl in
-    let low_is = from_front _ _ _ _ (omega arith) high_is.0 c.range.ensures.value (c.if-is_char_boundary-2.ensures.test.0 refl) in
+    let low_is = boundary_of_text _ _ _ _ (omega arith) high_is.0 c.range.ensures.value (c.if-is_char_boundary-2.ensures.test.0 refl) in
     c.range-then-is_char_boundary-2.ensures.value
-    ∙ sym (between_ends _ _ _ (record { order = omega arith; low_is = low_is; high_is = high_is }))
+    ∙ sym (between_places (lies_between_characters text) text _ _
+    (record { order = omega arith; low_is = (boundary_test text _).1 low_is; high_is = (boundary_test text _).1 high_is }))
 
 -- one of the three tests fails, where both places would pass all
 pub returns-else-low-high-clause-value : goal.returns-else-low-high-clause-value
 returns-else-low-high-clause-value c =
-    sym (between_empty _ _ _ (λ ends. elim c.else-low-high.branch [
+    let text = c.args.string.now in
+    sym (between_empty (lies_between_characters text) text _ _ (λ places.
+    let low_is = (boundary_test text _).0 places.low_is in
+    let high_is = (boundary_test text _).0 places.high_is in
+    elim c.else-low-high.branch [
       | else-low-high-via-then-low-high+then-is_char_boundary+else-is_char_boundary-2 w ↦
-          let low_is = to_front _ _ _ _ (omega arith) ends.high_is.0 w.range.ensures.value ends.low_is in
-          grind (arith, w.if-is_char_boundary-2.ensures.test.1 low_is)
-      | else-low-high-via-then-low-high+else-is_char_boundary w ↦ grind (arith, w.if-is_char_boundary.ensures.test.1 ends.high_is)
+          let front_is = boundary_of_front _ _ _ _ (omega arith) high_is.0 w.range.ensures.value low_is in
+          grind (arith, w.if-is_char_boundary-2.ensures.test.1 front_is)
+      | else-low-high-via-then-low-high+else-is_char_boundary w ↦ grind (arith, w.if-is_char_boundary.ensures.test.1 high_is)
       | else-low-high-via-else-low-high w ↦ omega arith
     ]))
