@@ -89,13 +89,17 @@ fn texts(rounds: usize) {
     type Text = fn(&str) -> usize;
     let front: Text = |s| unsafe { ffi::text_front(s.as_ptr(), s.len()) };
     let back: Text = |s| unsafe { ffi::text_back(s.as_ptr(), s.len()) };
+    let a_loop: [Text; 2] = [peers::characters, peers::characters_back];
+    let by_groups: [Text; 2] = [peers::character_groups, peers::character_groups_back];
     for (mixed, kind) in [(false, "ASCII"), (true, "one to four bytes a character")] {
-        for (end, ours, peer) in [("front", front, peers::characters as Text), ("back", back, peers::characters_back as Text)] {
-            head(&format!("Texts, {kind}, from the {end}"), "a character", "one loop over `char_indices`");
-            for lengths in [Lengths::Each(1), Lengths::Around(8), Lengths::Each(8), Lengths::Each(1000)] {
-                let s = text(COUNT, lengths, mixed);
-                assert_eq!(ours(&s), peer(&s), "text");
-                row(&lengths.name(), COUNT, &in_turn(rounds, &mut [&mut || ours(&s), &mut || peer(&s)]));
+        for (what, peers) in [("one loop over `char_indices`", a_loop), ("a group at a time by `char_indices`", by_groups)] {
+            for (end, ours, peer) in [("front", front, peers[0]), ("back", back, peers[1])] {
+                head(&format!("Texts, {kind}, from the {end}, beside {what}"), "a character", what);
+                for lengths in [Lengths::Each(1), Lengths::Around(8), Lengths::Each(8), Lengths::Each(1000)] {
+                    let s = text(COUNT, lengths, mixed);
+                    assert_eq!(ours(&s), peer(&s), "text");
+                    row(&lengths.name(), COUNT, &in_turn(rounds, &mut [&mut || ours(&s), &mut || peer(&s)]));
+                }
             }
         }
     }

@@ -1,5 +1,5 @@
 //! The groups of a slice for reading, over any judge and any way to find where a group ends.
-ghost use Rattle.std.specs.Prelude.{◌≡◌, ℕ, ◌<◌, ◌≤◌, Bool, List, length, Option, MatchOption, nat_eq, if◌then◌else◌, IfSome};
+ghost use Rattle.std.specs.Prelude.{◌≡◌, ℕ, ◌<◌, ◌≤◌, Bool, List, [], length, Option, MatchOption, nat_eq, if◌then◌else◌, IfSome};
 ghost use Rattle.std.specs.Fn.{ComputesKey, ComputesOnPairs};
 ghost use Rattle.std.specs.Iterator.{UpTo};
 ghost use Rattle.std.specs.Iterator.SizeHint.{IsWithinCount};
@@ -125,12 +125,21 @@ impl<'a, T, J, C> SliceGroups<'a, T, J, C> {
     pub fn remainder(&self) -> &'a [T]
         ensures { result.now ≡ (shown self.now).remainder }
     {
+        self.rest().unwrap_or(&[])
+    }
+
+    // The remainder where it is not empty, so that a call tests that once.
+    #[inline]
+    fn rest(&self) -> Option<&'a [T]>
+        ensures { MatchOption result ((shown self.now).remainder ≡ [])
+            (λ rest. rest.now ≡ (shown self.now).remainder × 0 < length rest.now) }
+    {
         // That the places lie in order and within the slice is tested here, and not kept of the fields: what is kept of a struct
         // that holds a closure hides from callers what the closure captured.
         if self.low < self.high && self.high <= self.slice.len() {
-            &self.slice[self.low..self.high]
+            Some(&self.slice[self.low..self.high])
         } else {
-            &[]
+            None
         }
     }
 
@@ -305,10 +314,7 @@ impl<'a, T, J: Judge<T> + Drop, C: GroupEnd> SliceGroups<'a, T, J, C> {
         ensures gives { Gives (C.asks T J J.Judge) end.now self.old result self.new }
         ensures callable { IsCallableBy (C.allowed T) J.Judge (shown self.new) }
     {
-        let rest = self.remainder();
-        if rest.is_empty() {
-            return None;
-        }
+        let rest = self.rest()?;
         let len = C::group_len(end, rest, &mut self.judge);
         match end {
             End::Front => {
