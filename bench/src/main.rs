@@ -1,7 +1,7 @@
 //! Times the library beside plain Rust over the standard library, in one process, in alternating rounds, on the same inputs.
 //!
-//! The first argument says how many rounds (31 if none does); the tables go to standard output, and the picture of growth to
-//! `growth.svg` in the current folder. `merge FILE..` makes one table of those of several runs.
+//! The first argument says how many rounds (31 if none does); the tables go to standard output. `merge FILE..` makes one table of
+//! those of several runs, and draws its growth in `growth.svg` in the current folder.
 mod arguments;
 mod ffi;
 mod inputs;
@@ -11,8 +11,8 @@ mod picture;
 mod place;
 mod timing;
 
+use arguments::Wanted;
 use inputs::{slice, text, Lengths, Numbers};
-use picture::Line;
 use timing::{in_turn, shown, Time};
 
 const LENGTHS: [Lengths; 6] = [
@@ -158,41 +158,36 @@ fn growth(rounds: usize) {
         ("exponential, front", ffi::exponential_front),
         ("exponential, back", ffi::exponential_back),
     ];
-    let mut lines = Vec::new();
     for len in [1, 8] {
         for (name, walk) in walks {
-            let points = grown(rounds, &|count| slice(count, Lengths::Each(len)), &|xs| read(walk, xs));
-            print_growth(&format!("{name}, groups of {len}"), &points);
-            if len == 8 {
-                lines.push(Line { name: name.to_string(), points });
-            }
+            let times = grown(rounds, &|count| slice(count, Lengths::Each(len)), &|xs| read(walk, xs));
+            print_growth(&format!("{name}, groups of {len}"), &times);
         }
     }
     let walks: [(&str, ffi::Text); 3] =
         [("text, front", ffi::text_front), ("text, back", ffi::text_back), ("text, both ends in turn", ffi::text_both_ends)];
     for (name, walk) in walks {
-        let points = grown(rounds, &|count| text(count, Lengths::Each(1), true), &|s| unsafe { walk(s.as_ptr(), s.len()) });
-        print_growth(&format!("{name}, groups of 1"), &points);
+        let times = grown(rounds, &|count| text(count, Lengths::Each(1), true), &|s| unsafe { walk(s.as_ptr(), s.len()) });
+        print_growth(&format!("{name}, groups of 1"), &times);
     }
-    std::fs::write("growth.svg", picture::svg("Walks over groups of eight", &lines)).expect("growth.svg");
 }
 
-/// The number of elements, from 10^3 to 10^7, and the least time of a walk over so many, an element.
-fn grown<T>(rounds: usize, input: &dyn Fn(usize) -> T, walk: &dyn Fn(&T) -> usize) -> Vec<(usize, f64)> {
-    let mut points = Vec::new();
+/// The least time of a walk over 10^3 to 10^7 elements, an element.
+fn grown<T>(rounds: usize, input: &dyn Fn(usize) -> T, walk: &dyn Fn(&T) -> usize) -> Vec<f64> {
+    let mut times = Vec::new();
     for power in 3..=7 {
         let count = 10usize.pow(power);
         let xs = input(count);
         let rounds = if power < 7 { rounds } else { rounds.min(7) };
         let time = in_turn(rounds, &mut [&mut || walk(&xs)])[0];
-        points.push((count, time.least / count as f64));
+        times.push(time.least / count as f64);
     }
-    points
+    times
 }
 
-fn print_growth(name: &str, points: &[(usize, f64)]) {
-    let cells: Vec<String> = points.iter().map(|p| shown(p.1)).collect();
-    println!("| {name} | {} | {:.2} |", cells.join(" | "), points[3].1 / points[1].1);
+fn print_growth(name: &str, times: &[f64]) {
+    let cells: Vec<String> = times.iter().map(|time| shown(*time)).collect();
+    println!("| {name} | {} | {:.2} |", cells.join(" | "), times[3] / times[1]);
 }
 
 /// How many binary digits the number has.
@@ -233,8 +228,14 @@ fn questions() {
 type Peers<'a> = &'a [(&'a str, fn(&[u32]) -> usize)];
 
 fn main() {
-    let Some(rounds) = arguments::rounds() else {
-        return;
+    let rounds = match arguments::wanted() {
+        Wanted::Rounds(rounds) => rounds,
+        Wanted::Table(table) => {
+            print!("{table}");
+            let lines = picture::lines(&table, ", groups of 8");
+            std::fs::write("growth.svg", picture::svg("Walks over groups of eight", &lines)).expect("growth.svg");
+            return;
+        }
     };
     println!("Least and median of {rounds} rounds, {COUNT} elements of four bytes.");
     let by_element: [Peers; 2] = [&[("`chunk_by`", peers::chunk_by)], &[("`chunk_by(..).rev()`", peers::chunk_by_rev)]];

@@ -6,6 +6,20 @@ pub struct Line {
     pub points: Vec<(usize, f64)>,
 }
 
+/// The lines of a table of growth, from 10^3 elements on, whose names end so.
+pub fn lines(table: &str, ending: &str) -> Vec<Line> {
+    let mut lines = Vec::new();
+    for row in table.lines() {
+        let cells: Vec<&str> = row.split('|').map(str::trim).collect();
+        if let Some(name) = cells.get(1).and_then(|cell| cell.strip_suffix(ending)) {
+            let times = cells[2..7].iter().map(|cell| cell.parse().expect("a time"));
+            let points = (3..).map(|power| 10usize.pow(power)).zip(times).collect();
+            lines.push(Line { name: name.to_string(), points });
+        }
+    }
+    lines
+}
+
 const COLORS: [&str; 8] = ["#1b6ca8", "#d1495b", "#2a9d8f", "#8d5a97", "#e09f3e", "#444444", "#7aa974", "#b56576"];
 
 /// The lines as an SVG, nanoseconds an element upwards.

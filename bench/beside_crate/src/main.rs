@@ -16,6 +16,7 @@ mod place;
 #[path = "../../src/timing.rs"]
 mod timing;
 
+use arguments::Wanted;
 use inputs::{slice, text, Lengths, Numbers};
 use slice_group_by::{exponential_search, GroupBy, GroupByMut, StrGroupBy};
 use timing::{in_turn, shown, Time};
@@ -81,8 +82,12 @@ fn row(name: &str, per: usize, times: &[Time]) {
 }
 
 fn main() {
-    let Some(rounds) = arguments::rounds() else {
-        return;
+    let rounds = match arguments::wanted() {
+        Wanted::Rounds(rounds) => rounds,
+        Wanted::Table(table) => {
+            print!("{table}");
+            return;
+        }
     };
     let all = [1, 8, 1000, 100_000].map(Lengths::Each).into_iter().chain([8, 1000].map(Lengths::Around));
     for (what, ours, theirs) in READING {
