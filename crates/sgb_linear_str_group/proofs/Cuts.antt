@@ -1,72 +1,48 @@
--- A group cut off a text between characters.
-use Rattle.std.proofs.Common.{◌≡◌, ℕ, ◌+◌, ◌<◌, List, [], ◌∷◌, ◌++◌, length, take, drop, sym, ap, ◌∙◌, subst, arith, length-append}
-use Rattle.std.specs.Str.{chars, IsUtf8, IsCharBoundary, encode_utf8_all}
-use Rattle.std.proofs.lemmas.Str.{chars-append, encodes-chars, IsUtf8-take, IsUtf8-drop}
-use Rattle.std.proofs.lemmas.List.{length-take-le, take-append-drop}
+-- A text that is cut in two between characters, and the remainder of an iterator that is cut so.
+use Rattle.std.proofs.Common.{◌≡◌, ℕ, ◌+◌, ◌-◌, ◌<◌, List, ◌++◌, length, take, drop, sym, ap, ◌∙◌, subst, arith, length-append}
+use Rattle.std.specs.Str.{chars, IsUtf8, IsCharBoundary}
+use Rattle.std.proofs.lemmas.Str.{IsCharBoundary-at_seam}
 use Rattle.std.proofs.Math.Seq.{take-append_seam, drop-append_seam}
 use Rattle.sgb_search.specs.declared.judge.Judge.{Ghosts}
-use Rattle.sgb_search.specs.Judges.{IsRun}
-use Rattle.sgb_search.specs.Linear.{questions, MayAskAlong}
+use Rattle.sgb_search.specs.Linear.{MayAskAlong}
+use Rattle.sgb_search.specs.declared.end.End.{End}
+use Rattle.sgb_search.specs.Split.{put_at}
 use Rattle.sgb_search.specs.declared.end.End.TheVariants.{Front, Back}
 use Rattle.sgb_linear_str_group.specs.Texts.{TextGroups, text_between, IsCallableText, IsTextAt}
 use Rattle.sgb_linear_str_group.proofs.Places.{text_after, text_before}
 
--- a text that is not empty has a character
-has_character : (text : List ℕ) → IsUtf8 text → 0 < length text → 0 < length (chars text)
-has_character text u l = by (chars text) (encodes-chars text u)
-  where
-    by : (cs : List ℕ) → encode_utf8_all cs ≡ text → 0 < length cs
-    by [] e = absurd (omega (arith, ap length e))
-    by (c ∷ cs) e = omega arith
+module _ (text front back : List ℕ) (cut : text ≡ front ++ back) where
+  seam : length front ≡ length text - length back
+  seam = omega (arith, ap length cut, length-append front back)
 
--- text is front and then rest, cut at the place n
-module _ {J : Type 0} (g : Ghosts J ℕ) (text front rest : List ℕ) (cut : text ≡ front ++ rest) (u : IsUtf8 text) (n : ℕ)
-    (len : length front ≡ n) (b : IsCharBoundary text n) where
-  take_is : take n text ≡ front
-  take_is = ap (λ (m : ℕ). take m text) (sym len) ∙ ap (take (length front)) cut ∙ take-append_seam front rest
+  pub seam_boundary : IsUtf8 back → IsCharBoundary text (length text - length back)
+  seam_boundary u = subst (IsCharBoundary text) seam (IsCharBoundary-at_seam text front back cut u)
 
-  drop_is : drop n text ≡ rest
-  drop_is = ap (λ (m : ℕ). drop m text) (sym len) ∙ ap (drop (length front)) cut ∙ drop-append_seam front rest
+  pub front_is : (n : ℕ) → n ≡ length text - length back → take n text ≡ front
+  front_is n e = ap (λ (n : ℕ). take n text) (e ∙ sym seam) ∙ ap (take (length front)) cut ∙ take-append_seam front back
 
-  front_utf8 : IsUtf8 front
-  front_utf8 = subst IsUtf8 take_is (IsUtf8-take text n u b)
+  pub back_is : drop (length front) text ≡ back
+  back_is = ap (drop (length front)) cut ∙ drop-append_seam front back
 
-  back_utf8 : IsUtf8 rest
-  back_utf8 = subst IsUtf8 drop_is (IsUtf8-drop text n u b)
+-- two lists are joined in one way where the first has this length
+joined_once : (xs ys zs ws : List ℕ) → xs ++ ys ≡ zs ++ ws → length xs ≡ length zs → (xs ≡ zs) × (ys ≡ ws)
+joined_once xs ys zs ws e l = (
+  sym (take-append_seam xs ys) ∙ ap (take (length xs)) e ∙ ap (λ (n : ℕ). take n (zs ++ ws)) l ∙ take-append_seam zs ws,
+  sym (drop-append_seam xs ys) ∙ ap (drop (length xs)) e ∙ ap (λ (n : ℕ). drop n (zs ++ ws)) l ∙ drop-append_seam zs ws,
+)
 
-  chars_cut : chars text ≡ chars front ++ chars rest
-  chars_cut = ap chars cut ∙ chars-append front rest front_utf8
-
-  module _ (j k : J) where
-    pub front_text : 0 < n → IsRun g.may_ask g.answers j (questions Front (chars text) (length (chars (take n text)))) k
-        → IsTextAt g Front (record { text = text; judge = j }) front (record { text = rest; judge = k })
-    front_text l run = record {
-      characters = record {
-        nonempty = has_character front front_utf8 (omega arith);
-        cut = chars_cut;
-        asked = subst (λ xs. IsRun g.may_ask g.answers j (questions Front (chars text) (length (chars xs))) k) take_is run;
-      };
-      cut = cut;
-      nonempty = omega arith;
-      group_utf8 = front_utf8;
-      rest_utf8 = back_utf8;
-    }
-
-    pub back_text : n < length text → IsRun g.may_ask g.answers j (questions Back (chars text) (length (chars (drop n text)))) k
-        → IsTextAt g Back (record { text = text; judge = j }) rest (record { text = front; judge = k })
-    back_text l run =
-        let more : 0 < length rest = omega (arith, ap length cut, length-append front rest) in
-        record {
-          characters = record {
-            nonempty = has_character rest back_utf8 more;
-            cut = chars_cut;
-            asked = subst (λ xs. IsRun g.may_ask g.answers j (questions Back (chars text) (length (chars xs))) k) drop_is run;
-          };
-          cut = cut;
-          nonempty = more;
-          group_utf8 = back_utf8;
-          rest_utf8 = front_utf8;
-        }
+-- a part of the group's length at the end is the group, and what it leaves is the rest
+pub cut_alike : {J : Type 0} (g : Ghosts J ℕ) (e : End) (text group rest : List ℕ) (j k : J)
+    → IsTextAt g e (record { text = text; judge = j }) group (record { text = rest; judge = k })
+    → (part others : List ℕ) → text ≡ put_at e part others → length part ≡ length group
+    → IsTextAt g e (record { text = text; judge = j }) part (record { text = others; judge = k })
+cut_alike g Front text group rest j k h part others cut len =
+    let same = joined_once part others group rest (sym cut ∙ h.cut) len in
+    rw (same.0, same.1) h
+cut_alike g Back text group rest j k h part others cut len =
+    let same = joined_once others part rest group (sym cut ∙ h.cut)
+    (omega (arith, len, ap length cut, ap length h.cut, length-append others part, length-append rest group)) in
+    rw (same.0, same.1) h
 
 -- the remainder xs of a writing iterator, read as the text r
 module _ {J : Type 0} (g : Ghosts J ℕ) (xs : List ℕ) (j : J) (s : TextGroups J) (view : record { text = xs; judge = j } ≡ s) (r zs : List ℕ)
@@ -77,25 +53,24 @@ module _ {J : Type 0} (g : Ghosts J ℕ) (xs : List ℕ) (j : J) (s : TextGroups
   pub callable_whole : IsCallableText g s → MayAskAlong g (chars r) j
   callable_whole may = subst (λ (v : TextGroups J). IsCallableText g v) (sym is_whole) may
 
--- the remainder r is the part of xs between low and high, and is cut at its place n
+-- the remainder r of a reading iterator is the part of xs between low and high, and is cut in a group and a rest
 module _ {J : Type 0} (g : Ghosts J ℕ) (xs : List ℕ) (low high : ℕ) (r : List ℕ) (same : r ≡ text_between xs low high)
-    (u : IsUtf8 r) (n : ℕ) (b : IsCharBoundary r n) (more : 0 < length r) (j k : J) where
-  parts : r ≡ take n r ++ drop n r
-  parts = sym (take-append-drop n r)
-
-  len : length (take n r) ≡ n
-  len = length-take-le n r b.0
-
-  pub front_cut : 0 < n → IsRun g.may_ask g.answers j (questions Front (chars r) (length (chars (take n r)))) k
-      → (group : List ℕ) → group ≡ take n r
+    (j k : J) (group rest : List ℕ) where
+  pub front_cut : IsTextAt g Front (record { text = r; judge = j }) group (record { text = rest; judge = k })
       → IsTextAt g Front (record { text = text_between xs low high; judge = j }) group
-      (record { text = text_between xs (low + n) high; judge = k })
-  front_cut l run group e =
-      rw (e, ← same, text_after xs low high r same n b more) (front_text g r (take n r) (drop n r) parts u n len b j k l run)
+      (record { text = text_between xs (low + length group) high; judge = k })
+  front_cut h =
+      let after : text_between xs (low + length group) high ≡ rest =
+      text_after xs low high r same (length group) (IsCharBoundary-at_seam r group rest h.cut h.rest_utf8)
+      (omega (arith, h.nonempty, ap length h.cut, length-append group rest)) ∙ back_is r group rest h.cut in
+      rw (after, ← same) h
 
-  pub back_cut : n < length r → IsRun g.may_ask g.answers j (questions Back (chars r) (length (chars (drop n r)))) k
-      → (group : List ℕ) → group ≡ drop n r
+  pub back_cut : IsTextAt g Back (record { text = r; judge = j }) group (record { text = rest; judge = k })
       → IsTextAt g Back (record { text = text_between xs low high; judge = j }) group
-      (record { text = text_between xs low (low + n); judge = k })
-  back_cut l run group e =
-      rw (e, ← same, text_before xs low high r same n b more) (back_text g r (take n r) (drop n r) parts u n len b j k l run)
+      (record { text = text_between xs low (low + length rest); judge = k })
+  back_cut h =
+      let before : text_between xs low (low + length rest) ≡ rest =
+      text_before xs low high r same (length rest) (IsCharBoundary-at_seam r rest group h.cut h.group_utf8)
+      (omega (arith, h.nonempty, ap length h.cut, length-append rest group))
+      ∙ ap (take (length rest)) h.cut ∙ take-append_seam rest group in
+      rw (before, ← same) h

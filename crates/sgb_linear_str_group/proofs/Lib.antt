@@ -1,4 +1,4 @@
-pub mod Characters
+pub mod LastCharacter
 pub mod Places
 pub mod Scanned
 pub mod Cuts

@@ -1,231 +1,205 @@
--- A scan of a text's characters, question by question.
-use Rattle.std.proofs.Common.{◌≡◌, ℕ, ◌+◌, ◌-◌, ◌<◌, ◌≤◌, Bool, true, false, List, [], ◌∷◌, ◌++◌, length, take, drop, reverse, refl, sym, ap, ◌∙◌, subst, arith, append_assoc, length-append, length-drop, take_all}
-use Rattle.std.specs.Str.{chars, IsUtf8, IsCharBoundary}
-use Rattle.std.specs.Char.{encode_utf8, len_utf8}
-use Rattle.std.proofs.lemmas.Str.{chars-nil, length-encode, IsCharBoundary-start, IsCharBoundary-end}
-use Rattle.std.proofs.lemmas.List.{length-reverse, length-take-le}
+-- A scan of a text's characters from an end, question by question.
+use Rattle.std.proofs.Common.{◌≡◌, ℕ, ◌+◌, ◌-◌, ◌<◌, ◌≤◌, Bool, true, false, List, [], ◌∷◌, ◌++◌, length, take, drop, refl, sym, ap, ◌∙◌, subst, arith, append_assoc, length-append}
+use Rattle.std.specs.Str.{chars, IsUtf8}
+use Rattle.std.specs.Char.{encode_utf8}
+use Rattle.std.proofs.lemmas.Str.{chars-nil, chars-append, chars_past_char, IsUtf8-append, IsUtf8-take, IsUtf8-drop, IsCharBoundary-at_seam, IsCharBoundary-from_take}
+use Rattle.std.proofs.Math.Seq.{take-append_seam, drop-append_seam}
+use Rattle.std.proofs.lemmas.List.{append-nil}
+use Rattle.sgb_search.specs.declared.end.End.{End}
+use Rattle.sgb_search.specs.declared.end.End.TheVariants.{Front, Back}
 use Rattle.sgb_search.specs.declared.judge.Judge.{Ghosts}
 use Rattle.sgb_search.specs.Judges.{IsRun}
-use Rattle.sgb_search.specs.Split.{neighbours, AreNeighbours}
+use Rattle.sgb_search.specs.Split.{from, put_at, neighbours, AreNeighbours}
 use Rattle.sgb_search.specs.Linear.{questions, MayAskAlong}
-use Rattle.sgb_search.specs.declared.end.End.TheVariants.{Front, Back}
+use Rattle.sgb_search.proofs.Ends.{length-from}
 use Rattle.sgb_search.proofs.Runs.{may_now, may_next}
 use Rattle.sgb_search.proofs.Pairs.{PairAt, pair_between, at_reverse, one_of_at, length-neighbours}
 use Rattle.sgb_search.proofs.Scanning.{Accepted, accepted_none, accepted_more, refused_next, accepted_all}
-use Rattle.sgb_linear_str_group.proofs.Characters.{chars_parts, boundary_after, rest_after, chars_after, boundary_before, rest_before, chars_before}
+use Rattle.sgb_linear_str_group.specs.Texts.{IsTextAt}
+
+module _ {X : Type 0} where
+  -- two at the end, the outer one and the one beyond it, as they stand in the list
+  abbrev pub as_they_stand : End → X → X → X × X
+  as_they_stand Front outer beyond = (outer, beyond)
+  as_they_stand Back outer beyond = (beyond, outer)
+
+  put_at_assoc : (e : End) (xs ys zs : List X) → put_at e xs (put_at e ys zs) ≡ put_at e (put_at e xs ys) zs
+  put_at_assoc Front xs ys zs = sym (append_assoc xs ys zs)
+  put_at_assoc Back xs ys zs = append_assoc zs ys xs
+
+  put_at_none : (e : End) (xs : List X) → put_at e [] xs ≡ xs
+  put_at_none Front xs = refl
+  put_at_none Back xs = append-nil xs
+
+  length-put_at : (e : End) (xs ys : List X) → length (put_at e xs ys) ≡ length xs + length ys
+  length-put_at Front xs ys = length-append xs ys
+  length-put_at Back xs ys = omega (arith, length-append ys xs)
+
+  -- the pair of two elements, among the pairs from the end
+  module _ (e : End) (xs seen rest : List X) (a b : X) (is : xs ≡ put_at e (put_at e seen (a ∷ [])) (put_at e (b ∷ []) rest)) where
+    pub pair_here : PairAt (from e (neighbours xs)) (length seen) (as_they_stand e a b)
+    pair_here = by e is
+      where
+        by : (e : End) → xs ≡ put_at e (put_at e seen (a ∷ [])) (put_at e (b ∷ []) rest)
+            → PairAt (from e (neighbours xs)) (length seen) (as_they_stand e a b)
+        by Front is = pair_between xs seen rest a b (is ∙ append_assoc seen (a ∷ []) (b ∷ rest))
+        by Back is =
+            let side : xs ≡ rest ++ b ∷ a ∷ seen = is ∙ append_assoc rest (b ∷ []) (a ∷ seen) in
+            at_reverse (neighbours xs) (length rest) (length seen) (b, a) (pair_between xs rest seen b a side)
+            (omega (arith, length-neighbours xs, ap length side, length-append rest (b ∷ a ∷ seen)))
+
+    pub are_neighbours : AreNeighbours xs (as_they_stand e a b)
+    are_neighbours = by e is
+      where
+        by : (e : End) → xs ≡ put_at e (put_at e seen (a ∷ [])) (put_at e (b ∷ []) rest) → AreNeighbours xs (as_they_stand e a b)
+        by Front is =
+            one_of_at (neighbours xs) (length seen) (a, b) (pair_between xs seen rest a b (is ∙ append_assoc seen (a ∷ []) (b ∷ rest)))
+        by Back is =
+            one_of_at (neighbours xs) (length rest) (b, a)
+            (pair_between xs rest seen b a (is ∙ append_assoc rest (b ∷ []) (a ∷ seen)))
+
+-- the bytes of parts at the end are UTF-8, and spell the characters of both
+utf8-put_at : (e : End) (xs ys : List ℕ) → IsUtf8 xs → IsUtf8 ys → IsUtf8 (put_at e xs ys)
+utf8-put_at Front xs ys u v = IsUtf8-append xs ys u v
+utf8-put_at Back xs ys u v = IsUtf8-append ys xs v u
+
+chars-put_at : (e : End) (xs ys : List ℕ) → IsUtf8 xs → IsUtf8 ys → chars (put_at e xs ys) ≡ put_at e (chars xs) (chars ys)
+chars-put_at Front xs ys u v = chars-append xs ys u
+chars-put_at Back xs ys u v = chars-append ys xs v
+
+-- and a part of a text is UTF-8 where the rest is
+utf8_part : (e : End) (text part rest : List ℕ) → IsUtf8 text → text ≡ put_at e part rest → IsUtf8 rest → IsUtf8 part
+utf8_part Front text part rest u cut v =
+    subst IsUtf8 (ap (take (length part)) cut ∙ take-append_seam part rest)
+    (IsUtf8-take text (length part) u (IsCharBoundary-at_seam text part rest cut v))
+utf8_part Back text part rest u cut v =
+    let front : take (length rest) text ≡ rest = ap (take (length rest)) cut ∙ take-append_seam rest part in
+    subst IsUtf8 (ap (drop (length rest)) cut ∙ drop-append_seam rest part)
+    (IsUtf8-drop text (length rest) u (IsCharBoundary-from_take text (length rest) u
+    (omega (arith, ap length cut, length-append rest part)) (subst IsUtf8 (sym front) v)))
+
+chars_of_one : (c : ℕ) → IsUtf8 (encode_utf8 c) → chars (encode_utf8 c) ≡ c ∷ []
+chars_of_one c u = chars_past_char (encode_utf8 c) [] c u (sym (append-nil (encode_utf8 c))) ∙ ap (λ l. c ∷ l) chars-nil
 
 -- a text that has a character has a byte
 has_byte : (text : List ℕ) → 0 < length (chars text) → 0 < length text
 has_byte [] some = absurd (omega (arith, some, ap length chars-nil))
 has_byte (b ∷ bs) some = omega arith
 
-module _ {J : Type 0} (g : Ghosts J ℕ) (text : List ℕ) where
-  -- one question more about neighbours
-  module _ (left right : ℕ) (near : AreNeighbours (chars text) (left, right)) (k : J) (callable : MayAskAlong g (chars text) k) where
-    pub may_ask_next : g.may_ask k (left, right)
-    may_ask_next = may_now g.may_ask g.answers (AreNeighbours (chars text)) k (left, right) callable near
-
-    pub callable_next : (b : Bool) (m : J) → g.answers k (left, right) b m → MayAskAlong g (chars text) m
-    callable_next b m a = may_next g.may_ask g.answers (AreNeighbours (chars text)) k (left, right) b m callable near a
-
-module _ {J : Type 0} (g : Ghosts J ℕ) (text : List ℕ) (j : J) where
-  -- from the front: the neighbours before the rest were all accepted, which leads the judge from j to k, and left is the last character
-  -- there
-  pub record FrontScanned (rest : List ℕ) (left : ℕ) (k : J) : Type 0 where
-    pub boundary : IsCharBoundary text (length text - length rest)
-    pub is_rest : drop (length text - length rest) text ≡ rest
+module _ {J : Type 0} (g : Ghosts J ℕ) (e : End) (text : List ℕ) (j : J) where
+  -- the text is cut into a group at the end and the rest: the neighbours in the group were all accepted, which leads the judge from
+  -- j to k, and its innermost character is this one
+  pub record Scanned (rest : List ℕ) (innermost : ℕ) (k : J) : Type 0 where
+    pub group : List ℕ
+    pub cut : text ≡ put_at e group rest
+    pub group_utf8 : IsUtf8 group
+    pub rest_utf8 : IsUtf8 rest
     pub seen : List ℕ
-    pub whole : chars text ≡ seen ++ left ∷ chars rest
+    pub characters : chars group ≡ put_at e seen (innermost ∷ [])
     pub callable : MayAskAlong g (chars text) k
-    pub accepted : Accepted g.may_ask g.answers (neighbours (chars text)) j (length seen) k
+    pub accepted : Accepted g.may_ask g.answers (from e (neighbours (chars text))) j (length seen) k
 
-  -- from the back: the neighbours after the rest were all accepted, which leads the judge from j to k, and right is the first character
-  -- there
-  pub record BackScanned (rest : List ℕ) (right : ℕ) (k : J) : Type 0 where
-    pub boundary : IsCharBoundary text (length rest)
-    pub is_rest : take (length rest) text ≡ rest
-    pub later : List ℕ
-    pub whole : chars text ≡ chars rest ++ right ∷ later
-    pub callable : MayAskAlong g (chars text) k
-    pub accepted : Accepted g.may_ask g.answers (reverse (neighbours (chars text))) j (length later) k
+  -- the outermost character alone
+  pub one_scanned : (c : ℕ) (rest : List ℕ) → IsUtf8 text → text ≡ put_at e (encode_utf8 c) rest → IsUtf8 rest
+      → MayAskAlong g (chars text) j → Scanned rest c j
+  one_scanned c rest u cut v callable = record {
+    group = encode_utf8 c;
+    cut = cut;
+    group_utf8 = utf8_part e text (encode_utf8 c) rest u cut v;
+    rest_utf8 = v;
+    seen = [];
+    characters = chars_of_one c (utf8_part e text (encode_utf8 c) rest u cut v) ∙ sym (put_at_none e (c ∷ []));
+    callable = callable;
+    accepted = accepted_none _ _ (from e (neighbours (chars text))) j 0 j refl refl;
+  }
 
-module _ {J : Type 0} (g : Ghosts J ℕ) (text : List ℕ) (u : IsUtf8 text) (j : J) where
-  -- beyond the character c, what is left begins between characters
-  module _ (place c : ℕ) (rest : List ℕ) (b : IsCharBoundary text place) (e : drop place text ≡ encode_utf8 c ++ rest) where
-    past : place + len_utf8 c ≡ length text - length rest
-    past = omega (arith, b.0, length-drop place text, ap length e, length-append (encode_utf8 c) rest, length-encode c)
+  module _ (rest : List ℕ) (innermost : ℕ) (k : J) (s : Scanned rest innermost k) where
+    spelt : chars text ≡ put_at e (put_at e s.seen (innermost ∷ [])) (chars rest)
+    spelt = ap chars s.cut ∙ chars-put_at e s.group rest s.group_utf8 s.rest_utf8 ∙ ap (λ l. put_at e l (chars rest)) s.characters
 
-    boundary_past : IsCharBoundary text (length text - length rest)
-    boundary_past = subst (IsCharBoundary text) past (boundary_after text u place c rest b e)
+    count : length (chars s.group) ≡ length s.seen + 1
+    count = ap length s.characters ∙ length-put_at e s.seen (innermost ∷ [])
 
-    rest_past : drop (length text - length rest) text ≡ rest
-    rest_past = ap (λ (n : ℕ). drop n text) (sym past) ∙ rest_after text u place c rest b e
+    -- once the last of the questions is answered, the group is what a call gives
+    pub found : (m : J) → IsRun g.may_ask g.answers j (questions e (chars text) (length s.seen + 1)) m
+        → IsTextAt g e (record { text = text; judge = j }) s.group (record { text = rest; judge = m })
+    found m run = record {
+      characters = record {
+        nonempty = omega (arith, count);
+        cut = ap chars s.cut ∙ chars-put_at e s.group rest s.group_utf8 s.rest_utf8;
+        asked = rw count run;
+      };
+      cut = s.cut;
+      nonempty = has_byte s.group (omega (arith, count));
+      group_utf8 = s.group_utf8;
+      rest_utf8 = s.rest_utf8;
+    }
 
-  -- from the front
-  pub front_start : (left : ℕ) (rest : List ℕ) → MayAskAlong g (chars text) j → text ≡ encode_utf8 left ++ rest
-      → FrontScanned g text j rest left j
-  front_start left rest callable e =
-      let start = IsCharBoundary-start text u in
-      record {
-        boundary = boundary_past 0 left rest start e;
-        is_rest = rest_past 0 left rest start e;
-        seen = [];
-        whole = chars_after text u 0 left rest start e;
-        callable = callable;
-        accepted = accepted_none _ _ (neighbours (chars text)) j 0 j refl refl;
-      }
-
-  module _ (rest : List ℕ) (left : ℕ) (k : J) (s : FrontScanned g text j rest left k) where
-    count_front : length (chars (take (length text - length rest) text)) ≡ length s.seen + 1
-    count_front =
+    -- nothing is left beyond it
+    pub found_all : rest ≡ [] → IsTextAt g e (record { text = text; judge = j }) s.group (record { text = rest; judge = k })
+    found_all none =
+        let all : length (chars text) ≡ length s.seen + 1 =
         omega (
           arith,
-          ap length (chars_parts text u (length text - length rest) s.boundary),
-          length-append (chars (take (length text - length rest) text)) (chars (drop (length text - length rest) text)),
-          ap (λ l. length (chars l)) s.is_rest,
-          ap length s.whole,
-          length-append s.seen (left ∷ chars rest),
-        )
-
-    pub front_fits : length rest ≤ length text
-    front_fits = omega (arith, ap length s.is_rest, length-drop (length text - length rest) text)
-
-    pub front_nonempty : 0 < length text - length rest
-    front_nonempty =
-        let some = has_byte (take (length text - length rest) text) (omega (arith, count_front)) in
-        omega (arith, some, length-take-le (length text - length rest) text s.boundary.0)
-
-    module _ (right : ℕ) (more : List ℕ) (e : rest ≡ encode_utf8 right ++ more) where
-      rest_begins : chars rest ≡ right ∷ chars more
-      rest_begins = ap chars (sym s.is_rest) ∙ chars_after text u (length text - length rest) right more s.boundary (s.is_rest ∙ e)
-
-      front_here : PairAt (neighbours (chars text)) (length s.seen) (left, right)
-      front_here = pair_between (chars text) s.seen (chars more) left right (s.whole ∙ ap (λ l. s.seen ++ left ∷ l) rest_begins)
-
-      pub front_near : AreNeighbours (chars text) (left, right)
-      front_near = one_of_at (neighbours (chars text)) (length s.seen) (left, right) front_here
-
-      pub front_more : (m : J) → g.answers k (left, right) true m → FrontScanned g text j more right m
-      front_more m a = record {
-        boundary = boundary_past (length text - length rest) right more s.boundary (s.is_rest ∙ e);
-        is_rest = rest_past (length text - length rest) right more s.boundary (s.is_rest ∙ e);
-        seen = s.seen ++ left ∷ [];
-        whole = s.whole ∙ ap (λ l. s.seen ++ left ∷ l) rest_begins ∙ sym (append_assoc s.seen (left ∷ []) (right ∷ chars more));
-        callable = callable_next g text left right front_near k s.callable true m a;
-        accepted =
-            accepted_more _ _ (neighbours (chars text)) j (length s.seen) k m (left, right) s.accepted front_here
-            (may_ask_next g text left right front_near k s.callable) a (length (s.seen ++ left ∷ []))
-            (omega (arith, length-append s.seen (left ∷ [])));
-      }
-
-      pub front_refused : (m : J) → g.answers k (left, right) false m
-          → IsRun g.may_ask g.answers j (questions Front (chars text) (length (chars (take (length text - length rest) text)))) m
-      front_refused m a =
-          refused_next _ _ (neighbours (chars text)) j (length s.seen) k m (left, right) s.accepted front_here
-          (may_ask_next g text left right front_near k s.callable) a _ count_front
-
-    pub front_all : rest ≡ []
-        → IsRun g.may_ask g.answers j (questions Front (chars text) (length (chars (take (length text - length rest) text)))) k
-    front_all e =
-        let n : length (chars text) ≡ length s.seen + 1 =
-        omega (
-          arith,
-          ap length s.whole,
-          length-append s.seen (left ∷ chars rest),
-          ap (λ l. length (chars l)) e,
+          ap length spelt,
+          length-put_at e (put_at e s.seen (innermost ∷ [])) (chars rest),
+          length-put_at e s.seen (innermost ∷ []),
+          ap (λ l. length (chars l)) none,
           ap length chars-nil,
         ) in
-        accepted_all _ _ (neighbours (chars text)) j (length s.seen) k s.accepted (omega (arith, n, length-neighbours (chars text))) _
-        count_front
+        found k (accepted_all _ _ (from e (neighbours (chars text))) j (length s.seen) k s.accepted
+        (omega (arith, all, length-from e (neighbours (chars text)), length-neighbours (chars text))) _ refl)
 
-  -- from the back
-  pub back_start : (right : ℕ) (rest : List ℕ) → MayAskAlong g (chars text) j → text ≡ rest ++ encode_utf8 right
-      → BackScanned g text j rest right j
-  back_start right rest callable e =
-      let end = IsCharBoundary-end text in
-      let all : take (length text) text ≡ text = take_all (length text) text (omega arith) in
-      record {
-        boundary = boundary_before text u (length text) right rest end (all ∙ e);
-        is_rest = rest_before text u (length text) right rest end (all ∙ e);
-        later = [];
-        whole = ap chars (sym all) ∙ chars_before text u (length text) right rest end (all ∙ e);
-        callable = callable;
-        accepted = accepted_none _ _ (reverse (neighbours (chars text))) j 0 j refl refl;
-      }
+    -- the character beyond it
+    module _ (beyond : ℕ) (further : List ℕ) (next : rest ≡ put_at e (encode_utf8 beyond) further) (u : IsUtf8 further) where
+      next_utf8 : IsUtf8 (encode_utf8 beyond)
+      next_utf8 = utf8_part e rest (encode_utf8 beyond) further s.rest_utf8 next u
 
-  module _ (rest : List ℕ) (right : ℕ) (k : J) (s : BackScanned g text j rest right k) where
-    count_back : length (chars (drop (length rest) text)) ≡ length s.later + 1
-    count_back =
-        omega (
-          arith,
-          ap length (chars_parts text u (length rest) s.boundary),
-          length-append (chars (take (length rest) text)) (chars (drop (length rest) text)),
-          ap (λ l. length (chars l)) s.is_rest,
-          ap length s.whole,
-          length-append (chars rest) (right ∷ s.later),
-        )
+      one : chars (encode_utf8 beyond) ≡ beyond ∷ []
+      one = chars_of_one beyond next_utf8
 
-    -- the place, counted from the end and back
-    from_end : length text - (length text - length rest) ≡ length rest
-    from_end = omega (arith, s.boundary.0)
+      with_next : chars text ≡ put_at e (put_at e s.seen (innermost ∷ [])) (put_at e (beyond ∷ []) (chars further))
+      with_next =
+          spelt ∙ ap (λ l. put_at e (put_at e s.seen (innermost ∷ [])) l)
+          (ap chars next ∙ chars-put_at e (encode_utf8 beyond) further next_utf8 u
+          ∙ ap (λ l. put_at e l (chars further)) one)
 
-    pub back_boundary : IsCharBoundary text (length text - (length text - length rest))
-    back_boundary = rw from_end s.boundary
+      here : PairAt (from e (neighbours (chars text))) (length s.seen) (as_they_stand e innermost beyond)
+      here = pair_here e (chars text) s.seen (chars further) innermost beyond with_next
 
-    pub back_nonempty : 0 < length text - length rest
-    back_nonempty =
-        let some = has_byte (drop (length rest) text) (omega (arith, count_back)) in
-        omega (arith, some, length-drop (length rest) text)
+      near : AreNeighbours (chars text) (as_they_stand e innermost beyond)
+      near = are_neighbours e (chars text) s.seen (chars further) innermost beyond with_next
 
-    module _ (left : ℕ) (more : List ℕ) (e : rest ≡ more ++ encode_utf8 left) where
-      rest_ends : chars rest ≡ chars more ++ left ∷ []
-      rest_ends = ap chars (sym s.is_rest) ∙ chars_before text u (length rest) left more s.boundary (s.is_rest ∙ e)
+      pub may_ask : g.may_ask k (as_they_stand e innermost beyond)
+      may_ask = may_now g.may_ask g.answers (AreNeighbours (chars text)) k _ s.callable near
 
-      whole_back : chars text ≡ chars more ++ left ∷ right ∷ s.later
-      whole_back = s.whole ∙ ap (λ l. l ++ right ∷ s.later) rest_ends ∙ append_assoc (chars more) (left ∷ []) (right ∷ s.later)
+      pub refused : (m : J) → g.answers k (as_they_stand e innermost beyond) false m
+          → IsTextAt g e (record { text = text; judge = j }) s.group (record { text = rest; judge = m })
+      refused m answer =
+          found m (refused_next _ _ (from e (neighbours (chars text))) j (length s.seen) k m _ s.accepted here may_ask answer _ refl)
 
-      back_here : PairAt (reverse (neighbours (chars text))) (length s.later) (left, right)
-      back_here =
-          at_reverse (neighbours (chars text)) (length (chars more)) (length s.later) (left, right)
-          (pair_between (chars text) (chars more) s.later left right whole_back)
-          (omega (arith, length-neighbours (chars text), ap length whole_back, length-append (chars more) (left ∷ right ∷ s.later)))
-
-      pub back_near : AreNeighbours (chars text) (left, right)
-      back_near =
-          one_of_at (neighbours (chars text)) (length (chars more)) (left, right)
-          (pair_between (chars text) (chars more) s.later left right whole_back)
-
-      pub back_more : (m : J) → g.answers k (left, right) true m → BackScanned g text j more left m
-      back_more m a = record {
-        boundary = boundary_before text u (length rest) left more s.boundary (s.is_rest ∙ e);
-        is_rest = rest_before text u (length rest) left more s.boundary (s.is_rest ∙ e);
-        later = right ∷ s.later;
-        whole = whole_back;
-        callable = callable_next g text left right back_near k s.callable true m a;
+      pub one_more : (m : J) → g.answers k (as_they_stand e innermost beyond) true m → Scanned further beyond m
+      one_more m answer = record {
+        group = put_at e s.group (encode_utf8 beyond);
+        cut = s.cut ∙ ap (λ l. put_at e s.group l) next ∙ put_at_assoc e s.group (encode_utf8 beyond) further;
+        group_utf8 = utf8-put_at e s.group (encode_utf8 beyond) s.group_utf8 next_utf8;
+        rest_utf8 = u;
+        seen = put_at e s.seen (innermost ∷ []);
+        characters =
+            chars-put_at e s.group (encode_utf8 beyond) s.group_utf8 next_utf8
+            ∙ ap (λ l. put_at e l (chars (encode_utf8 beyond))) s.characters
+            ∙ ap (λ l. put_at e (put_at e s.seen (innermost ∷ [])) l) one;
+        callable = may_next g.may_ask g.answers (AreNeighbours (chars text)) k _ true m s.callable near answer;
         accepted =
-            accepted_more _ _ (reverse (neighbours (chars text))) j (length s.later) k m (left, right) s.accepted back_here
-            (may_ask_next g text left right back_near k s.callable) a (length (right ∷ s.later)) (omega arith);
+            accepted_more _ _ (from e (neighbours (chars text))) j (length s.seen) k m _ s.accepted here may_ask answer
+            (length (put_at e s.seen (innermost ∷ []))) (length-put_at e s.seen (innermost ∷ []));
       }
 
-      pub back_refused : (m : J) → g.answers k (left, right) false m
-          → IsRun g.may_ask g.answers j (questions Back (chars text)
-          (length (chars (drop (length text - (length text - length rest)) text)))) m
-      back_refused m a =
-          rw from_end
-          (refused_next _ _ (reverse (neighbours (chars text))) j (length s.later) k m (left, right) s.accepted back_here
-          (may_ask_next g text left right back_near k s.callable) a _ count_back)
-
-    pub back_all : rest ≡ []
-        → IsRun g.may_ask g.answers j (questions Back (chars text)
-        (length (chars (drop (length text - (length text - length rest)) text)))) k
-    back_all e =
-        let n : length (chars text) ≡ length s.later + 1 =
-        omega (
-          arith,
-          ap length s.whole,
-          length-append (chars rest) (right ∷ s.later),
-          ap (λ l. length (chars l)) e,
-          ap length chars-nil,
-        ) in
-        rw from_end (accepted_all _ _ (reverse (neighbours (chars text))) j (length s.later) k s.accepted
-        (omega (arith, n, length-reverse (neighbours (chars text)), length-neighbours (chars text))) _ count_back)
+      pub shorter : length further < length rest
+      shorter =
+          omega (
+            arith,
+            ap length next,
+            length-put_at e (encode_utf8 beyond) further,
+            has_byte (encode_utf8 beyond) (omega (arith, ap length one)),
+          )

@@ -5,7 +5,7 @@ ghost use Rattle.std.specs.Iterator.SizeHint.{IsWithinCount};
 ghost use Rattle.sgb_search.specs.declared.end.End.TheVariants.{Front, Back};
 ghost use Rattle.sgb_linear_str_group.specs.Texts.{text_between, shown_text, text_groups_to_come};
 
-use crate::scan::{first_len, last_len};
+use crate::scan::split_group;
 use sgb_search::end::End;
 use sgb_search::judge::Judge;
 use std::iter::FusedIterator;
@@ -154,17 +154,11 @@ impl<'a, J: Judge<char> + Drop> LinearStrGroups<'a, J> {
         if rest.is_empty() {
             return None;
         }
+        let (group, left) = split_group(end, rest, &mut self.judge);
         match end {
-            End::Front => {
-                let len = first_len(rest, &mut self.judge);
-                self.low += len;
-                Some(&rest[..len])
-            }
-            End::Back => {
-                let start = rest.len() - last_len(rest, &mut self.judge);
-                self.high = self.low + start;
-                Some(&rest[start..])
-            }
+            End::Front => self.low += group.len(),
+            End::Back => self.high = self.low + left.len(),
         }
+        Some(group)
     }
 }

@@ -10,7 +10,7 @@ ghost use Rattle.sgb_loans.specs.Loans.{NothingOut};
 ghost use Rattle.sgb_linear_str_group.specs.Texts.{IsTextAt};
 ghost use Rattle.sgb_linear_str_group.specs.TextsMut.{TextGroupsMut, text_groups_mut_to_come};
 
-use crate::scan::{first_len, last_len};
+use crate::scan::split_group;
 use sgb_loans::loans::{Ended, Loans};
 use sgb_search::end::End;
 use sgb_search::judge::Judge;
@@ -55,22 +55,6 @@ fn text_of(bytes: &[u8]) -> &str
     // `from_utf8` would read all that remains at each call, and so a walk would take quadratic time. The condition of
     // `from_utf8_unchecked` is this function's own, which each of its callers is proved to meet.
     unsafe { std::str::from_utf8_unchecked(bytes) }
-}
-
-// How many bytes the group at the end of the text has: where the text is cut in two so, the part there is the group.
-#[inline(always)]
-fn group_len<J: Judge<char>>(end: &End, text: &str, judge: &mut J) -> usize
-    requires nonempty { 0 < length text.now }
-    requires callable { MayAskAlong J.Judge (chars text.now) judge.old }
-    ensures within { result ≤ length text.now }
-    ensures group { (group rest : List ℕ) → text.now ≡ put_at end.now group rest → length group ≡ result
-        → IsTextAt J.Judge end.now (record { text = text.now; judge = judge.old }) group
-        (record { text = rest; judge = judge.new }) }
-{
-    match end {
-        End::Front => first_len(text, judge),
-        End::Back => last_len(text, judge),
-    }
 }
 
 impl<'a, J> LinearStrGroupsMut<'a, J> {
@@ -233,7 +217,7 @@ impl<'a, J: Judge<char> + Drop> LinearStrGroupsMut<'a, J> {
             return None;
         }
         let all = mem::take(&mut self.bytes);
-        let len = group_len(end, text_of(all), &mut self.judge);
+        let len = split_group(end, text_of(all), &mut self.judge).0.len();
         let (group, rest) = self.loans.cut(end, all, len);
         self.bytes = rest;
         Some(group)

@@ -1,63 +1,86 @@
-//! The scans that find a group of characters.
-ghost use Rattle.std.specs.Prelude.{ℕ, ◌-◌, ◌<◌, ◌≤◌, length, take, drop};
-ghost use Rattle.std.specs.Str.{chars, IsCharBoundary};
-ghost use Rattle.sgb_search.specs.Judges.{IsRun};
-ghost use Rattle.sgb_search.specs.declared.end.End.TheVariants.{Front, Back};
-ghost use Rattle.sgb_search.specs.Linear.{questions, MayAskAlong};
+//! The scan that finds a group of characters.
+ghost use Rattle.std.specs.Prelude.{◌≡◌, ◌<◌, ◌++◌, length, take};
+ghost use Rattle.std.specs.Str.{chars, IsUtf8, IsCharBoundary};
+ghost use Rattle.std.specs.Char.{encode_utf8, IsScalar};
+ghost use Rattle.sgb_search.specs.Linear.{MayAskAlong};
+ghost use Rattle.sgb_search.specs.Split.{put_at};
+ghost use Rattle.sgb_linear_str_group.specs.Texts.{IsTextAt};
 
+use sgb_search::end::End;
 use sgb_search::judge::Judge;
 
-/// How many bytes the first group has, of a text that is not empty.
+/// The group at the end of a text that is not empty, and the rest of the text.
 #[inline(always)]
-pub(crate) fn first_len<J: Judge<char>>(text: &str, judge: &mut J) -> usize
+pub(crate) fn split_group<'a, J: Judge<char>>(end: &End, text: &'a str, judge: &mut J) -> (&'a str, &'a str)
     requires nonempty { 0 < length text.now }
     requires callable { MayAskAlong J.Judge (chars text.now) judge.old }
-    ensures nonempty { 0 < result }
-    ensures boundary { IsCharBoundary text.now result }
-    ensures asked { IsRun J.may_ask J.answers judge.old
-        (questions Front (chars text.now) (length (chars (take result text.now)))) judge.new }
+    ensures { IsTextAt J.Judge end.now (record { text = text.now; judge = judge.old }) result.0.now
+        (record { text = result.1.now; judge = judge.new }) }
 {
-    let mut characters = text.chars();
-    let Some(mut last) = characters.next() else {
-        unreachable!()
-    };
-    // What stands after the characters that are taken. `characters` has gone one further when a pair is refused.
-    let mut after = characters.as_str();
-    while let Some(next) = characters.next() {
-        let together = judge.ask(&last, &next);
+    let (mut innermost, mut rest) = split_char(end, text);
+    while !rest.is_empty() {
+        let (beyond, further) = split_char(end, rest);
+        let (left, right) = match end {
+            End::Front => (innermost, beyond),
+            End::Back => (beyond, innermost),
+        };
+        let together = judge.ask(&left, &right);
         if !together {
             break;
         }
-        last = next;
-        after = characters.as_str();
+        innermost = beyond;
+        rest = further;
     }
-    text.len() - after.len()
+    let group = match end {
+        End::Front => &text[..text.len() - rest.len()],
+        End::Back => &text[rest.len()..],
+    };
+    (group, rest)
 }
 
-/// How many bytes the last group has, of a text that is not empty.
+/// The outermost character of a text that is not empty, and the rest of the text.
 #[inline(always)]
-pub(crate) fn last_len<J: Judge<char>>(text: &str, judge: &mut J) -> usize
-    requires nonempty { 0 < length text.now }
-    requires callable { MayAskAlong J.Judge (chars text.now) judge.old }
-    ensures nonempty { 0 < result }
-    ensures within { result ≤ length text.now }
-    ensures boundary { IsCharBoundary text.now (length text.now - result) }
-    ensures asked { IsRun J.may_ask J.answers judge.old
-        (questions Back (chars text.now) (length (chars (drop (length text.now - result) text.now)))) judge.new }
+fn split_char<'a>(end: &End, text: &'a str) -> (char, &'a str)
+    requires { 0 < length text.now }
+    ensures cut { text.now ≡ put_at end.now (encode_utf8 result.0) result.1.now }
+    ensures utf8 { IsUtf8 result.1.now }
 {
-    let mut characters = text.chars();
-    let Some(mut first) = characters.next_back() else {
-        unreachable!()
-    };
-    // What stands before the characters that are taken.
-    let mut before = characters.as_str();
-    while let Some(previous) = characters.next_back() {
-        let together = judge.ask(&previous, &first);
-        if !together {
-            break;
+    match end {
+        End::Front => {
+            let mut characters = text.chars();
+            (characters.next().unwrap(), characters.as_str())
         }
-        first = previous;
-        before = characters.as_str();
+        End::Back => {
+            let (start, code) = last_code(text);
+            (char::from_u32(code).unwrap(), &text[..start])
+        }
     }
-    text.len() - before.len()
+}
+
+/// Where the last character of a text that is not empty begins, and its code. `chars().next_back()` looks for where it begins and
+/// decodes it from there, so that a walk from the back waits for the one before the other; this reads it from its last byte on.
+#[inline(always)]
+fn last_code(text: &str) -> (usize, u32)
+    requires { 0 < length text.now }
+    ensures scalar { IsScalar result.1 }
+    ensures boundary { IsCharBoundary text.now result.0 }
+    ensures is { text.now ≡ take result.0 text.now ++ encode_utf8 result.1 }
+{
+    let bytes = text.as_bytes();
+    let len = bytes.len();
+    // The bytes from the end on. Those after the first of a character are below 0xC0, and hold six bits of it.
+    let last = u32::from(bytes[len - 1]);
+    if last < 0x80 {
+        return (len - 1, last);
+    }
+    let second = u32::from(bytes[len - 2]);
+    if second >= 0xC0 {
+        return (len - 2, second % 32 * 64 + last % 64);
+    }
+    let third = u32::from(bytes[len - 3]);
+    if third >= 0xC0 {
+        return (len - 3, third % 16 * 4096 + second % 64 * 64 + last % 64);
+    }
+    let fourth = u32::from(bytes[len - 4]);
+    (len - 4, fourth % 8 * 262_144 + third % 64 * 4096 + second % 64 * 64 + last % 64)
 }
