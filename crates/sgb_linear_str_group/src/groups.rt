@@ -151,10 +151,7 @@ impl<'a, J: Judge<char> + Drop> LinearStrGroups<'a, J> {
         ensures callable { IsCallableText J.Judge (shown_text self.new) }
     {
         let rest = part(self.string, self.low, self.high);
-        if rest.is_empty() {
-            return None;
-        }
-        let (group, left) = split_group(end, rest, &mut self.judge);
+        let (group, left) = split_group(end, rest, &mut self.judge)?;
         match end {
             End::Front => self.low += group.len(),
             End::Back => self.high = self.low + left.len(),

@@ -217,7 +217,8 @@ impl<'a, J: Judge<char> + Drop> LinearStrGroupsMut<'a, J> {
             return None;
         }
         let all = mem::take(&mut self.bytes);
-        let len = split_group(end, text_of(all), &mut self.judge).0.len();
+        let (group, _) = split_group(end, text_of(all), &mut self.judge).unwrap();
+        let len = group.len();
         let (group, rest) = self.loans.cut(end, all, len);
         self.bytes = rest;
         Some(group)

@@ -1,5 +1,5 @@
 //! The scan that finds a group of characters.
-ghost use Rattle.std.specs.Prelude.{◌≡◌, ◌<◌, ◌++◌, length, take};
+ghost use Rattle.std.specs.Prelude.{◌≡◌, ◌<◌, [], ◌++◌, length, take, MatchOption};
 ghost use Rattle.std.specs.Str.{chars, IsUtf8, IsCharBoundary};
 ghost use Rattle.std.specs.Char.{encode_utf8, IsScalar};
 ghost use Rattle.sgb_search.specs.Linear.{MayAskAlong};
@@ -9,17 +9,20 @@ ghost use Rattle.sgb_linear_str_group.specs.Texts.{IsTextAt};
 use sgb_search::end::End;
 use sgb_search::judge::Judge;
 
-/// The group at the end of a text that is not empty, and the rest of the text.
+/// The group at the end of a text and the rest of the text, or `None` where the text is empty.
 #[inline(always)]
-pub(crate) fn split_group<'a, J: Judge<char>>(end: &End, text: &'a str, judge: &mut J) -> (&'a str, &'a str)
-    requires nonempty { 0 < length text.now }
-    requires callable { MayAskAlong J.Judge (chars text.now) judge.old }
-    ensures { IsTextAt J.Judge end.now (record { text = text.now; judge = judge.old }) result.0.now
-        (record { text = result.1.now; judge = judge.new }) }
+pub(crate) fn split_group<'a, J: Judge<char>>(
+    end: &End,
+    text: &'a str,
+    judge: &mut J,
+) -> Option<(&'a str, &'a str)>
+    requires { MayAskAlong J.Judge (chars text.now) judge.old }
+    ensures { MatchOption result ((text.now ≡ []) × (judge.new ≡ judge.old))
+        (λ x. IsTextAt J.Judge end.now (record { text = text.now; judge = judge.old }) x.0.now
+        (record { text = x.1.now; judge = judge.new })) }
 {
-    let (mut innermost, mut rest) = split_char(end, text);
-    while !rest.is_empty() {
-        let (beyond, further) = split_char(end, rest);
+    let (mut innermost, mut rest) = split_char(end, text)?;
+    while let Some((beyond, further)) = split_char(end, rest) {
         let (left, right) = match end {
             End::Front => (innermost, beyond),
             End::Back => (beyond, innermost),
@@ -35,17 +38,19 @@ pub(crate) fn split_group<'a, J: Judge<char>>(end: &End, text: &'a str, judge: &
         End::Front => &text[..text.len() - rest.len()],
         End::Back => &text[rest.len()..],
     };
-    (group, rest)
+    Some((group, rest))
 }
 
-/// The outermost character of a text that is not empty, and the rest of the text.
+/// The outermost character of a text and the rest of the text, or `None` where the text is empty.
 #[inline(always)]
-fn split_char<'a>(end: &End, text: &'a str) -> (char, &'a str)
-    requires { 0 < length text.now }
-    ensures cut { text.now ≡ put_at end.now (encode_utf8 result.0) result.1.now }
-    ensures utf8 { IsUtf8 result.1.now }
+fn split_char<'a>(end: &End, text: &'a str) -> Option<(char, &'a str)>
+    ensures { MatchOption result (text.now ≡ [])
+        (λ x. (text.now ≡ put_at end.now (encode_utf8 x.0) x.1.now) × IsUtf8 x.1.now) }
 {
-    match end {
+    if text.is_empty() {
+        return None;
+    }
+    Some(match end {
         End::Front => {
             let mut characters = text.chars();
             (characters.next().unwrap(), characters.as_str())
@@ -54,7 +59,7 @@ fn split_char<'a>(end: &End, text: &'a str) -> (char, &'a str)
             let (start, code) = last_code(text);
             (char::from_u32(code).unwrap(), &text[..start])
         }
-    }
+    })
 }
 
 /// Where the last character of a text that is not empty begins, and its code. `chars().next_back()` looks for where it begins and
@@ -82,5 +87,8 @@ fn last_code(text: &str) -> (usize, u32)
         return (len - 3, third % 16 * 4096 + second % 64 * 64 + last % 64);
     }
     let fourth = u32::from(bytes[len - 4]);
-    (len - 4, fourth % 8 * 262_144 + third % 64 * 4096 + second % 64 * 64 + last % 64)
+    (
+        len - 4,
+        fourth % 8 * 262_144 + third % 64 * 4096 + second % 64 * 64 + last % 64,
+    )
 }

@@ -3,7 +3,9 @@ use Rattle.sgb_search.proofs.Between.{between_places, between_empty}
 use Rattle.sgb_linear_str_group.specs.Texts.{lies_between_characters}
 use Rattle.sgb_linear_str_group.proofs.Places.{boundary_test, boundary_of_text, boundary_of_front}
 use Rattle.sgb_linear_str_group.proofs.groups.part.Goals as goal
-use Rattle.sgb_linear_str_group.proofs.groups.part.Goals.{else-low-high-via-then-low-high+then-is_char_boundary+else-is_char_boundary-2, else-low-high-via-then-low-high+else-is_char_boundary, else-low-high-via-else-low-high}
+use Rattle.sgb_linear_str_group.proofs.groups.part.Goals.{else-low-high-via-then-low-high+then-is_char_boundary+else-is_char_boundary-2}
+use Rattle.sgb_linear_str_group.proofs.groups.part.Goals.{else-low-high-via-then-low-high+else-is_char_boundary}
+use Rattle.sgb_linear_str_group.proofs.groups.part.Goals.{else-low-high-via-else-low-high}
 
 pub returns-then-is_char_boundary-2-clause-value : goal.returns-then-is_char_boundary-2-clause-value
 returns-then-is_char_boundary-2-clause-value c =

@@ -25,7 +25,8 @@ returns-then-second-ge192 c =
     let text = c.args.text.now in
     let first : 128 ≤ byte text 1 = rw (c.from-last.ensures, c.as_bytes-bytes.ensures.value) at c.if-last-lt128.false in
     let lead : 192 ≤ byte text 2 = rw (c.from-second.ensures, c.as_bytes-bytes.ensures.value) at c.if-second-ge192.true in
-    rw (c.from-last.ensures, c.from-second.ensures, c.as_bytes-bytes.ensures.value) ((last_bytes text c.utf8.text c.requires).two first lead)
+    rw (c.from-last.ensures, c.from-second.ensures, c.as_bytes-bytes.ensures.value)
+    ((last_bytes text c.utf8.text c.requires).two first lead)
 
 pub overflow_sub-len-3 : goal.overflow_sub-len-3
 overflow_sub-len-3 c =
@@ -47,7 +48,8 @@ returns-then-third-ge192 c =
     let first : 128 ≤ byte text 1 = rw (c.from-last.ensures, c.as_bytes-bytes.ensures.value) at c.if-last-lt128.false in
     let second : byte text 2 < 192 = rw (c.from-second.ensures, c.as_bytes-bytes.ensures.value) at c.if-second-ge192.false in
     let lead : 192 ≤ byte text 3 = rw (c.from-third.ensures, c.as_bytes-bytes.ensures.value) at c.if-third-ge192.true in
-    rw (c.from-last.ensures, c.from-second.ensures, c.from-third.ensures, c.as_bytes-bytes.ensures.value) ((last_bytes text c.utf8.text c.requires).three first second lead)
+    rw (c.from-last.ensures, c.from-second.ensures, c.from-third.ensures, c.as_bytes-bytes.ensures.value)
+    ((last_bytes text c.utf8.text c.requires).three first second lead)
 
 pub overflow_sub-len-4 : goal.overflow_sub-len-4
 overflow_sub-len-4 c =
@@ -71,4 +73,5 @@ returns c =
     let first : 128 ≤ byte text 1 = rw (c.from-last.ensures, c.as_bytes-bytes.ensures.value) at c.if-last-lt128.false in
     let second : byte text 2 < 192 = rw (c.from-second.ensures, c.as_bytes-bytes.ensures.value) at c.if-second-ge192.false in
     let third : byte text 3 < 192 = rw (c.from-third.ensures, c.as_bytes-bytes.ensures.value) at c.if-third-ge192.false in
-    rw (c.from-last.ensures, c.from-second.ensures, c.from-third.ensures, c.from-fourth.ensures, c.as_bytes-bytes.ensures.value) ((last_bytes text c.utf8.text c.requires).four first second third)
+    rw (c.from-last.ensures, c.from-second.ensures, c.from-third.ensures, c.from-fourth.ensures, c.as_bytes-bytes.ensures.value)
+    ((last_bytes text c.utf8.text c.requires).four first second third)

@@ -1,66 +1,66 @@
 use Rattle.std.proofs.Common.{◌≡◌, ℕ, List, subst, ap, sym, ◌∙◌, arith}
 use Rattle.std.specs.Borrow.{Bor}
-use Rattle.std.proofs.lemmas.Bool.Decides.{nat_tests}
 use Rattle.sgb_linear_str_group.specs.Texts.{IsTextAt}
 use Rattle.std.proofs.lemmas.Str.{IsCharBoundary-at_seam}
-use Rattle.std.proofs.lemmas.List.{nil_from_length}
 use Rattle.sgb_linear_str_group.proofs.Scanned.{as_they_stand, one_scanned, may_ask, one_more, shorter, refused, found_all}
 use Rattle.sgb_linear_str_group.proofs.Cuts.{seam_boundary, front_is, back_is}
 use Rattle.sgb_linear_str_group.proofs.scan.split_group.Goals as goal
-use Rattle.sgb_linear_str_group.proofs.scan.split_group.Goals.{in-Front, in-Back, in-Front-end, in-Back-end, else-loop-innermost-test, then-loop-innermost-test+then-not-together}
+use Rattle.sgb_linear_str_group.proofs.scan.split_group.Goals.{in-Some+then-not-together, in_default}
+use Rattle.sgb_linear_str_group.proofs.scan.split_group.Goals.{in-Front, in-Back, in-Front-end, in-Back-end}
 
-pub loop-innermost-init : goal.loop-innermost-init
-loop-innermost-init g c =
-    let outermost = c.split_char-innermost in
-    one_scanned g.J.Judge _ _ _ _ _ c.utf8.text outermost.ensures.cut outermost.ensures.utf8 c.requires.callable
+pub loop-beyond-init : goal.loop-beyond-init
+loop-beyond-init g c =
+    let outermost = c.in_ok-innermost.ensures in
+    one_scanned g.J.Judge _ _ _ _ _ c.utf8.text outermost.0 outermost.1 c.requires
 
 pub ask-together-requires : goal.ask-together-requires
 ask-together-requires g c =
-    let next = c.split_char-beyond in
-    let may = may_ask g.J.Judge _ _ _ _ _ _ c.loop-innermost.invariant _ _ next.ensures.cut next.ensures.utf8 in
+    let next = c.in-Some in
+    let may = may_ask g.J.Judge _ _ _ _ _ _ c.loop-beyond.invariant _ _ next.ensures.0 next.ensures.1 in
     elim c.match-end.branch [
       | in-Front w ↦ rw (w.in-Front.is, ← w.left-is) at may
       | in-Back w ↦ rw (w.in-Back.is, ← w.left-is) at may
     ]
 
-pub loop-innermost-smaller : goal.loop-innermost-smaller
-loop-innermost-smaller g c =
-    let next = c.split_char-beyond in
-    shorter g.J.Judge _ _ _ _ _ _ c.loop-innermost.invariant _ _ next.ensures.cut next.ensures.utf8
+pub loop-beyond-smaller : goal.loop-beyond-smaller
+loop-beyond-smaller g c =
+    let next = c.in-Some in
+    shorter g.J.Judge _ _ _ _ _ _ c.loop-beyond.invariant _ _ next.ensures.0 next.ensures.1
 
-pub loop-innermost-preserved : goal.loop-innermost-preserved
-loop-innermost-preserved g c =
-    let next = c.split_char-beyond in
-    let pair : c.match-end.left ≡ as_they_stand c.args.end.now c.loop-innermost.innermost next.result.0 = elim c.match-end.branch [
+pub loop-beyond-preserved : goal.loop-beyond-preserved
+loop-beyond-preserved g c =
+    let next = c.in-Some in
+    let pair : c.match-end.left ≡ as_they_stand c.args.end.now c.loop-beyond.innermost next.beyond = elim c.match-end.branch [
       | in-Front w ↦ rw w.in-Front.is w.left-is
       | in-Back w ↦ rw w.in-Back.is w.left-is
     ] in
-    one_more g.J.Judge _ _ _ _ _ _ c.loop-innermost.invariant _ _ next.ensures.cut next.ensures.utf8 _ (rw pair at c.if-not-together.ensures)
+    one_more g.J.Judge _ _ _ _ _ _ c.loop-beyond.invariant _ _ next.ensures.0 next.ensures.1 _ (rw pair at c.if-not-together.ensures)
 
 pub range-group-requires-clause-end_boundary : goal.range-group-requires-clause-end_boundary
 range-group-requires-clause-end_boundary g c =
-    let i = c.loop-innermost.invariant in
+    let i = c.loop-beyond.invariant in
     seam_boundary _ _ _ (rw c.in-Front-end.is at i.cut) i.rest_utf8
 
 pub range_from-group-requires : goal.range_from-group-requires
 range_from-group-requires g c =
-    let i = c.loop-innermost.invariant in
+    let i = c.loop-beyond.invariant in
     λ _. IsCharBoundary-at_seam _ _ _ (rw c.in-Back-end.is at i.cut) i.group_utf8
 
 pub returns : goal.returns
 returns g c =
-    let i = c.loop-innermost.invariant in
-    let at_group = λ (group : List ℕ). IsTextAt g.J.Judge c.args.end.now (record { text = c.args.text.now; judge = c.args.judge.now }) group
-    (record { text = c.loop-innermost.rest.now; judge = c.loop-innermost-test.judge }) in
-    let found : at_group i.group = elim c.loop-innermost-test.branch [
-      | else-loop-innermost-test w ↦ rw w.judge-is (found_all g.J.Judge _ _ _ _ _ _ i (nil_from_length _ (grind (arith, nat_tests, w.loop-innermost-test.ensures))))
-      | then-loop-innermost-test+then-not-together w ↦
-          let next = w.split_char-beyond in
-          let pair : w.match-end.left ≡ as_they_stand c.args.end.now c.loop-innermost.innermost next.result.0 = elim w.match-end.branch [
+    let i = c.loop-beyond.invariant in
+    let at_group = λ (group : List ℕ). IsTextAt g.J.Judge c.args.end.now
+    (record { text = c.args.text.now; judge = c.args.judge.now }) group
+    (record { text = c.loop-beyond.rest.now; judge = c.match-split_char.judge }) in
+    let found : at_group i.group = elim c.match-split_char.branch [
+      | in_default w ↦ rw w.judge-is (found_all g.J.Judge _ _ _ _ _ _ i w.in_default.ensures)
+      | in-Some+then-not-together w ↦
+          let next = w.in-Some in
+          let pair : w.match-end.left ≡ as_they_stand c.args.end.now c.loop-beyond.innermost next.beyond = elim w.match-end.branch [
             | in-Front v ↦ rw v.in-Front.is v.left-is
             | in-Back v ↦ rw v.in-Back.is v.left-is
           ] in
-          rw w.judge-is (refused g.J.Judge _ _ _ _ _ _ i _ _ next.ensures.cut next.ensures.utf8 _ (rw pair at w.if-not-together.ensures))
+          rw w.judge-is (refused g.J.Judge _ _ _ _ _ _ i _ _ next.ensures.0 next.ensures.1 _ (rw pair at w.if-not-together.ensures))
     ] in
     let group : c.match-end-2.group.now ≡ i.group = elim c.match-end-2.branch [
       | in-Front-end w ↦

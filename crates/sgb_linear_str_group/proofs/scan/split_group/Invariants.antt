@@ -2,8 +2,8 @@ use Rattle.std.proofs.Common.{length}
 use Rattle.sgb_linear_str_group.proofs.Scanned.{Scanned}
 use Rattle.sgb_linear_str_group.proofs.scan.split_group.Given as goal
 
-abbrev pub invariant-loop-innermost : goal.invariant-loop-innermost
-invariant-loop-innermost g l = Scanned g.J.Judge l.end l.text l.initial.judge l.rest l.innermost l.judge
+abbrev pub invariant-loop-beyond : goal.invariant-loop-beyond
+invariant-loop-beyond g l = Scanned g.J.Judge l.end l.text l.initial.judge l.rest l.innermost l.judge
 
-abbrev pub decreases-loop-innermost : goal.decreases-loop-innermost
-decreases-loop-innermost g l = length l.rest
+abbrev pub decreases-loop-beyond : goal.decreases-loop-beyond
+decreases-loop-beyond g l = length l.rest

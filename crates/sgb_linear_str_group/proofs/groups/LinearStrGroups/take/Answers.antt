@@ -10,10 +10,10 @@ returns-clause-gives g c =
     elim c.match-end.branch [
       | in-Front w ↦
           rw (w.in-Front.is, w.self-is)
-          (front_cut g.J.Judge _ _ _ _ c.part-rest.ensures.value _ _ _ _ (rw w.in-Front.is at c.split_group.ensures))
+          (front_cut g.J.Judge _ _ _ _ c.part-rest.ensures.value _ _ _ _ (rw w.in-Front.is at c.in_ok-group.ensures))
       | in-Back w ↦
           rw (w.in-Back.is, w.self-is)
-          (back_cut g.J.Judge _ _ _ _ c.part-rest.ensures.value _ _ _ _ (rw w.in-Back.is at c.split_group.ensures))
+          (back_cut g.J.Judge _ _ _ _ c.part-rest.ensures.value _ _ _ _ (rw w.in-Back.is at c.in_ok-group.ensures))
     ]
 
 pub returns-clause-callable : goal.returns-clause-callable

@@ -7,14 +7,14 @@ use Rattle.sgb_linear_str_group.proofs.Cuts.{callable_whole, cut_alike}
 use Rattle.sgb_linear_str_group.proofs.Queue.{keeps}
 use Rattle.sgb_linear_str_group.proofs.groups_mut.LinearStrGroupsMut.take.Goals as goal
 
-pub split_group-requires-clause-callable : goal.split_group-requires-clause-callable
-split_group-requires-clause-callable g c =
+pub split_group-requires : goal.split_group-requires
+split_group-requires g c =
     callable_whole g.J.Judge _ _ _ (ap seen_text c.self.view_is) _ _ c.text_of.ensures
     (ap (λ (b : MutBor (List ℕ)). b.now) c.take-all.ensures.value) c.requires
 
 pub returns-clause-gives : goal.returns-clause-gives
 returns-clause-gives g c =
-    let given = cut_alike g.J.Judge c.args.end.now _ _ _ _ _ c.split_group.ensures in
+    let given = cut_alike g.J.Judge c.args.end.now _ _ _ _ _ (rw c.unwrap.ensures at c.split_group.ensures) in
     grind (arith, common_steps, given)
 
 pub returns-clause-callable : goal.returns-clause-callable
@@ -23,6 +23,6 @@ returns-clause-callable g c =
 
 pub invariant_of-self : goal.invariant_of-self
 invariant_of-self g c =
-    let given = cut_alike g.J.Judge c.args.end.now _ _ _ _ _ c.split_group.ensures in
+    let given = cut_alike g.J.Judge c.args.end.now _ _ _ _ _ (rw c.unwrap.ensures at c.split_group.ensures) in
     let cut = c.cut-group.ensures in
     record { utf8 = (given _ _ (c.text_of.ensures ∙ cut.value) cut.len).rest_utf8; rest = cut.rest }
