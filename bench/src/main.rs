@@ -85,17 +85,22 @@ fn writing(rounds: usize, what: &str, ours: ffi::Write, name: &str, peer: fn(&mu
     }
 }
 
+/// The texts of a row: of characters of one byte, and of one to four.
+const KINDS: [(bool, &str); 2] = [(false, "ASCII"), (true, "one to four bytes a character")];
+
+const TEXT_LENGTHS: [Lengths; 4] = [Lengths::Each(1), Lengths::Around(8), Lengths::Each(8), Lengths::Each(1000)];
+
 fn texts(rounds: usize) {
     type Text = fn(&str) -> usize;
     let front: Text = |s| unsafe { ffi::text_front(s.as_ptr(), s.len()) };
     let back: Text = |s| unsafe { ffi::text_back(s.as_ptr(), s.len()) };
     let a_loop: [Text; 2] = [peers::characters, peers::characters_back];
     let by_groups: [Text; 2] = [peers::character_groups, peers::character_groups_back];
-    for (mixed, kind) in [(false, "ASCII"), (true, "one to four bytes a character")] {
+    for (mixed, kind) in KINDS {
         for (what, peers) in [("one loop over `char_indices`", a_loop), ("a group at a time by `char_indices`", by_groups)] {
             for (end, ours, peer) in [("front", front, peers[0]), ("back", back, peers[1])] {
                 head(&format!("Texts, {kind}, from the {end}, beside {what}"), "a character", what);
-                for lengths in [Lengths::Each(1), Lengths::Around(8), Lengths::Each(8), Lengths::Each(1000)] {
+                for lengths in TEXT_LENGTHS {
                     let s = text(COUNT, lengths, mixed);
                     assert_eq!(ours(&s), peer(&s), "text");
                     row(&lengths.name(), COUNT, &in_turn(rounds, &mut [&mut || ours(&s), &mut || peer(&s)]));
@@ -104,14 +109,18 @@ fn texts(rounds: usize) {
         }
     }
     let ours_mut: [(&str, unsafe extern "C" fn(*mut u8, usize) -> usize, Text); 2] =
-        [("front", ffi::text_mut_front, peers::characters), ("back", ffi::text_mut_back, peers::characters_back)];
-    for (end, ours, peer) in ours_mut {
-        head(&format!("Texts for writing, from the {end}"), "a character", "one loop over `char_indices`, for reading");
-        for lengths in [Lengths::Each(1), Lengths::Around(8), Lengths::Each(8), Lengths::Each(1000)] {
-            let s = text(COUNT, lengths, true);
-            let mut bytes = s.clone().into_bytes();
-            let mut ours = || unsafe { ours(bytes.as_mut_ptr(), bytes.len()) };
-            row(&lengths.name(), COUNT, &in_turn(rounds, &mut [&mut ours, &mut || peer(&s)]));
+        [("front", ffi::text_mut_front, by_groups[0]), ("back", ffi::text_mut_back, by_groups[1])];
+    for (mixed, kind) in KINDS {
+        for (end, ours, peer) in ours_mut {
+            let what = "a group at a time by `char_indices`, for reading";
+            head(&format!("Texts for writing, {kind}, from the {end}"), "a character", what);
+            for lengths in TEXT_LENGTHS {
+                let s = text(COUNT, lengths, mixed);
+                let mut bytes = s.clone().into_bytes();
+                let mut ours = || unsafe { ours(bytes.as_mut_ptr(), bytes.len()) };
+                assert_eq!(ours(), peer(&s), "text for writing");
+                row(&lengths.name(), COUNT, &in_turn(rounds, &mut [&mut ours, &mut || peer(&s)]));
+            }
         }
     }
 }
