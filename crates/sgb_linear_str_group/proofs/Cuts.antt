@@ -11,6 +11,7 @@ use Rattle.sgb_search.specs.declared.end.End.TheVariants.{Front, Back}
 use Rattle.sgb_linear_str_group.specs.Texts.{TextGroups, text_between, IsCallableText, IsTextAt}
 use Rattle.sgb_linear_str_group.proofs.Places.{text_after, text_before}
 
+-- a text that is cut in two: the seam lies between characters, with the one part before it and the other after it
 module _ (text front back : List ℕ) (cut : text ≡ front ++ back) where
   seam : length front ≡ length text - length back
   seam = omega (arith, ap length cut, length-append front back)

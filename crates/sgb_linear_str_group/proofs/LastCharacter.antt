@@ -15,6 +15,7 @@ abbrev pub EndsWith : List ℕ → ℕ → ℕ → Type 0
 EndsWith text place character =
     record { scalar : IsScalar character; boundary : IsCharBoundary text place; is : text ≡ take place text ++ encode_utf8 character }
 
+-- the text ends with a character
 record Ends (text : List ℕ) : Type 0 where
   before : List ℕ
   character : ℕ

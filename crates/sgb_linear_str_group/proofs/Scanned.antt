@@ -39,7 +39,7 @@ module _ {X : Type 0} where
 
   -- the pair of two elements, among the pairs from the end
   module _ (e : End) (xs seen rest : List X) (a b : X) (is : xs ≡ put_at e (put_at e seen (a ∷ [])) (put_at e (b ∷ []) rest)) where
-    pub pair_here : PairAt (from e (neighbours xs)) (length seen) (as_they_stand e a b)
+    pair_here : PairAt (from e (neighbours xs)) (length seen) (as_they_stand e a b)
     pair_here = by e is
       where
         by : (e : End) → xs ≡ put_at e (put_at e seen (a ∷ [])) (put_at e (b ∷ []) rest)
@@ -50,7 +50,7 @@ module _ {X : Type 0} where
             at_reverse (neighbours xs) (length rest) (length seen) (b, a) (pair_between xs rest seen b a side)
             (omega (arith, length-neighbours xs, ap length side, length-append rest (b ∷ a ∷ seen)))
 
-    pub are_neighbours : AreNeighbours xs (as_they_stand e a b)
+    are_neighbours : AreNeighbours xs (as_they_stand e a b)
     are_neighbours = by e is
       where
         by : (e : End) → xs ≡ put_at e (put_at e seen (a ∷ [])) (put_at e (b ∷ []) rest) → AreNeighbours xs (as_they_stand e a b)
@@ -123,7 +123,7 @@ module _ {J : Type 0} (g : Ghosts J ℕ) (e : End) (text : List ℕ) (j : J) whe
     count = ap length s.characters ∙ length-put_at e s.seen (innermost ∷ [])
 
     -- once the last of the questions is answered, the group is what a call gives
-    pub found : (m : J) → IsRun g.may_ask g.answers j (questions e (chars text) (length s.seen + 1)) m
+    found : (m : J) → IsRun g.may_ask g.answers j (questions e (chars text) (length s.seen + 1)) m
         → IsTextAt g e (record { text = text; judge = j }) s.group (record { text = rest; judge = m })
     found m run = record {
       characters = record {

@@ -62,8 +62,8 @@ fn split_char<'a>(end: &End, text: &'a str) -> Option<(char, &'a str)>
     })
 }
 
-/// Where the last character of a text that is not empty begins, and its code. `chars().next_back()` looks for where it begins and
-/// decodes it from there, so that a walk from the back waits for the one before the other; this reads it from its last byte on.
+/// The byte at which the last character of a text that is not empty begins, and its code, read from its last byte on. The
+/// standard library's `chars` finds where it begins first, so that in a walk from the back each character waits for another.
 #[inline(always)]
 fn last_code(text: &str) -> (usize, u32)
     requires { 0 < length text.now }
