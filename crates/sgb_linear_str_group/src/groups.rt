@@ -1,5 +1,6 @@
 //! Linear groups of a text for reading, over any judge of characters.
-ghost use Rattle.std.specs.Prelude.{◌≡◌, ◌<◌, ◌+◌, ◌^◌, length, nat_eq, IfSome};
+ghost use Rattle.std.specs.Prelude.{◌≡◌, ◌<◌, ◌+◌, ◌^◌, length, nat_eq, IfSome, IsTrue, ◌↔◌};
+ghost use Rattle.std.specs.Str.{IsCharBoundary};
 ghost use Rattle.std.specs.Iterator.{UpTo};
 ghost use Rattle.std.specs.Iterator.SizeHint.{IsWithinCount};
 ghost use Rattle.sgb_search.specs.declared.end.End.TheVariants.{Front, Back};
@@ -28,18 +29,31 @@ pub struct LinearStrGroups<'a, J> {
     judge: J,
 }
 
-// The part of a text between two places, and the empty text where they do not lie between characters in order.
+// The part of a text between two places, for a call at the end, and the empty text where they do not lie between characters in
+// order.
 #[inline(always)]
-fn part(string: &str, low: usize, high: usize) -> &str
+fn part<'a>(end: &End, string: &'a str, low: usize, high: usize) -> &'a str
     ensures value { result.now ≡ text_between string.now low high }
     ensures fits { low + length result.now < 2 ^ 64 }
 {
     // `get` tests the same, and was slower in groups of a character: an empty part needs no byte of the text here, and `low` is
     // tested where it is known to lie within, so that no length is compared again.
-    if low < high && string.is_char_boundary(high) && string[..high].is_char_boundary(low) {
+    if low < high && string.is_char_boundary(high) && begins_character(end, &string[..high], low) {
         &string[low..high]
     } else {
         ""
+    }
+}
+
+// Whether a character begins at the place. A walk from the back leaves it at 0, where no byte is looked at; from the front that
+// would be one more test at each call.
+#[inline(always)]
+fn begins_character(end: &End, text: &str, place: usize) -> bool
+    ensures { IsTrue result ↔ IsCharBoundary text.now place }
+{
+    match end {
+        End::Front => text.is_char_boundary(place),
+        End::Back => place == 0 || text.is_char_boundary(place),
     }
 }
 
@@ -63,7 +77,7 @@ impl<'a, J> LinearStrGroups<'a, J> {
     pub fn as_str(&self) -> &'a str
         ensures { result.now ≡ (shown_text self.now).text }
     {
-        part(self.string, self.low, self.high)
+        part(&End::Front, self.string, self.low, self.high)
     }
 
     /// How many bytes no call has handed out yet.
@@ -150,7 +164,7 @@ impl<'a, J: Judge<char> + Drop> LinearStrGroups<'a, J> {
         ensures gives { GivesText J.Judge end.now self.old result self.new }
         ensures callable { IsCallableText J.Judge (shown_text self.new) }
     {
-        let rest = part(self.string, self.low, self.high);
+        let rest = part(end, self.string, self.low, self.high);
         let (group, left) = split_group(end, rest, &mut self.judge)?;
         match end {
             End::Front => self.low += group.len(),

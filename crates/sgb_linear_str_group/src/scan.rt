@@ -1,6 +1,7 @@
 //! The scan that finds a group of characters.
 ghost use Rattle.std.specs.Prelude.{◌≡◌, ◌<◌, [], ◌++◌, length, take, MatchOption};
 ghost use Rattle.std.specs.Str.{chars, IsUtf8, IsCharBoundary};
+ghost use Rattle.std.specs.Str.Iter.{chars_rest};
 ghost use Rattle.std.specs.Char.{encode_utf8, IsScalar};
 ghost use Rattle.sgb_search.specs.Linear.{MayAskAlong};
 ghost use Rattle.sgb_search.specs.Split.{put_at};
@@ -8,6 +9,7 @@ ghost use Rattle.sgb_linear_str_group.specs.Texts.{IsTextAt};
 
 use sgb_search::end::End;
 use sgb_search::judge::Judge;
+use std::str::Chars;
 
 /// The group at the end of a text and the rest of the text, or `None` where the text is empty.
 #[inline(always)]
@@ -21,8 +23,10 @@ pub(crate) fn split_group<'a, J: Judge<char>>(
         (λ x. IsTextAt J.Judge end.now (record { text = text.now; judge = judge.old }) x.0.now
         (record { text = x.1.now; judge = judge.new })) }
 {
-    let (mut innermost, mut rest) = split_char(end, text)?;
-    while let Some((beyond, further)) = split_char(end, rest) {
+    let mut characters = text.chars();
+    let mut innermost = next_at(end, &mut characters)?;
+    let mut rest = characters.as_str();
+    while let Some(beyond) = next_at(end, &mut characters) {
         let (left, right) = match end {
             End::Front => (innermost, beyond),
             End::Back => (beyond, innermost),
@@ -32,7 +36,7 @@ pub(crate) fn split_group<'a, J: Judge<char>>(
             break;
         }
         innermost = beyond;
-        rest = further;
+        rest = characters.as_str();
     }
     let group = match end {
         End::Front => &text[..text.len() - rest.len()],
@@ -41,25 +45,26 @@ pub(crate) fn split_group<'a, J: Judge<char>>(
     Some((group, rest))
 }
 
-/// The outermost character of a text and the rest of the text, or `None` where the text is empty.
+/// The next character at the end, or `None` where none is left.
 #[inline(always)]
-fn split_char<'a>(end: &End, text: &'a str) -> Option<(char, &'a str)>
-    ensures { MatchOption result (text.now ≡ [])
-        (λ x. (text.now ≡ put_at end.now (encode_utf8 x.0) x.1.now) × IsUtf8 x.1.now) }
+fn next_at(end: &End, characters: &mut Chars<'_>) -> Option<char>
+    requires { IsUtf8 (chars_rest characters.old) }
+    ensures { MatchOption result (chars_rest characters.old ≡ [])
+        (λ c. (chars_rest characters.old ≡ put_at end.now (encode_utf8 c) (chars_rest characters.new))
+        × IsUtf8 (chars_rest characters.new)) }
 {
-    if text.is_empty() {
-        return None;
-    }
-    Some(match end {
-        End::Front => {
-            let mut characters = text.chars();
-            (characters.next().unwrap(), characters.as_str())
-        }
+    match end {
+        End::Front => characters.next(),
         End::Back => {
+            let text = characters.as_str();
+            if text.is_empty() {
+                return None;
+            }
             let (start, code) = last_code(text);
-            (char::from_u32(code).unwrap(), &text[..start])
+            *characters = text[..start].chars();
+            Some(char::from_u32(code).unwrap())
         }
-    })
+    }
 }
 
 /// The byte at which the last character of a text that is not empty begins, and its code, read from its last byte on. The
