@@ -25,6 +25,7 @@ pub(crate) fn split_group<'a, J: Judge<char>>(
 {
     let mut characters = text.chars();
     let mut innermost = next_at(end, &mut characters)?;
+    // What is left beyond `innermost`: `characters` has taken off the one that is asked about as well.
     let mut rest = characters.as_str();
     while let Some(beyond) = next_at(end, &mut characters) {
         let (left, right) = match end {
