@@ -29,8 +29,8 @@ pub struct LinearStrGroups<'a, J> {
     judge: J,
 }
 
-// The part of a text between two places, for a call at the end, and the empty text where they do not lie between characters in
-// order.
+// The part of a text between two places, and the empty text where they do not lie between characters in order. The end says only
+// what is asked first.
 #[inline(always)]
 fn part<'a>(end: &End, string: &'a str, low: usize, high: usize) -> &'a str
     ensures value { result.now ≡ text_between string.now low high }
@@ -38,17 +38,17 @@ fn part<'a>(end: &End, string: &'a str, low: usize, high: usize) -> &'a str
 {
     // `get` tests the same, and was slower in groups of a character: an empty part needs no byte of the text here, and `low` is
     // tested where it is known to lie within, so that no length is compared again.
-    if low < high && string.is_char_boundary(high) && begins_character(end, &string[..high], low) {
+    if low < high && string.is_char_boundary(high) && is_boundary(end, &string[..high], low) {
         &string[low..high]
     } else {
         ""
     }
 }
 
-// Whether a character begins at the place. A walk from the back leaves it at 0, where no byte is looked at; from the front that
-// would be one more test at each call.
+// Whether the lower place lies between characters, as `is_char_boundary` says. A walk from the back leaves it at 0, where no byte
+// is looked at; from the front that would be one more test at each call.
 #[inline(always)]
-fn begins_character(end: &End, text: &str, place: usize) -> bool
+fn is_boundary(end: &End, text: &str, place: usize) -> bool
     ensures { IsTrue result ↔ IsCharBoundary text.now place }
 {
     match end {

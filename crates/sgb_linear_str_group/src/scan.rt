@@ -25,7 +25,7 @@ pub(crate) fn split_group<'a, J: Judge<char>>(
 {
     let mut characters = text.chars();
     let mut innermost = next_at(end, &mut characters)?;
-    // What is left beyond `innermost`: `characters` has taken off the one that is asked about as well.
+    // What is left beyond `innermost`. While a question is asked, `characters` has taken off one character more.
     let mut rest = characters.as_str();
     while let Some(beyond) = next_at(end, &mut characters) {
         let (left, right) = match end {
@@ -46,7 +46,7 @@ pub(crate) fn split_group<'a, J: Judge<char>>(
     Some((group, rest))
 }
 
-/// The next character at the end, or `None` where none is left.
+/// Takes off the next character at the end, or gives `None` where none is left.
 #[inline(always)]
 fn next_at(end: &End, characters: &mut Chars<'_>) -> Option<char>
     requires { IsUtf8 (chars_rest characters.old) }

@@ -3,16 +3,16 @@ use Rattle.sgb_search.proofs.Between.{between_places, between_empty}
 use Rattle.sgb_linear_str_group.specs.Texts.{lies_between_characters}
 use Rattle.sgb_linear_str_group.proofs.Places.{boundary_test, boundary_of_text, boundary_of_front}
 use Rattle.sgb_linear_str_group.proofs.groups.part.Goals as goal
-use Rattle.sgb_linear_str_group.proofs.groups.part.Goals.{else-low-high-via-then-low-high+then-is_char_boundary+else-begins_character}
+use Rattle.sgb_linear_str_group.proofs.groups.part.Goals.{else-low-high-via-then-low-high+then-is_char_boundary+else-is_boundary}
 use Rattle.sgb_linear_str_group.proofs.groups.part.Goals.{else-low-high-via-then-low-high+else-is_char_boundary}
 use Rattle.sgb_linear_str_group.proofs.groups.part.Goals.{else-low-high-via-else-low-high}
 
-pub returns-then-begins_character-clause-value : goal.returns-then-begins_character-clause-value
-returns-then-begins_character-clause-value c =
+pub returns-then-is_boundary-clause-value : goal.returns-then-is_boundary-clause-value
+returns-then-is_boundary-clause-value c =
     let text = c.args.string.now in
     let high_is = c.if-is_char_boundary.ensures.test.0 refl in
-    let low_is = boundary_of_text _ _ _ _ (omega arith) high_is.0 c.range.ensures.value (c.if-begins_character.ensures.0 refl) in
-    c.range-then-begins_character.ensures.value
+    let low_is = boundary_of_text _ _ _ _ (omega arith) high_is.0 c.range.ensures.value (c.if-is_boundary.ensures.0 refl) in
+    c.range-then-is_boundary.ensures.value
     ∙ sym (between_places (lies_between_characters text) text _ _
     (record { order = omega arith; low_is = (boundary_test text _).1 low_is; high_is = (boundary_test text _).1 high_is }))
 
@@ -24,9 +24,9 @@ returns-else-low-high-clause-value c =
     let low_is = (boundary_test text _).0 places.low_is in
     let high_is = (boundary_test text _).0 places.high_is in
     elim c.else-low-high.branch [
-      | else-low-high-via-then-low-high+then-is_char_boundary+else-begins_character w ↦
+      | else-low-high-via-then-low-high+then-is_char_boundary+else-is_boundary w ↦
           let front_is = boundary_of_front _ _ _ _ (omega arith) high_is.0 w.range.ensures.value low_is in
-          grind (arith, w.if-begins_character.ensures.1 front_is)
+          grind (arith, w.if-is_boundary.ensures.1 front_is)
       | else-low-high-via-then-low-high+else-is_char_boundary w ↦ grind (arith, w.if-is_char_boundary.ensures.test.1 high_is)
       | else-low-high-via-else-low-high w ↦ omega arith
     ]))
