@@ -171,35 +171,37 @@ module _ {S : Type 0} (may : S → ℕ → Type 0) (gives : S → ℕ → Orderi
     pub most : IsWithin cost (high - low + 1) (place_of r - low + 1) (length questions)
     pub tells : Tells questions cost.may_contradict low high r
 
-  -- the ends between which galloping over len places halves: low was answered Less, and the place before high was not
-  pub record IsBracket (len : ℕ) (s : S) (low high : ℕ) (t : S) : Type 0 where
+  -- the ends between which galloping over the places from start up to stop halves: low was answered Less, and the place before high was not
+  pub record IsBracket (start stop : ℕ) (s : S) (low high : ℕ) (t : S) : Type 0 where
     pub questions : List (ℕ × Ordering)
     pub run : IsRun may gives s questions t
-    pub places : AllByRecursion (λ q. IsBetween 0 len q.0) questions
+    pub places : AllByRecursion (λ q. IsBetween start stop q.0) questions
+    pub after : start ≤ low
     pub order : low ≤ high
-    pub within : high ≤ len
-    pub nonempty : high ≤ low → len ≡ 0
-    pub most : length questions + digits (high - low) ≤ 2 * digits (low + 1) + 1
-    pub low_end : (low ≡ 0) ⊎ Contains questions (low, Less)
-    pub high_end : (high ≡ len) ⊎ ((o : Ordering) × Contains questions (high - 1, o) × (o ≢ Less))
+    pub within : high ≤ stop
+    pub nonempty : high ≤ low → stop ≤ start
+    pub most : length questions + digits (high - low) ≤ 2 * digits (low - start + 1) + 1
+    pub low_end : (low ≡ start) ⊎ Contains questions (low, Less)
+    pub high_end : (high ≡ stop) ⊎ ((o : Ordering) × Contains questions (high - 1, o) × (o ≢ Less))
 
 -- the answer of a judge, as that of a comparator: what is accepted lies before the end of the group
 abbrev pub as_ordering : Bool → Ordering
 as_ordering true = Less
 as_ordering false = Greater
 
--- a judge that is asked about the first element of xs and another: place i is that of the element after the first i + 1
-module _ {J T : Type 0} (may : J → T × T → Type 0) (gives : J → T × T → Bool → J → Type 0) (xs : List T) where
+-- a judge that is asked about the first element of xs and another: the place base is that of the element after the first
+module _ {J T : Type 0} (may : J → T × T → Type 0) (gives : J → T × T → Bool → J → Type 0) (xs : List T) (base : ℕ) where
   -- the question about place i may be asked
   abbrev pub MayAskAt : J → ℕ → Type 0
-  MayAskAt j i = (i + 1 < length xs) × ((x y : T) → slice_get xs 0 ≡ Some x → slice_get xs (i + 1) ≡ Some y → may j (x, y))
+  MayAskAt j i =
+      (i - base + 1 < length xs) × ((x y : T) → slice_get xs 0 ≡ Some x → slice_get xs (i - base + 1) ≡ Some y → may j (x, y))
 
   -- it was asked, and answered so
   pub record AnsweredAt (j : J) (i : ℕ) (o : Ordering) (k : J) : Type 0 where
     pub outermost : T
     pub other : T
     pub outermost_at : slice_get xs 0 ≡ Some outermost
-    pub other_at : slice_get xs (i + 1) ≡ Some other
+    pub other_at : slice_get xs (i - base + 1) ≡ Some other
     pub accepted : Bool
     pub answered : gives j (outermost, other) accepted k
     pub ordering : o ≡ as_ordering accepted

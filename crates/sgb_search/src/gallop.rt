@@ -57,41 +57,48 @@ pub fn halve<A, P: Places<A>>(
     Err(from)
 }
 
-/// Doubles the place while it is below the length and answers `Less`: the ends between which to halve. Its questions and
-/// those of the halving are together at most `2 * digits(low + 1) + 1`.
+/// Doubles the distance from `low` while the place is below `high` and answers `Less`: the ends between which to halve. Its
+/// questions and those of the halving are together at most `2 * digits(from - low + 1) + 1`.
 #[inline]
-fn bracket<A, P: Places<A>>(asker: &mut A, places: &P, len: usize) -> (usize, usize)
-    requires { MayCompareBetween (λ s i. P.may_compare s places.now i)
-        (λ s i o t. P.compares s places.now i o t) 0 len asker.old }
+fn bracket<A, P: Places<A>>(asker: &mut A, places: &P, low: usize, high: usize) -> (usize, usize)
+    requires order { low ≤ high }
+    requires callable { MayCompareBetween (λ s i. P.may_compare s places.now i)
+        (λ s i o t. P.compares s places.now i o t) low high asker.old }
     ensures { IsBracket (λ s i. P.may_compare s places.now i) (λ s i o t. P.compares s places.now i o t)
-        len asker.old result.0 result.1 asker.new }
+        low high asker.old result.0 result.1 asker.new }
 {
-    if len < 2 {
-        return (0, len);
+    if high - low < 2 {
+        return (low, high);
     }
-    let mut low = 0;
-    let mut place = 1;
-    while places.compare(asker, place).is_lt() {
-        low = place;
-        if len - place <= place {
-            return (low, len);
+    let mut from = low;
+    let mut step = 1;
+    while places.compare(asker, low + step).is_lt() {
+        from = low + step;
+        if high - from <= step {
+            return (from, high);
         }
-        place *= 2;
+        step *= 2;
     }
-    (low, place + 1)
+    (from, low + step + 1)
 }
 
-/// Gallops over the `len` places from the first on, and then halves.
+/// Gallops over the places from `low` up to, not including, `high`, from `low` on, and then halves.
 ///
-/// `Ok(i)` is a place that answered `Equal`; `Err(i)` is where the search ended, at most `len`. At most
-/// `2 * digits(i + 1) + 1` questions, each about one of these places, and none if `len` is 0.
+/// `Ok(i)` is a place that answered `Equal`; `Err(i)` is where the search ended, from `low` up to `high`. At most
+/// `2 * digits(i - low + 1) + 1` questions, each about one of these places, and none if there are none.
 #[inline]
-pub fn gallop<A, P: Places<A>>(asker: &mut A, places: &P, len: usize) -> Result<usize, usize>
-    requires { MayCompareBetween (λ s i. P.may_compare s places.now i)
-        (λ s i o t. P.compares s places.now i o t) 0 len asker.old }
+pub fn gallop<A, P: Places<A>>(
+    asker: &mut A,
+    places: &P,
+    low: usize,
+    high: usize,
+) -> Result<usize, usize>
+    requires order { low ≤ high }
+    requires callable { MayCompareBetween (λ s i. P.may_compare s places.now i)
+        (λ s i o t. P.compares s places.now i o t) low high asker.old }
     ensures { IsPlaceSearch (λ s i. P.may_compare s places.now i) (λ s i o t. P.compares s places.now i o t)
-        exponential 0 len asker.old result asker.new }
+        exponential low high asker.old result asker.new }
 {
-    let (low, high) = bracket(asker, places, len);
-    halve(asker, places, low, high)
+    let (from, upto) = bracket(asker, places, low, high);
+    halve(asker, places, from, upto)
 }

@@ -76,7 +76,7 @@ where
     ensures found { (ord : T → Ordering) → Computes F.FnMut slice.now ord f → IsLessEqualGreater ord slice.now
         → FindsIn ord slice.now result }
 {
-    gallop(&mut f, &slice, slice.len())
+    gallop(&mut f, &slice, 0, slice.len())
 }
 
 /// Searches a slice for an element: `Ok` of a place where an equal element stands, or `Err` of a place where it could be
@@ -129,5 +129,5 @@ where
     ensures sorted { (key : T → B) → Computes F.FnMut slice.now key f → NeverDescends B.cmp (map key slice.now)
         → FindsIn (λ x. B.cmp (key x) b.now) slice.now result }
 {
-    gallop(&mut f, &Keyed { slice, key: b }, slice.len())
+    gallop(&mut f, &Keyed { slice, key: b }, 0, slice.len())
 }

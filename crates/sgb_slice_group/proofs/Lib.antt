@@ -1,2 +1,4 @@
 pub mod Cuts
 pub mod CutsMut
+pub mod Guarded
+pub mod Parts

@@ -86,7 +86,12 @@ impl GroupSearch for Binary {
     ghost cost = { binary };
 
     #[inline]
-    fn search<A, P: Places<A>>(asker: &mut A, places: &P, len: usize) -> Result<usize, usize> {
-        halve(asker, places, 0, len)
+    fn search<A, P: Places<A>>(
+        asker: &mut A,
+        places: &P,
+        low: usize,
+        high: usize,
+    ) -> Result<usize, usize> {
+        halve(asker, places, low, high)
     }
 }

@@ -91,7 +91,12 @@ impl GroupSearch for Exponential {
     ghost cost = { exponential };
 
     #[inline]
-    fn search<A, P: Places<A>>(asker: &mut A, places: &P, len: usize) -> Result<usize, usize> {
-        gallop(asker, places, len)
+    fn search<A, P: Places<A>>(
+        asker: &mut A,
+        places: &P,
+        low: usize,
+        high: usize,
+    ) -> Result<usize, usize> {
+        gallop(asker, places, low, high)
     }
 }

@@ -1,5 +1,5 @@
 //! The groups of a slice for reading, over any judge and any way to find where a group ends.
-ghost use Rattle.std.specs.Prelude.{◌≡◌, ℕ, ◌<◌, ◌≤◌, Bool, List, [], length, Option, MatchOption, nat_eq, if◌then◌else◌, IfSome};
+ghost use Rattle.std.specs.Prelude.{◌≡◌, ℕ, ◌+◌, ◌<◌, ◌≤◌, Bool, List, [], length, Option, MatchOption, nat_eq, slice_range, if◌then◌else◌, IfSome};
 ghost use Rattle.std.specs.Fn.{ComputesKey, ComputesOnPairs};
 ghost use Rattle.std.specs.Iterator.{UpTo};
 ghost use Rattle.std.specs.Iterator.SizeHint.{IsWithinCount};
@@ -93,13 +93,20 @@ pub trait GroupEnd {
         → CallAt (asks T J g) e s group t
         → AsksWithin (λ q r n. IsRunOf g.may_ask g.answers n q.judge r.judge) (λ q. due T q.remainder) exact s t };
 
-    /// How many elements the group at the end of the slice has.
-    fn group_len<T, J: Judge<T>>(end: &End, slice: &[T], judge: &mut J) -> usize
-        requires nonempty { 0 < length slice.now }
-        requires callable { MayAskAll J.may_ask J.answers (allowed T slice.now) judge.old }
+    /// How many elements the group has at the end of the part of the slice from the place `low` up to, not including, `high`.
+    fn group_len<T, J: Judge<T>>(
+        end: &End,
+        slice: &[T],
+        low: usize,
+        high: usize,
+        judge: &mut J,
+    ) -> usize
+        requires nonempty { low < high }
+        requires inside { high ≤ length slice.now }
+        requires callable { MayAskAll J.may_ask J.answers (allowed T (slice_range slice.now low high)) judge.old }
         ensures nonempty { 0 < result }
-        ensures within { result ≤ length slice.now }
-        ensures asked { asks T J J.Judge end.now slice.now result judge.old judge.new };
+        ensures within { low + result ≤ high }
+        ensures asked { asks T J J.Judge end.now (slice_range slice.now low high) result judge.old judge.new };
 }
 
 impl<'a, T, J, C> SliceGroups<'a, T, J, C> {
@@ -125,19 +132,22 @@ impl<'a, T, J, C> SliceGroups<'a, T, J, C> {
     pub fn remainder(&self) -> &'a [T]
         ensures { result.now ≡ (shown self.now).remainder }
     {
-        self.rest().unwrap_or(&[])
+        match self.places() {
+            Some((low, high)) => &self.slice[low..high],
+            None => &[],
+        }
     }
 
-    // The remainder where it is not empty, so that a call tests that once.
+    // The places between which the remainder lies, where it is not empty, so that a call tests that once.
     #[inline]
-    fn rest(&self) -> Option<&'a [T]>
+    fn places(&self) -> Option<(usize, usize)>
         ensures { MatchOption result ((shown self.now).remainder ≡ [])
-            (λ rest. rest.now ≡ (shown self.now).remainder × 0 < length rest.now) }
+            (λ p. (p.0 ≡ self.now.low) × (p.1 ≡ self.now.high) × (p.0 < p.1) × (p.1 ≤ length self.now.slice.now)) }
     {
         // That the places lie in order and within the slice is tested here, and not kept of the fields: what is kept of a struct
         // that holds a closure hides from callers what the closure captured.
         if self.low < self.high && self.high <= self.slice.len() {
-            Some(&self.slice[self.low..self.high])
+            Some((self.low, self.high))
         } else {
             None
         }
@@ -314,17 +324,17 @@ impl<'a, T, J: Judge<T> + Drop, C: GroupEnd> SliceGroups<'a, T, J, C> {
         ensures gives { Gives (C.asks T J J.Judge) end.now self.old result self.new }
         ensures callable { IsCallableBy (C.allowed T) J.Judge (shown self.new) }
     {
-        let rest = self.rest()?;
-        let len = C::group_len(end, rest, &mut self.judge);
+        let (low, high) = self.places()?;
+        let slice = self.slice;
+        let len = C::group_len(end, slice, low, high, &mut self.judge);
         match end {
             End::Front => {
-                self.low += len;
-                Some(&rest[..len])
+                self.low = low + len;
+                Some(&slice[low..low + len])
             }
             End::Back => {
-                let start = rest.len() - len;
-                self.high = self.low + start;
-                Some(&rest[start..])
+                self.high = high - len;
+                Some(&slice[high - len..high])
             }
         }
     }

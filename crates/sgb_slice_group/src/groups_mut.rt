@@ -299,7 +299,7 @@ impl<'a, T, J: Judge<T> + Drop, C: GroupEnd> SliceGroupsMut<'a, T, J, C> {
             return None;
         }
         let all = mem::take(&mut self.slice);
-        let len = C::group_len(end, all, &mut self.judge);
+        let len = C::group_len(end, all, 0, all.len(), &mut self.judge);
         let (group, rest) = self.loans.cut(end, all, len);
         self.slice = rest;
         Some(group)

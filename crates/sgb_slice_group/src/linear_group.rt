@@ -1,5 +1,5 @@
 //! Linear groups, found by a scan along the neighbouring pairs.
-ghost use Rattle.std.specs.Prelude.{ℕ, ◌<◌, ◌≤◌, length};
+ghost use Rattle.std.specs.Prelude.{ℕ, ◌+◌, ◌<◌, ◌≤◌, length, slice_range};
 ghost use Rattle.sgb_search.specs.declared.end.End.TheVariants.{Front, Back};
 ghost use Rattle.sgb_search.specs.Judges.{IsRun};
 ghost use Rattle.sgb_search.specs.Linear.{questions, MayAskAlong};
@@ -107,46 +107,57 @@ impl GroupEnd for Linear {
     ghost asks_due = { λ T J. laws.asks };
 
     #[inline]
-    fn group_len<T, J: Judge<T>>(end: &End, slice: &[T], judge: &mut J) -> usize {
+    fn group_len<T, J: Judge<T>>(
+        end: &End,
+        slice: &[T],
+        low: usize,
+        high: usize,
+        judge: &mut J,
+    ) -> usize {
         match end {
-            End::Front => first_len(slice, judge),
-            End::Back => last_len(slice, judge),
+            End::Front => first_len(slice, low, high, judge),
+            End::Back => last_len(slice, low, high, judge),
         }
     }
 }
 
-/// How many elements the first group of the slice has.
+/// How many elements the first group has of the part of the slice from the place `low` up to, not including, `high`.
 #[inline]
-fn first_len<T, J: Judge<T>>(slice: &[T], judge: &mut J) -> usize
-    requires nonempty { 0 < length slice.now }
-    requires callable { MayAskAlong J.Judge slice.now judge.old }
+fn first_len<T, J: Judge<T>>(slice: &[T], low: usize, high: usize, judge: &mut J) -> usize
+    requires nonempty { low < high }
+    requires inside { high ≤ length slice.now }
+    requires callable { MayAskAlong J.Judge (slice_range slice.now low high) judge.old }
     ensures nonempty { 0 < result }
-    ensures within { result ≤ length slice.now }
-    ensures asked { IsRun J.may_ask J.answers judge.old (questions Front slice.now result) judge.new }
+    ensures within { low + result ≤ high }
+    ensures asked { IsRun J.may_ask J.answers judge.old (questions Front (slice_range slice.now low high) result) judge.new }
 {
-    let mut end = 1;
-    while end < slice.len() {
-        let together = judge.ask(&slice[end - 1], &slice[end]);
-        if !together {
-            return end;
-        }
-        end += 1;
-    }
-    end
-}
-
-/// How many elements the last group of the slice has.
-#[inline]
-fn last_len<T, J: Judge<T>>(slice: &[T], judge: &mut J) -> usize
-    requires nonempty { 0 < length slice.now }
-    requires callable { MayAskAlong J.Judge slice.now judge.old }
-    ensures nonempty { 0 < result }
-    ensures within { result ≤ length slice.now }
-    ensures asked { IsRun J.may_ask J.answers judge.old (questions Back slice.now result) judge.new }
-{
+    let size = high - low;
     let mut len = 1;
-    while len < slice.len() {
-        let start = slice.len() - len;
+    while len < size {
+        let next = low + len;
+        let together = judge.ask(&slice[next - 1], &slice[next]);
+        if !together {
+            return len;
+        }
+        len += 1;
+    }
+    len
+}
+
+/// How many elements the last group has of the part of the slice from the place `low` up to, not including, `high`.
+#[inline]
+fn last_len<T, J: Judge<T>>(slice: &[T], low: usize, high: usize, judge: &mut J) -> usize
+    requires nonempty { low < high }
+    requires inside { high ≤ length slice.now }
+    requires callable { MayAskAlong J.Judge (slice_range slice.now low high) judge.old }
+    ensures nonempty { 0 < result }
+    ensures within { low + result ≤ high }
+    ensures asked { IsRun J.may_ask J.answers judge.old (questions Back (slice_range slice.now low high) result) judge.new }
+{
+    let size = high - low;
+    let mut len = 1;
+    while len < size {
+        let start = high - len;
         let together = judge.ask(&slice[start - 1], &slice[start]);
         if !together {
             return len;

@@ -1,7 +1,7 @@
 //! The binary and the exponential way to find a group: a search among the places beside the outermost element, at either end of a
 //! slice.
-ghost use Rattle.std.specs.Prelude.{◌≡◌, ◌<◌, ◌≤◌, Bool, length, reverse};
-ghost use Rattle.sgb_search.specs.Searching.{MayAskApart, SearchCost, SearchRun, MayCompareBetween, IsPlaceSearch, MayAskAt, AnsweredAt, as_ordering};
+ghost use Rattle.std.specs.Prelude.{◌≡◌, ◌+◌, ◌-◌, ◌<◌, ◌≤◌, Bool, length, reverse, slice_range};
+ghost use Rattle.sgb_search.specs.Searching.{MayAskApart, SearchCost, SearchRun, MayCompareBetween, IsBetween, IsPlaceSearch, MayAskAt, AnsweredAt, as_ordering};
 
 use crate::groups::GroupEnd;
 use sgb_search::end::End;
@@ -15,13 +15,19 @@ pub trait GroupSearch {
     // What it may ask.
     ghost cost: { SearchCost };
 
-    /// Searches the places below `len`: `Ok` of one that answered `Equal`, or `Err` of the place where the answers turn from
+    /// Searches the places from `low` up to, not including, `high`: `Ok` of one that answered `Equal`, or `Err` of the place where the answers turn from
     /// `Less` to `Greater`, if those that answer `Less` come first. It asks at most what `cost` says.
-    fn search<A, P: Places<A>>(asker: &mut A, places: &P, len: usize) -> Result<usize, usize>
-        requires { MayCompareBetween (λ s i. P.may_compare s places.now i)
-            (λ s i o t. P.compares s places.now i o t) 0 len asker.old }
+    fn search<A, P: Places<A>>(
+        asker: &mut A,
+        places: &P,
+        low: usize,
+        high: usize,
+    ) -> Result<usize, usize>
+        requires order { low ≤ high }
+        requires callable { MayCompareBetween (λ s i. P.may_compare s places.now i)
+            (λ s i o t. P.compares s places.now i o t) low high asker.old }
         ensures { IsPlaceSearch (λ s i. P.may_compare s places.now i) (λ s i o t. P.compares s places.now i o t)
-            cost 0 len asker.old result asker.new };
+            cost low high asker.old result asker.new };
 }
 
 /// Asks about the outermost element and others, by the search `S`.
@@ -57,49 +63,61 @@ impl<S: GroupSearch> GroupEnd for Search<S> {
     ghost asks_due = { λ T J g. laws.asks g S.cost };
 
     #[inline]
-    fn group_len<T, J: Judge<T>>(end: &End, slice: &[T], judge: &mut J) -> usize {
-        let others = slice.len() - 1;
-        let found = match end {
-            End::Front => S::search(judge, &FromFront { slice }, others),
-            End::Back => S::search(judge, &FromBack { slice }, others),
-        };
-        match found {
-            Ok(place) | Err(place) => place + 1,
+    fn group_len<T, J: Judge<T>>(
+        end: &End,
+        slice: &[T],
+        low: usize,
+        high: usize,
+        judge: &mut J,
+    ) -> usize {
+        match end {
+            End::Front => match S::search(judge, &FromFront { slice, low, high }, low + 1, high) {
+                Ok(place) | Err(place) => place - low,
+            },
+            End::Back => match S::search(judge, &FromBack { slice, low, high }, 0, high - low - 1) {
+                Ok(place) | Err(place) => place + 1,
+            },
         }
     }
 }
 
-// The elements, read from the front: place i is that of the element i + 1 after the first.
+// The elements from the place `low` up to `high`, read from the front: their places in the slice.
 #[derive(Drop)]
 struct FromFront<'a, T> {
     slice: &'a [T],
+    low: usize,
+    high: usize,
 }
 
 impl<'a, T, J: Judge<T>> Places<J> for FromFront<'a, T> {
-    ghost may_compare = { λ j c i. MayAskAt J.may_ask J.answers c.slice.now j i };
+    ghost may_compare = { λ j c i. IsBetween (c.low + 1) c.high i
+        × ((c.high ≤ length c.slice.now) × MayAskAt J.may_ask J.answers (slice_range c.slice.now c.low c.high) (c.low + 1) j i) };
 
-    ghost compares = { λ j c i o k. AnsweredAt J.may_ask J.answers c.slice.now j i o k };
+    ghost compares = { λ j c i o k. AnsweredAt J.may_ask J.answers (slice_range c.slice.now c.low c.high) (c.low + 1) j i o k };
 
     #[inline]
     fn compare(&self, judge: &mut J, place: usize) -> Ordering {
-        before_end(judge.ask(&self.slice[0], &self.slice[1 + place]))
+        before_end(judge.ask(&self.slice[self.low], &self.slice[place]))
     }
 }
 
-// The elements, read from the back: place i is that of the element i + 1 before the last.
+// The elements from the place `low` up to `high`, read from the back: place i is that of the element i + 1 before the last.
 #[derive(Drop)]
 struct FromBack<'a, T> {
     slice: &'a [T],
+    low: usize,
+    high: usize,
 }
 
 impl<'a, T, J: Judge<T>> Places<J> for FromBack<'a, T> {
-    ghost may_compare = { λ j c i. MayAskAt J.may_ask J.answers (reverse c.slice.now) j i };
+    ghost may_compare = { λ j c i. IsBetween 0 (c.high - c.low - 1) i
+        × ((c.high ≤ length c.slice.now) × MayAskAt J.may_ask J.answers (reverse (slice_range c.slice.now c.low c.high)) 0 j i) };
 
-    ghost compares = { λ j c i o k. AnsweredAt J.may_ask J.answers (reverse c.slice.now) j i o k };
+    ghost compares = { λ j c i o k. AnsweredAt J.may_ask J.answers (reverse (slice_range c.slice.now c.low c.high)) 0 j i o k };
 
     #[inline]
     fn compare(&self, judge: &mut J, place: usize) -> Ordering {
-        let last = self.slice.len() - 1;
+        let last = self.high - 1;
         before_end(judge.ask(&self.slice[last], &self.slice[last - 1 - place]))
     }
 }

@@ -1,13 +1,13 @@
-use Rattle.std.proofs.Common.{◌-◌, ◌<◌}
+use Rattle.std.proofs.Common.{◌+◌, ◌-◌, ◌<◌}
 use Rattle.sgb_search.proofs.Galloping.{Doubles}
 use Rattle.sgb_search.proofs.gallop.bracket.Given as goal
 
-abbrev pub invariant-loop-low : goal.invariant-loop-low
-invariant-loop-low g l = record {
-  below : l.place < l.len;
+abbrev pub invariant-loop-from : goal.invariant-loop-from
+invariant-loop-from g l = record {
+  below : l.low + l.step < l.high;
   doubles : Doubles (λ s i. g.P.Places.may_compare s l.places i) (λ s i o t. g.P.Places.compares s l.places i o t)
-      l.len l.fn.asker l.low l.place l.asker;
+      l.low l.high l.fn.asker l.from (l.low + l.step) l.asker;
 }
 
-abbrev pub decreases-loop-low : goal.decreases-loop-low
-decreases-loop-low g l = l.len - l.place
+abbrev pub decreases-loop-from : goal.decreases-loop-from
+decreases-loop-from g l = l.high - l.step

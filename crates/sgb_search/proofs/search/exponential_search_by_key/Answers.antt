@@ -4,8 +4,8 @@ use Rattle.sgb_search.proofs.Readings.{may_places, search_run, search_boundary, 
 use Rattle.sgb_search.proofs.Ascending.{ascends}
 use Rattle.sgb_search.proofs.search.exponential_search_by_key.Goals as goal
 
-pub gallop-requires : goal.gallop-requires
-gallop-requires g c =
+pub gallop-requires-clause-callable : goal.gallop-requires-clause-callable
+gallop-requires-clause-callable g c =
     may_places (TakesAt g.F.FnMut) (ComparesKey g.F.FnMut g.B.Ord.cmp c.args.b.now) c.args.slice.now c.args.f
     (key_may g.F.FnMut g.B.Ord.cmp c.args.b.now c.args.slice.now c.args.f c.requires)
 

@@ -1,32 +1,23 @@
-use Rattle.std.proofs.Common.{Some, ◌≡◌, ◌-◌, length, take, drop, length-drop, take_all, arith}
-use Rattle.sgb_search.proofs.Between.{ends_at}
-use Rattle.sgb_slice_group.specs.Gives.{lies_within}
-use Rattle.sgb_slice_group.proofs.Cuts.{place_within, front_cut, back_cut}
+use Rattle.std.proofs.Common.{Some, List, subst, arith}
+use Rattle.sgb_search.specs.Judges.{MayAskAll}
+use Rattle.sgb_slice_group.proofs.Cuts.{part_is, front_cut, back_cut}
 use Rattle.sgb_slice_group.proofs.groups.SliceGroups.take.Goals as goal
 
-pub overflow_add-self : goal.overflow_add-self
-overflow_add-self g c =
+pub group_len-len-requires-clause-callable : goal.group_len-len-requires-clause-callable
+group_len-len-requires-clause-callable g c =
     let s = c.args.self.now in
-    let e = c.group_len-len.ensures in
-    let xs = s.slice.now in
-    let more = c.in_ok-rest.ensures.1 in
-    omega (arith, e.within, ends_at (lies_within xs) xs (place_within xs) s.low s.high _ c.in_ok-rest.ensures.0 more)
-
-pub overflow_add-self-in-Back : goal.overflow_add-self-in-Back
-overflow_add-self-in-Back g c =
-    let s = c.args.self.now in
-    let e = c.group_len-len.ensures in
-    let xs = s.slice.now in
-    let more = c.in_ok-rest.ensures.1 in
-    omega (arith, ends_at (lies_within xs) xs (place_within xs) s.low s.high _ c.in_ok-rest.ensures.0 more)
+    let p = c.in_ok-low.ensures in
+    rw (p.0, p.1)
+    (subst (λ (ys : List g.row.T.Denot). MayAskAll g.J.Judge.may_ask g.J.Judge.answers (g.C.GroupEnd.allowed _ ys) s.judge)
+    (part_is s.slice.now s.low s.high (omega (arith, p)) (omega (arith, p))) c.requires)
 
 pub returns-in-Front-clause-gives : goal.returns-in-Front-clause-gives
 returns-in-Front-clause-gives g c =
     let s = c.args.self.now in
+    let p = c.in_ok-low.ensures in
     let e = c.group_len-len.ensures in
-    let more = c.in_ok-rest.ensures.1 in
-    rw c.in-Front.is (front_cut (g.C.GroupEnd.asks _ _ g.J.Judge) s.slice.now s.low s.high _ _ _
-    c.in_ok-rest.ensures.0 _ e.within more e.nonempty (rw c.in-Front.is at e.asked))
+    rw (c.in-Front.is, p.0) (front_cut (g.C.GroupEnd.asks _ _ g.J.Judge) s.slice.now s.low s.high _ _ (omega (arith, p)) _
+    e.nonempty (omega (arith, p, e.within)) (rw (c.in-Front.is, p.0, p.1) at e.asked))
 
 pub returns-in-Front-clause-callable : goal.returns-in-Front-clause-callable
 returns-in-Front-clause-callable g c = g.C.GroupEnd.keeps _ _ g.J.Judge _ _ (Some _) _ (returns-in-Front-clause-gives g c) c.requires
@@ -34,13 +25,10 @@ returns-in-Front-clause-callable g c = g.C.GroupEnd.keeps _ _ g.J.Judge _ _ (Som
 pub returns-in-Back-clause-gives : goal.returns-in-Back-clause-gives
 returns-in-Back-clause-gives g c =
     let s = c.args.self.now in
+    let p = c.in_ok-low.ensures in
     let e = c.group_len-len.ensures in
-    let rest = c.in_ok-rest.rest.now in
-    let more = c.in_ok-rest.ensures.1 in
-    let start = length rest - c.group_len-len.result in
-    let all : take (length rest - start) (drop start rest) ≡ drop start rest = take_all _ _ (omega (arith, length-drop start rest)) in
-    rw (c.in-Back.is, all) (back_cut (g.C.GroupEnd.asks _ _ g.J.Judge) s.slice.now s.low s.high _ _ _
-    c.in_ok-rest.ensures.0 _ (omega (arith, e.within)) more _ (omega (arith, e.within)) e.nonempty (rw c.in-Back.is at e.asked))
+    rw (c.in-Back.is, p.1) (back_cut (g.C.GroupEnd.asks _ _ g.J.Judge) s.slice.now s.low s.high _ _ (omega (arith, p)) _
+    e.nonempty (omega (arith, p, e.within)) (rw (c.in-Back.is, p.0, p.1) at e.asked))
 
 pub returns-in-Back-clause-callable : goal.returns-in-Back-clause-callable
 returns-in-Back-clause-callable g c = g.C.GroupEnd.keeps _ _ g.J.Judge _ _ (Some _) _ (returns-in-Back-clause-gives g c) c.requires

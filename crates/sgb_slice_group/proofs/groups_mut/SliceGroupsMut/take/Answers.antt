@@ -1,13 +1,15 @@
-use Rattle.std.proofs.Common.{List, Some, ap, arith}
+use Rattle.std.proofs.Common.{List, Some, ap, refl, arith}
 use Rattle.std.proofs.lemmas.Grind.{common_steps}
 use Rattle.std.specs.Borrow.{MutBor}
 use Rattle.sgb_slice_group.proofs.CutsMut.{callable_taken}
+use Rattle.sgb_slice_group.proofs.Parts.{range_all}
 use Rattle.sgb_slice_group.proofs.groups_mut.SliceGroupsMut.take.Goals as goal
 
 pub group_len-len-requires-clause-callable : goal.group_len-len-requires-clause-callable
 group_len-len-requires-clause-callable g c =
-    callable_taken g.J.Judge (g.C.GroupEnd.allowed _) _ _ _ (ap (λ (b : MutBor (List g.row.T.Denot)). b.now) c.take-all.ensures.value)
-    c.self.view_is c.requires
+    rw (range_all c.take-all.result.now _ refl)
+    (callable_taken g.J.Judge (g.C.GroupEnd.allowed _) _ _ _ (ap (λ (b : MutBor (List g.row.T.Denot)). b.now) c.take-all.ensures.value)
+    c.self.view_is c.requires)
 
 pub returns-clause-gives : goal.returns-clause-gives
 returns-clause-gives g c = grind (arith, common_steps)
