@@ -7,7 +7,7 @@ use Rattle.std.specs.declared.cmp.Ordering.{Ordering}
 use Rattle.std.specs.declared.cmp.Ordering.TheVariants.{Equal}
 use Rattle.sgb_search.specs.declared.judge.Judge.{Ghosts}
 use Rattle.sgb_search.specs.Judges.{IsRun, MayAskAll}
-use Rattle.sgb_search.specs.Searching.{SearchCost, IsWithin, IsOutward, IsAskedAt, ContradictsAt, IsInner, IsBeyond, EndsBy, SearchRun, MayCompareBetween, IsLowEnd, IsHighEnd, Contradicts, Tells, TellsBoundary, place_of, IsPlaceSearch, MayAskAt, AnsweredAt, as_ordering}
+use Rattle.sgb_search.specs.Searching.{SearchCost, IsWithin, IsOutward, IsAskedAt, ContradictsAt, IsInner, IsBeyond, EndsBy, SearchRun, MayCompareBetween, IsLowEnd, IsHighEnd, Contradicts, Tells, TellsBoundary, place_of, IsPlaceSearch, as_ordering}
 use Rattle.sgb_search.proofs.Each.{all_contains, all_each}
 
 contains_head : {X : Type 0} (x : X) (xs : List X) → Contains (x ∷ xs) x
@@ -26,12 +26,23 @@ never_equal_ordering : (b : Bool) → Equal ≡ as_ordering b → ⊥
 never_equal_ordering true e = cc
 never_equal_ordering false e = cc
 
+-- a search among the places of xs after its first, where base is the place of the element after the first
 module _ {J T : Type 0} (judge : Ghosts J T) (xs : List T) (base : ℕ) where
-  abbrev may_at : J → ℕ → Type 0
-  may_at = MayAskAt judge.may_ask judge.answers xs base
+  -- the judge may be asked about the first element and the one at the place
+  abbrev pub may_at : J → ℕ → Type 0
+  may_at j i =
+      (i - base + 1 < length xs)
+      × ((x y : T) → slice_get xs 0 ≡ Some x → slice_get xs (i - base + 1) ≡ Some y → judge.may_ask j (x, y))
 
-  abbrev answered_at : J → ℕ → Ordering → J → Type 0
-  answered_at = AnsweredAt judge.may_ask judge.answers xs base
+  -- it was asked about them, and answered so
+  pub record answered_at (j : J) (i : ℕ) (o : Ordering) (k : J) : Type 0 where
+    pub outermost : T
+    pub other : T
+    pub outermost_at : slice_get xs 0 ≡ Some outermost
+    pub other_at : slice_get xs (i - base + 1) ≡ Some other
+    pub accepted : Bool
+    pub answered : judge.answers j (outermost, other) accepted k
+    pub ordering : o ≡ as_ordering accepted
 
   -- the record q of a question is that of the record r of a place
   record IsLikeOne (r : ℕ × Ordering) (q : (T × T) × Bool) : Type 0 where

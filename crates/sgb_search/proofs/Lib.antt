@@ -17,6 +17,7 @@ pub mod Halving
 pub mod Galloping
 pub mod Apart
 pub mod GroupSearches
+pub mod PlaceRuns
 pub mod Grouped
 pub mod SearchQueue
 pub mod Counting

@@ -189,19 +189,19 @@ abbrev pub as_ordering : Bool → Ordering
 as_ordering true = Less
 as_ordering false = Greater
 
--- a judge that is asked about the first element of xs and another: the place base is that of the element after the first
-module _ {J T : Type 0} (may : J → T × T → Type 0) (gives : J → T × T → Bool → J → Type 0) (xs : List T) (base : ℕ) where
-  -- the question about place i may be asked
+-- a judge that is asked about the elements at two places of xs: the place o of the outermost first, and then the place i
+module _ {J T : Type 0} (may : J → T × T → Type 0) (gives : J → T × T → Bool → J → Type 0) (xs : List T) (o : ℕ) where
+  -- the two are places of xs, and the question about them may be asked
   abbrev pub MayAskAt : J → ℕ → Type 0
   MayAskAt j i =
-      (i - base + 1 < length xs) × ((x y : T) → slice_get xs 0 ≡ Some x → slice_get xs (i - base + 1) ≡ Some y → may j (x, y))
+      (o < length xs) × (i < length xs) × ((x y : T) → slice_get xs o ≡ Some x → slice_get xs i ≡ Some y → may j (x, y))
 
   -- it was asked, and answered so
-  pub record AnsweredAt (j : J) (i : ℕ) (o : Ordering) (k : J) : Type 0 where
+  pub record AnsweredAt (j : J) (i : ℕ) (order : Ordering) (k : J) : Type 0 where
     pub outermost : T
     pub other : T
-    pub outermost_at : slice_get xs 0 ≡ Some outermost
-    pub other_at : slice_get xs (i - base + 1) ≡ Some other
+    pub outermost_at : slice_get xs o ≡ Some outermost
+    pub other_at : slice_get xs i ≡ Some other
     pub accepted : Bool
     pub answered : gives j (outermost, other) accepted k
-    pub ordering : o ≡ as_ordering accepted
+    pub ordering : order ≡ as_ordering accepted

@@ -1,4 +1,4 @@
 pub mod Cuts
 pub mod CutsMut
-pub mod Guarded
+pub mod Outward
 pub mod Parts

@@ -1,7 +1,7 @@
 //! The binary and the exponential way to find a group: a search among the places beside the outermost element, at either end of a
 //! slice.
-ghost use Rattle.std.specs.Prelude.{◌≡◌, ◌+◌, ◌-◌, ◌<◌, ◌≤◌, Bool, length, reverse, slice_range};
-ghost use Rattle.sgb_search.specs.Searching.{MayAskApart, SearchCost, SearchRun, MayCompareBetween, IsBetween, IsPlaceSearch, MayAskAt, AnsweredAt, as_ordering};
+ghost use Rattle.std.specs.Prelude.{◌≡◌, ◌+◌, ◌-◌, ◌<◌, ◌≤◌, Bool, length};
+ghost use Rattle.sgb_search.specs.Searching.{MayAskApart, SearchCost, SearchRun, MayCompareBetween, IsPlaceSearch, MayAskAt, AnsweredAt, as_ordering};
 
 use crate::groups::GroupEnd;
 use sgb_search::end::End;
@@ -15,8 +15,9 @@ pub trait GroupSearch {
     // What it may ask.
     ghost cost: { SearchCost };
 
-    /// Searches the places from `low` up to, not including, `high`: `Ok` of one that answered `Equal`, or `Err` of the place where the answers turn from
-    /// `Less` to `Greater`, if those that answer `Less` come first. It asks at most what `cost` says.
+    /// Searches the places from `low` up to, not including, `high`: `Ok` of one that answered `Equal`, or `Err` of the place
+    /// where the answers turn from `Less` to `Greater`, if those that answer `Less` come first. It asks at most what `cost`
+    /// says.
     fn search<A, P: Places<A>>(
         asker: &mut A,
         places: &P,
@@ -71,29 +72,27 @@ impl<S: GroupSearch> GroupEnd for Search<S> {
         judge: &mut J,
     ) -> usize {
         match end {
-            End::Front => match S::search(judge, &FromFront { slice, low, high }, low + 1, high) {
+            End::Front => match S::search(judge, &FromFront { slice, low }, low + 1, high) {
                 Ok(place) | Err(place) => place - low,
             },
-            End::Back => match S::search(judge, &FromBack { slice, low, high }, 0, high - low - 1) {
+            End::Back => match S::search(judge, &FromBack { slice, high }, 0, high - low - 1) {
                 Ok(place) | Err(place) => place + 1,
             },
         }
     }
 }
 
-// The elements from the place `low` up to `high`, read from the front: their places in the slice.
+// The elements of the slice from the place `low` on: their places there, each asked about with the element at `low`.
 #[derive(Drop)]
 struct FromFront<'a, T> {
     slice: &'a [T],
     low: usize,
-    high: usize,
 }
 
 impl<'a, T, J: Judge<T>> Places<J> for FromFront<'a, T> {
-    ghost may_compare = { λ j c i. IsBetween (c.low + 1) c.high i
-        × ((c.high ≤ length c.slice.now) × MayAskAt J.may_ask J.answers (slice_range c.slice.now c.low c.high) (c.low + 1) j i) };
+    ghost may_compare = { λ j c i. MayAskAt J.may_ask J.answers c.slice.now c.low j i };
 
-    ghost compares = { λ j c i o k. AnsweredAt J.may_ask J.answers (slice_range c.slice.now c.low c.high) (c.low + 1) j i o k };
+    ghost compares = { λ j c i o k. AnsweredAt J.may_ask J.answers c.slice.now c.low j i o k };
 
     #[inline]
     fn compare(&self, judge: &mut J, place: usize) -> Ordering {
@@ -101,19 +100,19 @@ impl<'a, T, J: Judge<T>> Places<J> for FromFront<'a, T> {
     }
 }
 
-// The elements from the place `low` up to `high`, read from the back: place i is that of the element i + 1 before the last.
+// The elements of the slice before the place `high`, read from the back: place 0 is that of the last but one, and each is asked about
+// with the last.
 #[derive(Drop)]
 struct FromBack<'a, T> {
     slice: &'a [T],
-    low: usize,
     high: usize,
 }
 
 impl<'a, T, J: Judge<T>> Places<J> for FromBack<'a, T> {
-    ghost may_compare = { λ j c i. IsBetween 0 (c.high - c.low - 1) i
-        × ((c.high ≤ length c.slice.now) × MayAskAt J.may_ask J.answers (reverse (slice_range c.slice.now c.low c.high)) 0 j i) };
+    ghost may_compare = { λ j c i. (i + 1 < c.high)
+        × MayAskAt J.may_ask J.answers c.slice.now (c.high - 1) j (c.high - 1 - 1 - i) };
 
-    ghost compares = { λ j c i o k. AnsweredAt J.may_ask J.answers (reverse (slice_range c.slice.now c.low c.high)) 0 j i o k };
+    ghost compares = { λ j c i o k. AnsweredAt J.may_ask J.answers c.slice.now (c.high - 1) j (c.high - 1 - 1 - i) o k };
 
     #[inline]
     fn compare(&self, judge: &mut J, place: usize) -> Ordering {
