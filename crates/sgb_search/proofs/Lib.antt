@@ -19,6 +19,7 @@ pub mod Apart
 pub mod GroupSearches
 pub mod PlaceRuns
 pub mod Grouped
+pub mod FirstPiece
 pub mod SearchQueue
 pub mod Counting
 pub mod Readings

@@ -14,6 +14,7 @@ use Rattle.sgb_search.specs.Judges.{IsRun, MayAskAll, AnswersBy}
 use Rattle.sgb_search.specs.Searching.{exponential, Contradicts, Tells, place_of, MayCompareBetween, IsPlaceSearch, IsLowEnd, IsHighEnd}
 use Rattle.sgb_search.specs.Search.{AnswersAt, IsLocalAnswer, FindsIn, IsLessEqualGreater, MayCall, Computes, ComparesKey, WasAnswered, WasContradicted, ShowsAnswer, IsSearch}
 use Rattle.sgb_search.proofs.Each.{all_contains}
+use Rattle.sgb_search.proofs.Runs.{may_after, answers_after}
 use Rattle.sgb_search.proofs.Counting.{less_count}
 use Rattle.sgb_search.proofs.Digits.{digits_mono}
 
@@ -166,12 +167,11 @@ module _ {F T : Type 0} (may : F → T → Type 0) (gives : F → T → Ordering
   answers ord f h rs t run = let q = read_run f rs t run in read_answer xs ord rs q.0 q.1 (h.at q.0 t q.2 (read_elements xs rs q.0 q.1))
 
   pub search_run : (f : F) (r : Result ℕ ℕ) (t : F) → IsPlaceSearch may_at called_at exponential 0 (length xs) f r t
-      → IsSearch may gives xs f r
+      → IsSearch may gives xs f r t
   search_run f r t h =
       let q = read_run f h.questions t h.run in
       record {
         questions = q.0;
-        after = t;
         run = q.2;
         elements = read_elements xs h.questions q.0 q.1;
         most = omega (arith, h.most.call, read_len xs h.questions q.0 q.1, digits_mono (place_of r - 0 + 1) (place_of r + 1) (omega arith));
@@ -231,6 +231,16 @@ module _ {F T : Type 0} (may : F → T → Type 0) (gives : F → T → Ordering
           all_contains _ h.questions (i, Equal) all here
       told (Err i) (a, b, ends) = (low i ends.low_end, high i ends.high_end)
 
+  -- what may be asked before a search may be asked after it, and is answered the same
+  pub may_go_on : (f : F) (r : Result ℕ ℕ) (t : F) → IsSearch may gives xs f r t → MayAskAll may gives (Contains xs) f
+      → MayAskAll may gives (Contains xs) t
+  may_go_on f r t h = may_after may gives (Contains xs) (Contains xs) (λ x at. at) f h.questions t h.run h.elements
+
+  pub answers_go_on : {answer : T → Ordering} (f : F) (r : Result ℕ ℕ) (t : F) → IsSearch may gives xs f r t
+      → AnswersBy may gives (Contains xs) answer f → AnswersBy may gives (Contains xs) answer t
+  answers_go_on {answer} f r t h =
+      answers_after may gives (Contains xs) (Contains xs) (λ x at. at) answer f h.questions t h.run h.elements
+
 -- a key function's run, seen as one of comparisons
 module _ {F T K : Type 0} (g : Mut F (Bor T × Unit {0}) K) (cmp : K → K → Ordering) (b : K) (xs : List T) where
   key_run : (f : F) (qs : List (T × Ordering)) (t : F) → IsRun (TakesAt g) (ComparesKey g cmp b) f qs t → AllByRecursion
@@ -249,3 +259,14 @@ module _ {F T K : Type 0} (g : Mut F (Bor T × Unit {0}) K) (cmp : K → K → O
   pub key_answers : (f : F) (key : T → K) → Computes g xs key f → AnswersBy (TakesAt g) (ComparesKey g cmp b) (Contains xs)
       (λ x. cmp (key x) b) f
   key_answers f key h = record { at = λ qs t run all. let k = key_run f qs t run all in k.3 key (h.at k.0 t k.1 k.2) }
+
+  pub key_may_go_on : (f : F) (r : Result ℕ ℕ) (t : F) → IsSearch (TakesAt g) (ComparesKey g cmp b) xs f r t → MayCall g xs f → MayCall g xs t
+  key_may_go_on f r t h =
+      let k = key_run f h.questions t h.run h.elements in
+      may_after (TakesAt g) (CalledAt g) (Contains xs) (Contains xs) (λ x at. at) f k.0 t k.1 k.2
+
+  pub key_computes_go_on : (key : T → K) (f : F) (r : Result ℕ ℕ) (t : F) → IsSearch (TakesAt g) (ComparesKey g cmp b) xs f r t
+      → Computes g xs key f → Computes g xs key t
+  key_computes_go_on key f r t h =
+      let k = key_run f h.questions t h.run h.elements in
+      answers_after (TakesAt g) (CalledAt g) (Contains xs) (Contains xs) (λ x at. at) key f k.0 t k.1 k.2

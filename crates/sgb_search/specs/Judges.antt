@@ -4,6 +4,7 @@ use Rattle.std.specs.Prelude.{◌≡◌, ℕ, ◌+◌, ◌≤◌, Bool, true, Li
 use Rattle.std.specs.List.{AllByRecursion}
 use Rattle.std.specs.Borrow.{Bor}
 use Rattle.std.specs.Fn.{Takes, TakesAt, TakesAtTwo, Called, CalledAt, CalledAtTwo, AlwaysReturns, Mut}
+use Rattle.sgb_search.specs.Split.{on_pairs}
 use Rattle.sgb_search.specs.declared.judge.Judge.{Ghosts}
 use Rattle.sgb_search.specs.declared.judge.PredicateJudge.{PredicateJudge}
 use Rattle.sgb_search.specs.declared.judge.KeyJudge.{KeyJudge}
@@ -53,6 +54,11 @@ predicate_judge predicate = record { predicate = predicate }
 -- in every state that its answers can lead to, the predicate may be called on each allowed pair
 abbrev pub MayCallOnPairs : {P T : Type 0} → Mut P (Bor T × (Bor T × Unit {0})) Bool → (T × T → Type 0) → P → Type 0
 MayCallOnPairs g allowed f = MayAskAll (λ p q. TakesAtTwo g p q.0 q.1) (λ p q b p'. CalledAtTwo g p q.0 q.1 b p') allowed f
+
+-- and there it answers what p says
+abbrev pub AnswersOnPairs : {P T : Type 0} → Mut P (Bor T × (Bor T × Unit {0})) Bool → (T × T → Type 0) → (T → T → Bool) → P → Type 0
+AnswersOnPairs g allowed p f =
+    AnswersBy (λ s q. TakesAtTwo g s q.0 q.1) (λ s q b t. CalledAtTwo g s q.0 q.1 b t) allowed (on_pairs p) f
 
 -- takes f x: the key function may be called at x; calls f x k f': that call may give k, and leaves f'
 module _ {F T K : Type 0} (takes : F → T → Type 0) (calls : F → T → K → F → Type 0) where

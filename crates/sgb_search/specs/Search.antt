@@ -1,7 +1,7 @@
 -- What a search of a slice by a comparator gives, as the documentation of Rust's `binary_search_by` says of its own.
 --     IsLocalAnswer ord xs r     on any list, where ord x is what the comparator answers of x
 --     FindsIn ord xs r           on a list whose answers are Less, then Equal, then Greater
---     IsSearch may gives xs f r  the questions, whatever is answered
+--     IsSearch may gives xs f r t  the questions, whatever is answered
 use Rattle.std.specs.Prelude.{◌≡◌, ℕ, ◌+◌, ◌-◌, ◌*◌, ◌<◌, ◌≤◌, List, [], ◌∷◌, ◌++◌, length, ◌⊎◌, ◌≢◌, Result, Ok, Err, Some, count_by}
 use Rattle.std.specs.List.{AllByRecursion, Contains, slice_get}
 use Rattle.std.specs.List.Sorted.{IsNonDecreasingBy, IsPartitionPoint}
@@ -68,12 +68,11 @@ module _ {T : Type 0} (xs : List T) (qs : List (T × Ordering)) where
 
 -- may f x: f may be asked about x; gives f x o h: the answer may be o, and then the state is h
 module _ {F T : Type 0} (may : F → T → Type 0) (gives : F → T → Ordering → F → Type 0) (xs : List T) where
-  -- a search that begins with f and gives r: its questions, in order, each about an element, their number, the state that they lead to,
-  -- and what they show of r
-  pub record IsSearch (f : F) (r : Result ℕ ℕ) : Type 0 where
+  -- a search that leads from the state f to t and gives r: its questions, in order, each about an element, their number, and what they
+  -- show of r
+  pub record IsSearch (f : F) (r : Result ℕ ℕ) (t : F) : Type 0 where
     pub questions : List (T × Ordering)
-    pub after : F
-    pub run : IsRun may gives f questions after
+    pub run : IsRun may gives f questions t
     pub elements : AllByRecursion (λ q. Contains xs q.0) questions
     pub most : length questions ≤ 2 * digits (place_of r + 1) + 1
     pub none : length xs ≡ 0 → questions ≡ []

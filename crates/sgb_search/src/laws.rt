@@ -1,16 +1,16 @@
 //! Laws of the definitions. Each is a function that does nothing: its contract is the law, and a caller cites it.
-ghost use Rattle.std.specs.Prelude.{◌≡◌, ℕ, ◌+◌, ◌-◌, ◌^◌, ◌<◌, ◌≤◌, ◌++◌, Bool, List, length, map, take, drop};
-ghost use Rattle.std.specs.Fn.{ComputesKey, TakesAt, TakesAtTwo};
-ghost use Rattle.std.specs.List.{AllByRecursion, Contains};
+ghost use Rattle.std.specs.Prelude.{◌≡◌, ℕ, ◌+◌, ◌-◌, ◌^◌, ◌<◌, ◌≤◌, ◌++◌, Bool, List, Some, length, map, take, drop, nat_lt};
+ghost use Rattle.std.specs.Fn.{ComputesKey, TakesAt, TakesAtTwo, Called, CalledAtTwo};
+ghost use Rattle.std.specs.List.{AllByRecursion, Contains, slice_get};
 ghost use Rattle.std.specs.Ordering.{flip_args};
 ghost use Rattle.std.specs.declared.cmp.Ordering.{Ordering};
 ghost use Rattle.std.specs.declared.cmp.Ordering.TheVariants.{Less, Greater};
 ghost use Rattle.sgb_search.specs.declared.end.End.{End};
 ghost use Rattle.sgb_search.specs.Searching.{digits, MayAskApart, AnswersApart};
-ghost use Rattle.sgb_search.specs.Split.{AreApart, neighbours, AreNeighbours, IsGrouped, IsSplit, concat, split, refused_pairs};
-ghost use Rattle.sgb_search.specs.Search.{MayCall, Computes, IsGap, NeverDescends};
+ghost use Rattle.sgb_search.specs.Split.{AreApart, neighbours, AreNeighbours, IsGrouped, IsSplit, concat, first, split, refused_pairs};
+ghost use Rattle.sgb_search.specs.Search.{MayCall, Computes, IsGap, IsLessEqualGreater, NeverDescends};
 ghost use Rattle.sgb_search.specs.Linear.{questions, MayAskAlong, AnswersAlong};
-ghost use Rattle.sgb_search.specs.Judges.{IsRunOf, by_predicate, predicate_judge, MayCallOnPairs, by_key, key_judge, by_char_predicate, char_predicate_judge, by_char_key, char_key_judge, by_equality};
+ghost use Rattle.sgb_search.specs.Judges.{IsRunOf, by_predicate, predicate_judge, MayCallOnPairs, AnswersOnPairs, CalledAtChar, by_key, key_judge, by_char_predicate, char_predicate_judge, by_char_key, char_key_judge, by_equality};
 ghost use Rattle.sgb_search.specs.declared.judge.EqualityJudge.{EqualityJudge};
 
 /// Each list has exactly one split for a test, whose pieces joined are the list. It has one piece more than the test refuses
@@ -103,6 +103,40 @@ pub fn callable_on_pairs<T, P: FnMut(&T, &T) -> bool>()
         → (predicate : P) → MayCallOnPairs P.FnMut (AreApart xs) predicate }
 {}
 
+/// A predicate that computes a test on each neighbouring pair of a slice, the left element first, or on every two different
+/// places, in both orders, whatever it answers elsewhere: the judge by predicate answers the test there. So does one whose every
+/// call on such a pair answers it, in each of its states.
+pub fn computes_on_pairs<T, P: FnMut(&T, &T) -> bool>()
+    ensures along { (xs : List T) (p : T → T → Bool) (predicate : P)
+        → AnswersOnPairs P.FnMut (AreNeighbours xs) p predicate
+        → AnswersAlong (by_predicate P.FnMut) xs p (predicate_judge predicate) }
+    ensures apart { (xs : List T) (p : T → T → Bool) (predicate : P)
+        → AnswersOnPairs P.FnMut (AreApart xs) p predicate
+        → AnswersApart (by_predicate P.FnMut) xs p (predicate_judge predicate) }
+    ensures always_along { (xs : List T) (p : T → T → Bool)
+        → ((f h : P) (q : T × T) (b : Bool) → AreNeighbours xs q → CalledAtTwo P.FnMut f q.0 q.1 b h → b ≡ p q.0 q.1)
+        → (predicate : P) → AnswersOnPairs P.FnMut (AreNeighbours xs) p predicate }
+    ensures always_apart { (xs : List T) (p : T → T → Bool)
+        → ((f h : P) (q : T × T) (b : Bool) → AreApart xs q → CalledAtTwo P.FnMut f q.0 q.1 b h → b ≡ p q.0 q.1)
+        → (predicate : P) → AnswersOnPairs P.FnMut (AreApart xs) p predicate }
+{}
+
+/// A predicate of characters whose every call on neighbouring characters of a text answers a test, in each of its states,
+/// whatever it answers elsewhere: its judge answers the test there.
+pub fn computes_on_char_pairs<P: FnMut(char, char) -> bool>()
+    ensures { (cs : List ℕ) (p : ℕ → ℕ → Bool)
+        → ((f h : P) (q : ℕ × ℕ) (b : Bool) → AreNeighbours cs q → Called P.FnMut f (q.0, (q.1, tt)) b h → b ≡ p q.0 q.1)
+        → (predicate : P) → AnswersAlong (by_char_predicate P.FnMut) cs p (char_predicate_judge predicate) }
+{}
+
+/// A key function of characters whose every call on a character of a text gives its key, in each of its states, whatever it
+/// gives of others: its judge answers whether the keys of neighbours are equal.
+pub fn computes_on_chars<F: FnMut(char) -> K, K: PartialEq + Drop>()
+    ensures { (cs : List ℕ) (key : ℕ → K)
+        → ((f h : F) (c : ℕ) (k : K) → Contains cs c → CalledAtChar F.FnMut f c k h → k ≡ key c)
+        → (func : F) → AnswersAlong (by_char_key F.FnMut K.eq) cs (λ a b. K.eq (key a) (key b)) (char_key_judge func) }
+{}
+
 /// A predicate of characters that may always be called may be asked about the neighbouring characters of every text.
 pub fn always_callable_chars<P: FnMut(char, char) -> bool>()
     ensures { (cs : List ℕ) (predicate : P) → P.IsAlwaysCallable predicate
@@ -148,6 +182,23 @@ pub fn descending_is_grouped<T, K: Ord>()
     ensures by_key { (key : T → K) (xs : List T) → NeverDescends (flip_args K.cmp) (map key xs)
         → IsGrouped (λ x y. K.eq (key x) (key y)) xs }
     ensures by_itself { (xs : List K) → NeverDescends (flip_args K.cmp) xs → IsGrouped K.eq xs }
+{}
+
+/// Of a list that ascends by a key, comparing the keys with any other answers `Less`, then `Equal`, then `Greater`: so a search
+/// for that key finds what is there. The same of one that ascends by itself.
+pub fn ascending_is_searchable<T, K: Ord>()
+    ensures by_key { (key : T → K) (sought : K) (xs : List T) → NeverDescends K.cmp (map key xs)
+        → IsLessEqualGreater (λ x. K.cmp (key x) sought) xs }
+    ensures by_itself { (sought : K) (xs : List K) → NeverDescends K.cmp xs
+        → IsLessEqualGreater (λ x. K.cmp x sought) xs }
+{}
+
+/// Of a grouped list, the element at a place q > 0 agrees with the first, in either order, exactly if the first piece has more
+/// than q elements: what a plan of questions rests on.
+pub fn first_group_agrees<T>()
+    ensures { (p : T → T → Bool) (xs group : List T) → IsGrouped p xs → first (split p xs) ≡ Some group
+        → (q : ℕ) (x y : T) → 0 < q → slice_get xs 0 ≡ Some x → slice_get xs q ≡ Some y
+        → (p x y ≡ nat_lt q (length group)) × (p y x ≡ nat_lt q (length group)) }
 {}
 
 /// A part of a grouped list is grouped.

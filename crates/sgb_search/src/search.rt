@@ -56,8 +56,8 @@ impl<'a, T, B: Ord + Drop, F: FnMut(&T) -> B> Places<F> for Keyed<'a, T, B> {
 /// number of binary digits, so it is cheap where the place is near the beginning; it asks none of an empty slice. The questions
 /// show the answer: of `Ok`, that the last was answered `Equal`; of `Err`, that the element before the place was answered
 /// `Less`, unless the one at it was answered in two ways, and that the one at it was answered `Greater`, unless the one before it
-/// was answered in two ways. The contract speaks of the run of calls that found the place; that no call comes after it is read in
-/// the code.
+/// was answered in two ways. The comparator is given up, so the contract speaks of the run of calls that found the place;
+/// `exponential_search_by_ref` says it of the comparator as it comes back.
 ///
 /// ```
 /// let slice = [0, 1, 1, 1, 1, 2, 3, 5, 8, 13, 21, 34, 55];
@@ -71,12 +71,42 @@ where
     F: FnMut(&T) -> Ordering,
     requires { MayCall F.FnMut slice.now f }
     ensures bound { IsSearchInRange result (length slice.now) }
-    ensures questions { IsSearch (TakesAt F.FnMut) (CalledAt F.FnMut) slice.now f result }
+    ensures questions { (t : F) × IsSearch (TakesAt F.FnMut) (CalledAt F.FnMut) slice.now f result t }
     ensures boundary { (ord : T → Ordering) → Computes F.FnMut slice.now ord f → IsLocalAnswer ord slice.now result }
     ensures found { (ord : T → Ordering) → Computes F.FnMut slice.now ord f → IsLessEqualGreater ord slice.now
         → FindsIn ord slice.now result }
 {
-    gallop(&mut f, &slice, 0, slice.len())
+    exponential_search_by_ref(slice, &mut f)
+}
+
+/// Searches a slice with a comparator that it is lent: it answers and asks what `exponential_search_by` does.
+///
+/// The comparator comes back in the state that just these questions lead to. So where each call raises a number that it
+/// captured by one, the number is raised by at most `2 * digits(i + 1) + 1` (`laws::comparisons_count`). It may be called on
+/// each element again, and answers what it answered.
+///
+/// ```
+/// let mut asked = 0;
+/// let mut comparator = |x: &u32| {
+///     asked += 1;
+///     x.cmp(&13)
+/// };
+/// exponential_search_by_ref(&[1, 2, 3, 5, 8, 13, 21], &mut comparator); // Ok(5), and `asked` is at most 7
+/// ```
+#[inline]
+pub fn exponential_search_by_ref<T, F>(slice: &[T], f: &mut F) -> Result<usize, usize>
+where
+    F: FnMut(&T) -> Ordering,
+    requires { MayCall F.FnMut slice.now f.old }
+    ensures bound { IsSearchInRange result (length slice.now) }
+    ensures questions { IsSearch (TakesAt F.FnMut) (CalledAt F.FnMut) slice.now f.old result f.new }
+    ensures boundary { (ord : T → Ordering) → Computes F.FnMut slice.now ord f.old → IsLocalAnswer ord slice.now result }
+    ensures found { (ord : T → Ordering) → Computes F.FnMut slice.now ord f.old → IsLessEqualGreater ord slice.now
+        → FindsIn ord slice.now result }
+    ensures callable { MayCall F.FnMut slice.now f.new }
+    ensures computes { (ord : T → Ordering) → Computes F.FnMut slice.now ord f.old → Computes F.FnMut slice.now ord f.new }
+{
+    gallop(f, &slice, 0, slice.len())
 }
 
 /// Searches a slice for an element: `Ok` of a place where an equal element stands, or `Err` of a place where it could be
@@ -120,14 +150,47 @@ where
     B: Ord + Drop,
     requires { MayCall F.FnMut slice.now f }
     ensures bound { IsSearchInRange result (length slice.now) }
-    ensures questions { IsSearch (TakesAt F.FnMut) (ComparesKey F.FnMut B.cmp b.now) slice.now f result }
+    ensures questions { (t : F) × IsSearch (TakesAt F.FnMut) (ComparesKey F.FnMut B.cmp b.now) slice.now f result t }
     ensures boundary { (key : T → B) → Computes F.FnMut slice.now key f
         → IsLocalAnswer (λ x. B.cmp (key x) b.now) slice.now result }
     ensures found { (key : T → B) → Computes F.FnMut slice.now key f
         → IsLessEqualGreater (λ x. B.cmp (key x) b.now) slice.now
         → FindsIn (λ x. B.cmp (key x) b.now) slice.now result }
-    ensures sorted { (key : T → B) → Computes F.FnMut slice.now key f → NeverDescends B.cmp (map key slice.now)
+    ensures sorted { (key : T → B) → Computes F.FnMut slice.now key f
+        → NeverDescends B.cmp (map key slice.now)
         → FindsIn (λ x. B.cmp (key x) b.now) slice.now result }
 {
-    gallop(&mut f, &Keyed { slice, key: b }, 0, slice.len())
+    exponential_search_by_key_ref(slice, b, &mut f)
+}
+
+/// Searches a slice for a key by a key function that it is lent: it answers and asks what `exponential_search_by_key` does,
+/// and the function comes back in the state that just these calls lead to (`laws::key_calls_count`).
+///
+/// ```
+/// let mut called = 0;
+/// let mut key = |row: &(u32, u32)| {
+///     called += 1;
+///     row.1
+/// };
+/// exponential_search_by_key_ref(&[(0, 1), (4, 2), (2, 3)], &2, &mut key); // Ok(1), and `called` is at most 5
+/// ```
+#[inline]
+pub fn exponential_search_by_key_ref<T, B, F>(slice: &[T], b: &B, f: &mut F) -> Result<usize, usize>
+where
+    F: FnMut(&T) -> B,
+    B: Ord + Drop,
+    requires { MayCall F.FnMut slice.now f.old }
+    ensures bound { IsSearchInRange result (length slice.now) }
+    ensures questions { IsSearch (TakesAt F.FnMut) (ComparesKey F.FnMut B.cmp b.now) slice.now f.old result f.new }
+    ensures boundary { (key : T → B) → Computes F.FnMut slice.now key f.old
+        → IsLocalAnswer (λ x. B.cmp (key x) b.now) slice.now result }
+    ensures found { (key : T → B) → Computes F.FnMut slice.now key f.old
+        → IsLessEqualGreater (λ x. B.cmp (key x) b.now) slice.now
+        → FindsIn (λ x. B.cmp (key x) b.now) slice.now result }
+    ensures sorted { (key : T → B) → Computes F.FnMut slice.now key f.old → NeverDescends B.cmp (map key slice.now)
+        → FindsIn (λ x. B.cmp (key x) b.now) slice.now result }
+    ensures callable { MayCall F.FnMut slice.now f.new }
+    ensures computes { (key : T → B) → Computes F.FnMut slice.now key f.old → Computes F.FnMut slice.now key f.new }
+{
+    gallop(f, &Keyed { slice, key: b }, 0, slice.len())
 }

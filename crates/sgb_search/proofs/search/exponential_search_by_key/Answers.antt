@@ -1,27 +1,4 @@
-use Rattle.std.specs.Fn.{TakesAt}
-use Rattle.sgb_search.specs.Search.{ComparesKey}
-use Rattle.sgb_search.proofs.Readings.{may_places, search_run, search_boundary, finds, key_may, key_answers}
-use Rattle.sgb_search.proofs.Ascending.{ascends}
 use Rattle.sgb_search.proofs.search.exponential_search_by_key.Goals as goal
 
-pub gallop-requires-clause-callable : goal.gallop-requires-clause-callable
-gallop-requires-clause-callable g c =
-    may_places (TakesAt g.F.FnMut) (ComparesKey g.F.FnMut g.B.Ord.cmp c.args.b.now) c.args.slice.now c.args.f
-    (key_may g.F.FnMut g.B.Ord.cmp c.args.b.now c.args.slice.now c.args.f c.requires)
-
 pub returns-clause-questions : goal.returns-clause-questions
-returns-clause-questions g c =
-    search_run (TakesAt g.F.FnMut) (ComparesKey g.F.FnMut g.B.Ord.cmp c.args.b.now) c.args.slice.now c.args.f _ _ c.gallop.ensures
-
-pub returns-clause-boundary : goal.returns-clause-boundary
-returns-clause-boundary g c key by =
-    search_boundary (TakesAt g.F.FnMut) (ComparesKey g.F.FnMut g.B.Ord.cmp c.args.b.now) c.args.slice.now c.args.f _ _ c.gallop.ensures
-    (λ x. g.B.Ord.cmp (key x) c.args.b.now) (key_answers g.F.FnMut g.B.Ord.cmp c.args.b.now c.args.slice.now c.args.f key by)
-
-pub returns-clause-found : goal.returns-clause-found
-returns-clause-found g c key by =
-    finds (λ x. g.B.Ord.cmp (key x) c.args.b.now) c.args.slice.now c.gallop.result (returns-clause-boundary g c key by)
-
-pub returns-clause-sorted : goal.returns-clause-sorted
-returns-clause-sorted g c key by up =
-    returns-clause-found g c key by (ascends g.B.Ord.cmp g.met.B.Ord.total c.args.b.now key c.args.slice.now up)
+returns-clause-questions g c = (c.exponential_search_by_key_ref.new.f, c.exponential_search_by_key_ref.ensures.questions)
