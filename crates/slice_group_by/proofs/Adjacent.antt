@@ -68,6 +68,22 @@ module _ {T K : Type 0} (cmp : K → K → Ordering) (total : IsTotalOrder cmp) 
       (subst (λ (m : ℕ). is_lt (cmp (key (slice_index_or xs m d)) (key (slice_index_or xs k d))) ≡ false) {x = k + 1} {y = j} (omega arith)
       (h k d (omega arith) (omega arith))) (total.antisymm (key (slice_index_or xs k d)) (key (slice_index_or xs j d))))
 
+  not_less : (o r : Ordering) → o ≢ Greater → r ≡ ordering_reverse o → is_lt r ≡ false
+  not_less Less r h e = rw e refl
+  not_less Equal r h e = rw e refl
+  not_less Greater r h e = absurd (h refl)
+
+  pub ascends_sorted : (xs : List T) → AllByRecursion (λ q. cmp (key q.0) (key q.1) ≢ Greater) (neighbours xs) → IsSortedByKey key cmp xs
+  ascends_sorted xs h = λ k d low l.
+      not_less _ _ (place_by_neighbours (λ x y. cmp (key x) (key y) ≢ Greater) xs h k (k + 1) d (omega arith) l)
+      (total.antisymm (key (slice_index_or xs (k + 1) d)) (key (slice_index_or xs k d)))
+
+  pub neighbours_of_keys : (xs : List T) → NeverDescends cmp (map key xs)
+      → AllByRecursion (λ q. cmp (key q.0) (key q.1) ≢ Greater) (neighbours xs)
+  neighbours_of_keys [] h = tt
+  neighbours_of_keys (x ∷ []) h = tt
+  neighbours_of_keys (x ∷ y ∷ ys) h = (h.0, neighbours_of_keys (y ∷ ys) h.1)
+
   pub keys_of_neighbours : (xs : List T) → AllByRecursion (λ q. cmp (key q.0) (key q.1) ≢ Greater) (neighbours xs)
       → NeverDescends cmp (map key xs)
   keys_of_neighbours [] h = tt
@@ -87,17 +103,11 @@ module _ {T K : Type 0} (compare : K → K → Option Ordering) (cmp : K → K �
       (omega arith) (sym (h k d (omega arith))))))
   sorted_by_key xs false h e = cc e
 
-  neighbours_of_keys : (xs : List T) → NeverDescends cmp (map key xs)
-      → AllByRecursion (λ q. cmp (key q.0) (key q.1) ≢ Greater) (neighbours xs)
-  neighbours_of_keys [] h = tt
-  neighbours_of_keys (x ∷ []) h = tt
-  neighbours_of_keys (x ∷ y ∷ ys) h = (h.0, neighbours_of_keys (y ∷ ys) h.1)
-
   pub sorted_by_key_only : (xs : List T) (r : Bool) → IsAllAdjacentAnswer (λ x y b. b ≡ partial_le compare (key x) (key y)) xs r
       → NeverDescends cmp (map key xs) → r ≡ true
   sorted_by_key_only xs true h all = refl
   sorted_by_key_only [] false h all = absurd (omega (arith, h.1))
   sorted_by_key_only (x ∷ xs) false h all =
       absurd (greater compare cmp agree _ _ (sym (h.2 x)) _ refl
-      (place_by_neighbours (λ x y. cmp (key x) (key y) ≢ Greater) (x ∷ xs) (neighbours_of_keys (x ∷ xs) all) h.0 (h.0 + 1) x
+      (place_by_neighbours (λ x y. cmp (key x) (key y) ≢ Greater) (x ∷ xs) (neighbours_of_keys cmp total key (x ∷ xs) all) h.0 (h.0 + 1) x
       (omega arith) h.1))

@@ -26,11 +26,12 @@ ghost use Rattle.sgb_linear_str_group.specs.TextsMut.{TextGroupsMut, seen_text, 
 ghost use Rattle.sgb_search.specs.Searching.{digits};
 ghost use Rattle.slice_group_by.specs.declared.plans.Plan.{Plan};
 ghost use Rattle.slice_group_by.specs.Plans.{run, IsRight, IsHalvingPlan};
-ghost use Rattle.slice_group_by.specs.Walk.{Partition, IsChain};
+ghost use Rattle.slice_group_by.specs.Walk.{Partition, IsChain, handed_out, HandsOutAll};
 ghost use Rattle.slice_group_by.specs.Queue.{pops, after_pops};
 
 pub use crate::counts::{
-    Judged, calls_ask, linear_counts, mapped_calls_ask, questions_count, search_asks, text_counts,
+    Judged, calls_ask, comparisons_count, key_calls_count, linear_counts, mapped_calls_ask,
+    questions_count, search_asks, text_counts,
 };
 pub use crate::families::{families_agree, groups_end_locally, groups_end_locally_mut};
 pub use crate::join::{
@@ -50,12 +51,13 @@ use sgb_search::judge::Judge;
 pub use sgb_search::laws::{
     always_callable, always_callable_apart, always_callable_char_key, always_callable_chars,
     always_callable_key, always_callable_key_apart, always_callable_on_elements, always_computes,
-    ascending_is_grouped, callable_now, callable_now_on_pairs, callable_on_elements,
-    callable_on_pairs, computes_on_elements, descending_is_grouped, digits_is_least,
-    equality_judges, gap_parts, one_split, parts_are_grouped, question_count,
+    ascending_is_grouped, ascending_is_searchable, callable_now, callable_now_on_pairs,
+    callable_on_elements, callable_on_pairs, computes_on_char_pairs, computes_on_chars,
+    computes_on_elements, computes_on_pairs, descending_is_grouped, digits_is_least,
+    equality_judges, first_group_agrees, gap_parts, one_split, parts_are_grouped, question_count,
 };
-use sgb_slice_group::groups::LinearGroups;
-use sgb_slice_group::groups_mut::LinearGroupsMut;
+use sgb_slice_group::groups::{GroupEnd, LinearGroups};
+use sgb_slice_group::groups_mut::{LinearGroupsMut, SliceGroupsMut};
 
 /// One call on a queue that is settled for a test: it gives the outermost piece of the split of what remained, or `None`
 /// where there is no piece; the other pieces are the split of what remains; and the queue is settled again.
@@ -108,7 +110,7 @@ pub fn chains_answer<Q: GroupQueue>(_queue: &Q)
 /// standard library that take it stand in `Rattle.std.proofs.lemmas.Iterator.Consumers`, as `count_from_yields_List`.
 ///
 /// `part` and `whole` say it of the groups that calls at one end gave, some of them or all, as a loop keeps them; `more` adds a
-/// call to such calls, whatever the judge answers.
+/// call to such calls, whatever the judge answers; and `settled` says that the queue is settled after them.
 pub fn sees_pieces<Q: GroupQueue>(_queue: &Q)
     ensures pieces { (p : Q.Element → Q.Element → Bool) (e : End) (q : Q) → Q.is_settled q p
         → YieldsList (Q.gives e) Q.shows q (from e (split p (Q.remainder q))) }
@@ -123,6 +125,8 @@ pub fn sees_pieces<Q: GroupQueue>(_queue: &Q)
         → Drains (Q.gives e) q groups → length groups ≡ length (split p (Q.remainder q)) }
     ensures more { (e : End) (q s t : Q) (groups : List Q.Item) (group : Q.Item) → Yields (Q.gives e) q groups s
         → Q.gives e s (Some group) t → Yields (Q.gives e) q (groups ++ group ∷ []) t }
+    ensures settled { (p : Q.Element → Q.Element → Bool) (e : End) (q t : Q) (groups : List Q.Item) → Q.is_settled q p
+        → Yields (Q.gives e) q groups t → Q.is_settled t p }
 {}
 
 /// The groups that calls at one end give, joined in their order, are what goes off that end, whatever the judge answers: all of
@@ -207,6 +211,22 @@ pub fn texts_join_mut<J: Judge<char>>(_groups: &LinearStrGroupsMut<'_, J>)
     ensures whole { (e : End) (s : TextGroupsMut J) (groups : List (MutBor (List ℕ)))
         → Drains (GivesTextMut J.Judge e) s groups
         → concat (from e (map (λ group. group.now) groups)) ≡ s.text }
+{}
+
+/// What a list of calls on groups for writing, as those of `walk`, has handed out: each group that a call gave stands at the end
+/// of `cuts`, in the order of the calls, with its end; and nothing else of what the input ends as has changed. So once these are
+/// noted, `finish` says what the input ends as.
+pub fn chains_hand_out<T, J: Judge<T>, C: GroupEnd>(_groups: &SliceGroupsMut<'_, T, J, C>)
+    ensures { (s t : GroupsMut T J) (ends : List End) (out : List (Option (MutBor (List T))))
+        → IsChain (GivesMut (C.asks T J J.Judge)) s ends out t
+        → HandsOutAll s.loans (handed_out ends out) t.loans }
+{}
+
+/// The same of the bytes of a text.
+pub fn text_chains_hand_out<J: Judge<char>>(_groups: &LinearStrGroupsMut<'_, J>)
+    ensures { (s t : TextGroupsMut J) (ends : List End) (out : List (Option (MutBor (List ℕ))))
+        → IsChain (GivesTextMut J.Judge) s ends out t
+        → HandsOutAll s.loans (handed_out ends out) t.loans }
 {}
 
 /// A list of calls on a text asks about each pair of neighbouring characters that goes once, however the ends are mixed, and

@@ -40,6 +40,7 @@ pub use sgb_methods::slices_mut::GroupByMut;
 pub use sgb_methods::texts::{StrGroupBy, StrGroupByMut};
 pub use sgb_search::search::{
     exponential_search, exponential_search_by, exponential_search_by_key,
+    exponential_search_by_key_ref, exponential_search_by_ref,
 };
 pub use sgb_slice_group::binary_group::{
     BinaryGroup, BinaryGroupBy, BinaryGroupByKey, BinaryGroupByKeyMut, BinaryGroupByMut,

@@ -23,10 +23,13 @@ pub fn is_sorted_for_groups<T: Ord>(slice: &[T]) -> bool
     slice.is_sorted()
 }
 
-/// What sorting leaves never descends: what `sort` ensures, and, by a key that its function computes, what `sort_by_key` does.
+/// What sorting leaves never descends: what `sort` ensures, and, by a key that its function computes, what `sort_by_key` does. And
+/// what never descends, as of a slice of which `is_sorted_for_groups` says yes, is sorted as they leave it.
 pub fn sorts_ascend<T, K: Ord>()
     ensures by_itself { (xs : List K) → IsSorted K.cmp xs → NeverDescends K.cmp xs }
     ensures by_key { (key : T → K) (xs : List T) → IsSortedByKey key K.cmp xs → NeverDescends K.cmp (map key xs) }
+    ensures sorted { (xs : List K) → NeverDescends K.cmp xs → IsSorted K.cmp xs }
+    ensures sorted_by_key { (key : T → K) (xs : List T) → NeverDescends K.cmp (map key xs) → IsSortedByKey key K.cmp xs }
 {}
 
 /// The standard library's `is_sorted_by_key` says yes exactly of the slices that never descend by the key, which its function

@@ -27,3 +27,6 @@ returns-clause-count g c p e q groups h d =
 
 pub returns-clause-more : goal.returns-clause-more
 returns-clause-more g c e = yields_more (g.Q.GroupQueue.gives e)
+
+pub returns-clause-settled : goal.returns-clause-settled
+returns-clause-settled g c p e q t groups h y = (yields_settled _ _ _ _ p g.met.Q.GroupQueue.piece e q t groups h y).0
