@@ -1,5 +1,5 @@
 -- What a list of calls on groups for writing hands out.
-use Rattle.std.proofs.Common.{◌≡◌, List, [], ◌∷◌, ◌++◌, Option, None, Some, refl, sym, ap, ◌∙◌, append-nil, append_assoc}
+use Rattle.std.proofs.Common.{◌≡◌, List, [], ◌∷◌, ◌++◌, Option, None, Some, sym, ap, ◌∙◌, append-nil, append_assoc}
 use Rattle.std.specs.Borrow.{MutBor}
 use Rattle.sgb_search.specs.declared.end.End.{End}
 use Rattle.sgb_loans.specs.declared.loans.Loans.{Loans}

@@ -4,6 +4,7 @@ pub mod Ranks
 pub mod Plans
 pub mod Join
 pub mod Counts
+pub mod Chunks
 pub use Rattle.sgb_search.specs.Split
 pub use Rattle.sgb_search.specs.Judges
 pub use Rattle.sgb_search.specs.Calls

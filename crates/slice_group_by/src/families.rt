@@ -1,7 +1,13 @@
 //! Laws of the families of groups beside each other.
 ghost use Rattle.std.specs.Prelude.{◌≡◌, ℕ, Bool, List, length, Option, Some, map, option_map};
 ghost use Rattle.std.specs.Borrow.{Bor, MutBor};
-ghost use Rattle.sgb_search.specs.Split.{from};
+ghost use Rattle.sgb_search.specs.Split.{from, split};
+ghost use Rattle.std.specs.Fn.{ComputesOnPairs};
+ghost use Rattle.std.specs.Iterator.{Drains};
+ghost use Rattle.std.specs.Slice.Iter.{chunk_by_rest, chunk_by_callee};
+ghost use Rattle.std.specs.declared.slice.ChunkBy.{ChunkBy};
+ghost use Rattle.std.proofs.lemmas.Iterator.{YieldsList};
+ghost use Rattle.slice_group_by.specs.Chunks.{chunk_calls};
 ghost use Rattle.sgb_search.specs.Searching.{IsLocalEnd, ComputesApart, SearchQuestions};
 ghost use Rattle.sgb_slice_group.specs.declared.searching.Search.{Search};
 ghost use Rattle.sgb_slice_group.specs.declared.groups.SliceGroups.{SliceGroups};
@@ -15,6 +21,7 @@ use sgb_search::judge::Judge;
 use sgb_slice_group::groups::SearchGroups;
 use sgb_slice_group::groups_mut::SearchGroupsMut;
 use sgb_slice_group::searching::GroupSearch;
+use std::slice::ChunkBy;
 
 /// The families agree: any two queues of groups that are settled for one test, of equal remainders, give groups of equal elements to
 /// equal lists of calls, by whatever judges. So do linear, binary and exponential groups of a slice, for reading and for writing, as
@@ -28,6 +35,22 @@ pub fn families_agree<T, Q: GroupQueue<Element = T>, R: GroupQueue<Element = T>>
         → Q.is_settled q p → R.is_settled r p → Q.remainder q ≡ R.remainder r
         → IsChain Q.gives q ends out q' → IsChain R.gives r ends other r'
         → map (option_map Q.shows) out ≡ map (option_map R.shows) other }
+{}
+
+/// The standard library agrees: by its own contract, `chunk_by` with a predicate that computes a test gives the pieces of the one
+/// split, from both ends. So its chunks are the groups of every queue that is settled for the test, as of `LinearGroupBy` by that
+/// predicate.
+pub fn chunk_by_agrees<T, F: FnMut(&T, &T) -> bool, Q: GroupQueue<Element = T>>(
+    _chunks: &ChunkBy<'_, T, F>,
+    _queue: &Q,
+)
+    ensures pieces { (p : T → T → Bool) (e : End) (s : ChunkBy T F) → ComputesOnPairs F.FnMut p (chunk_by_callee s)
+        → YieldsList (chunk_calls F.FnMut e) (λ chunk. chunk.now) s (from e (split p (chunk_by_rest s))) }
+    ensures groups { (p : T → T → Bool) (e : End) (s : ChunkBy T F) (q : Q) (chunks : List (Bor (List T)))
+        (groups : List Q.Item)
+        → ComputesOnPairs F.FnMut p (chunk_by_callee s) → Q.is_settled q p → Q.remainder q ≡ chunk_by_rest s
+        → Drains (chunk_calls F.FnMut e) s chunks → Drains (Q.gives e) q groups
+        → map (λ chunk. chunk.now) chunks ≡ map Q.shows groups }
 {}
 
 /// On any slice, grouped or not: a call of binary or exponential groups, whose judge answers by its arguments alone, gives a

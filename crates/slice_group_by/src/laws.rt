@@ -33,7 +33,9 @@ pub use crate::counts::{
     Judged, calls_ask, comparisons_count, key_calls_count, linear_counts, mapped_calls_ask,
     questions_count, search_asks, text_counts,
 };
-pub use crate::families::{families_agree, groups_end_locally, groups_end_locally_mut};
+pub use crate::families::{
+    chunk_by_agrees, families_agree, groups_end_locally, groups_end_locally_mut,
+};
 pub use crate::join::{
     joins_may_go_on, pairs_ascend, pairs_match, partners_are_unique, sees_pairs,
 };
