@@ -51,7 +51,7 @@ fn split<T>(all: &mut [T], mid: usize) -> (&mut [T], &mut [T])
 /// `cuts` lists the parts that are out, the oldest first, each with the end that it came off.
 #[derive(Drop)]
 pub struct Loans<T> {
-    pub(crate) marker: PhantomData<*const T>,
+    pub(crate) marker: PhantomData<T>,
     pub ghost root: { ℕ },
     pub ghost before: { List T } by { coded_list T.code },
     pub ghost after: { List T } by { coded_list T.code },

@@ -1,23 +1,44 @@
 //! From a token to a plain fact.
-ghost use Rattle.std.specs.Prelude.{◌≡◌, List, None, ⊤};
-ghost use Rattle.std.specs.Borrow.{sem, LendsSo, Array, MutBor};
+ghost use Rattle.std.specs.Prelude.{◌≡◌, List, length};
+ghost use Rattle.std.specs.Borrow.{MutBor};
 ghost use Rattle.sgb_loans.specs.declared.loans.Ended.{Ended as Token};
 
 use crate::loans::Ended;
 
-// The slice ends as the token of f's answer says, once the loan of the result is over, which is at once.
-fn resolved<T, F: FnOnce(&mut [T]) -> Ended<'_, T>>(slice: &mut [T], f: F) -> Option<&mut T>
-    requires callable { F.pre f slice }
-    requires names { (l : Token T) → F.post f slice l → l.name ≡ slice.ghost_name }
-    ensures* ends { sem 𝓛 (LendsSo (Array T.row 0) T.row slice.entry result (λ _ _. ⊤)
-        (λ n. (l : Token T) × F.post f slice.entry l × (n ≡ l.value))) }
-    ensures none { result ≡ None }
+// What `settle_and_return` says, proved by hand: the slice is lent again, and comes back as what the token says.
+fn resolved<T, R, F: FnOnce(&mut [T]) -> (Ended<'_, T>, R)>(slice: &mut [T], f: F) -> R
+    requires callable { (p : MutBor (List T)) → p.now ≡ slice.old → F.pre f p }
+    requires names { (p : MutBor (List T)) (l : Token T) (r : R) → p.now ≡ slice.old → F.post f p (l, r)
+        → l.name ≡ p.ghost_name }
+    ensures ends { (p : MutBor (List T)) × (l : Token T) × (p.now ≡ slice.old) × F.post f p (l, result)
+        × (slice.new ≡ l.value) }
+    ensures len { length slice.new ≡ length slice.old }
 {
-    let _left = f(slice);
-    None
+    let (_token, answer) = f(slice);
+    answer
 }
 
-/// Lends `f` the slice. The slice is then what the token says that `f` answers, which has to be a token of what `f` was lent.
+/// Lends `f` the slice, and gives back what `f` answers beside its token. The slice is then what the token says, which
+/// has to be a token of what `f` was lent, and keeps its length.
+///
+/// ```
+/// pub fn clear_long_groups(slice: &mut [u8]) -> usize {
+///     settle_and_return(slice, |part| long_cleared(part)) // it answers a token, and how many groups it cleared
+/// }
+/// ```
+pub fn settle_and_return<T, R, F: FnOnce(&mut [T]) -> (Ended<'_, T>, R)>(slice: &mut [T], f: F) -> R
+    requires callable { (p : MutBor (List T)) → p.now ≡ slice.old → F.pre f p }
+    requires names { (p : MutBor (List T)) (l : Token T) (r : R) → p.now ≡ slice.old → F.post f p (l, r)
+        → l.name ≡ p.ghost_name }
+    ensures ends { (p : MutBor (List T)) × (l : Token T) × (p.now ≡ slice.old) × F.post f p (l, result)
+        × (slice.new ≡ l.value) }
+    ensures len { length slice.new ≡ length slice.old }
+{
+    resolved(slice, f)
+}
+
+/// Lends `f` the slice. The slice is then what the token says that `f` answers, which has to be a token of what `f` was
+/// lent, and keeps its length.
 ///
 /// ```
 /// pub fn rank_groups(slice: &mut [usize]) {
@@ -27,9 +48,13 @@ fn resolved<T, F: FnOnce(&mut [T]) -> Ended<'_, T>>(slice: &mut [T], f: F) -> Op
 pub fn settle<T, F: FnOnce(&mut [T]) -> Ended<'_, T>>(slice: &mut [T], f: F)
     requires callable { (p : MutBor (List T)) → p.now ≡ slice.old → F.pre f p }
     requires names { (p : MutBor (List T)) (l : Token T) → p.now ≡ slice.old → F.post f p l → l.name ≡ p.ghost_name }
-    ensures { (p : MutBor (List T)) × (l : Token T) × (p.now ≡ slice.old) × F.post f p l × (slice.new ≡ l.value) }
+    ensures ends { (p : MutBor (List T)) × (l : Token T) × (p.now ≡ slice.old) × F.post f p l × (slice.new ≡ l.value) }
+    ensures len { length slice.new ≡ length slice.old }
 {
-    if let Some(_) = resolved(slice, f) {
-        unreachable!()
-    }
+    settle_and_return(
+        slice,
+        |part: &mut [T]|
+            requires { F.pre f part }
+        { (f(part), ()) },
+    )
 }

@@ -2,6 +2,6 @@
 //!
 //! An iterator for writing says in `loans` which groups are out. `Ended::of` gives a group up, `note_front` and
 //! `note_back` of the iterator take note of it, `finish` answers what the whole input ends as, and `settle` makes that a
-//! plain fact about the slice.
+//! plain fact about the slice. `settle_and_return` gives an answer back too.
 pub use sgb_loans::loans::{Ended, Loans};
-pub use sgb_loans::settle::settle;
+pub use sgb_loans::settle::{settle, settle_and_return};
