@@ -10,7 +10,8 @@ ghost use Rattle.users.specs.Keys.{key, same_key, common_keys};
 
 use crate::joins::{Entry, count_common_keys};
 use slice_group_by::laws::{
-    descending_is_grouped, pieces_begin_as_dedup, pieces_by_key, sees_pieces, sorted_by_key_ascends,
+    chunk_by_agrees, descending_is_grouped, pieces_begin_as_dedup, pieces_by_key, sees_pieces,
+    sorted_by_key_ascends,
 };
 use slice_group_by::{BinaryGroup, LinearGroup, LinearGroupByKey};
 use std::alloc::{AllocError, Global};
@@ -23,6 +24,17 @@ pub fn deduped_len(xs: &[u32]) -> usize
     sees_pieces(&groups);
     pieces_begin_as_dedup::<u32, u32>();
     groups.count()
+}
+
+/// How many groups the slice has, and how many chunks of equal elements the standard library finds in it: as many.
+pub fn groups_and_chunks(xs: &[u32]) -> (usize, usize)
+    ensures { result.0 ≡ result.1 }
+{
+    let groups = LinearGroup::new(xs);
+    let chunks = xs.chunk_by(|a, b| a == b);
+    sees_pieces(&groups);
+    chunk_by_agrees(&chunks, &groups);
+    (groups.count(), chunks.count())
 }
 
 /// How many groups a slice has that descends, found by halving.
