@@ -2,7 +2,7 @@
 //! and bytes that are a text.
 ghost use Rattle.std.specs.Prelude.{◌≤◌, ◌<◌, ◌-◌};
 
-use slice_group_by::{End, LinearGroup, LinearGroupBy, LinearStrGroupMut, walk};
+use slice_group_by::{End, GroupBy, LinearGroup, LinearGroupBy, LinearStrGroupMut, walk};
 
 /// The first group, the last, and the next from the front. `walk` wants as many places for answers as there are calls.
 pub fn three_outer_groups(slice: &[i32]) -> [Option<&[i32]>; 3] {
@@ -26,6 +26,16 @@ pub fn count_by_distance() -> usize {
             requires near { b.now - a.now < 12 }
         { together[b - a] },
     );
+    groups.count()
+}
+
+/// How many binary groups one element makes, by a predicate that may be called only on two that ascend: nothing is asked of it.
+/// Of two elements it may not be handed over, since they may be asked about in both orders.
+pub fn count_of_one() -> usize {
+    let one = [1];
+    let groups = one.binary_group_by(|a: &u32, b: &u32| -> bool
+        requires { a.now < b.now }
+    { b - a < 2 });
     groups.count()
 }
 
