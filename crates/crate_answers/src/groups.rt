@@ -1,70 +1,75 @@
 //! Lines of calls on groups.
-use crate::calls::Call;
-use crate::fields::{Judge, LineError, next_field, parse_end};
+use crate::calls::Calls;
+use crate::fields::{Fields, LineError, next_field};
+use crate::judges::Judge;
+use crate::slices::{binary, exponential, linear};
+use crate::texts::text;
 use std::alloc::Global;
-use std::str::Split;
 
-/// Calls on the groups of a word: for reading, or for writing, with what the word is after each group was crossed out.
+/// How groups are found, and in what.
+#[derive(Clone, Copy, PartialEq, Eq)]
+pub enum Family {
+    Linear,
+    Binary,
+    Exponential,
+    Text,
+}
+
+/// Calls on the groups of a word. Those for writing say what the word is afterwards, and those by a closure may say how
+/// many questions it was asked.
 #[derive(Drop)]
 pub struct Groups<'a> {
     pub judge: Judge,
-    pub calls: Vec<Call<'a>>,
+    pub calls: Calls<'a>,
     pub word: &'a str,
     pub afterwards: Option<&'a str>,
-    pub questions: Option<u64>,
+    questions: Option<u64>,
 }
 
 impl<'a> Groups<'a> {
-    /// The fields `reading JUDGE CALLS WORD ANSWERS QUESTIONS` or `writing JUDGE CALLS WORD AFTERWARDS ANSWERS QUESTIONS`.
-    pub fn parse(alloc: Global, fields: &mut Split<'a, char>) -> Result<Groups<'a>, LineError> {
-        let for_writing = match next_field(fields)? {
-            "reading" => false,
-            "writing" => true,
-            _ => return Err(LineError::Access),
-        };
-        let judge = next_field(fields)?.parse::<Judge>()?;
-        let ends = next_field(fields)?;
-        let word = next_field(fields)?;
-        let afterwards = if for_writing {
-            Some(next_field(fields)?)
-        } else {
-            None
+    /// The fields of a line after the type.
+    pub fn parse(alloc: Global, fields: &mut Fields<'a>) -> Result<Groups<'a>, LineError> {
+        let access = next_field(fields, "reading or writing")?;
+        let judge = Judge::parse(next_field(fields, "judge")?)?;
+        let letters = next_field(fields, "list of calls")?;
+        let word = next_field(fields, "word")?;
+        let afterwards = match access {
+            "reading" => None,
+            "writing" => Some(next_field(fields, "word afterwards")?),
+            _ => return Err(LineError::Field("reading or writing")),
         };
         Ok(Groups {
             judge,
-            calls: parse_calls(alloc, ends, next_field(fields)?)?,
+            calls: Calls::parse(alloc, letters, next_field(fields, "list of answers")?)?,
             word,
             afterwards,
-            questions: parse_questions(next_field(fields)?)?,
+            questions: parse_questions(next_field(fields, "number of questions")?)?,
         })
     }
-}
 
-// An end for each answer.
-fn parse_calls<'a>(
-    alloc: Global,
-    ends: &str,
-    answers: &'a str,
-) -> Result<Vec<Call<'a>>, LineError> {
-    let mut calls = Vec::new(alloc);
-    let mut groups = answers.split(',');
-    for letter in ends.chars() {
-        let group = groups.next().ok_or(LineError::Calls)?;
-        calls.push(Call {
-            end: parse_end(letter)?,
-            group: if group == "-" { None } else { Some(group) },
-        })?;
+    /// Whether the groups of this family answer as the line says.
+    pub fn are_same(&self, alloc: Global, family: Family) -> Result<bool, LineError> {
+        let copy = self.word.as_bytes().to_vec(alloc);
+        let mut word = copy.or(Err(LineError::OutOfMemory))?;
+        let same = match family {
+            Family::Linear => linear(self, &mut word),
+            Family::Binary => binary(self, &mut word),
+            Family::Exponential => exponential(self, &mut word),
+            Family::Text => text(self, &mut word),
+        };
+        Ok(same && word.as_slice() == self.afterwards.unwrap_or(self.word).as_bytes())
     }
-    if groups.next().is_some() {
-        return Err(LineError::Calls);
+
+    /// Whether the closure was asked as often as the line says.
+    pub fn are_asked(&self, questions: u64) -> bool {
+        self.questions.is_none_or(|wanted| wanted == questions)
     }
-    Ok(calls)
 }
 
 fn parse_questions(field: &str) -> Result<Option<u64>, LineError> {
     if field == "-" {
         return Ok(None);
     }
-    let questions = field.parse::<u64>().or(Err(LineError::Questions))?;
-    Ok(Some(questions))
+    let questions = field.parse::<u64>();
+    Ok(Some(questions.or(Err(LineError::Field("number of questions")))?))
 }
