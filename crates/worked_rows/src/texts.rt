@@ -2,6 +2,7 @@
 use crate::lines::{differs, write_texts};
 use slice_group_by::{LinearStrGroupBy, LinearStrGroupMut, StrGroupBy};
 use std::cell::Cell;
+use std::io;
 use std::io::{Error, Write};
 
 type Text = Option<&'static str>;
@@ -38,6 +39,8 @@ pub(crate) fn row_10<W: Write>(out: &mut W) -> Result<bool, Error> {
     write_texts(out, 10, &[groups.next_back()], &ROW_10, true)
 }
 
+const BYTES: [u8; 5] = [0x61, 0xC3, 0xA9, 0xC3, 0xA9];
+
 const FIRST: [u8; 1] = [97];
 
 const REMAINDER: &str = "éé";
@@ -46,31 +49,36 @@ const SECOND: [u8; 4] = [195, 169, 195, 169];
 
 const AFTERWARDS: [u8; 5] = [0xFF, 195, 169, 195, 169];
 
-// Groups of bytes for writing: what is written into a group leaves the remainder a text.
+// Groups of bytes for writing: what is written into a group leaves the remainder a text. The first walk shows that the groups
+// come as they are wanted; the second prints each as it comes, the first before it is written over.
 pub(crate) fn row_16<W: Write>(out: &mut W) -> Result<bool, Error> {
-    let mut bytes = [0x61, 0xC3, 0xA9, 0xC3, 0xA9];
-    if !gives_the_groups(&mut bytes) || bytes != AFTERWARDS {
+    let mut bytes = BYTES;
+    if !walk_16(&mut io::sink(), &mut bytes)? || bytes != AFTERWARDS {
         return differs(out, 16);
     }
-    writeln!(out, "row 16: {FIRST:?} {REMAINDER} 4 {SECOND:?} None")?;
-    Ok(true)
+    let mut bytes = BYTES;
+    walk_16(out, &mut bytes)
 }
 
-// Whether the groups of the bytes come as they are wanted. It writes over the first of them.
-fn gives_the_groups(bytes: &mut [u8]) -> bool {
+// Prints the groups of the bytes and what remains between them, and writes over the first. It ends where one is not as wanted.
+fn walk_16<W: Write>(out: &mut W, bytes: &mut [u8]) -> Result<bool, Error> {
     if std::str::from_utf8(bytes).is_err() {
-        return false;
+        return Ok(false);
     }
     let mut groups = LinearStrGroupMut::new(bytes);
     let Some(first) = groups.next() else {
-        return false;
+        return Ok(false);
     };
-    if &*first != FIRST.as_slice() || groups.as_str() != REMAINDER || groups.remainder_len() != 4 {
-        return false;
+    write!(out, "row 16: {:?}", &*first)?;
+    let (text, len) = (groups.as_str(), groups.remainder_len());
+    write!(out, " {text} {len}")?;
+    if &*first != FIRST.as_slice() || text != REMAINDER || len != 4 {
+        return Ok(false);
     }
     first[0] = 0xFF;
     let Some(second) = groups.next() else {
-        return false;
+        return Ok(false);
     };
-    &*second == SECOND.as_slice() && groups.next().is_none()
+    writeln!(out, " {:?} None", &*second)?;
+    Ok(&*second == SECOND.as_slice() && groups.next().is_none())
 }

@@ -1,101 +1,104 @@
 //! The Rust crate's cases of groups of equal elements, by their names, for each family.
 use super::families::*;
 
-// From where the groups of a case are taken.
-#[derive(Clone, Copy)]
-enum Calls {
-    Front,
-    Back,
-    BothEnds,
-    Last,
+fn one_big_group<F: Family>() -> bool {
+    come_from_front::<F>(ONE_BIG_GROUP)
 }
 
-// Slices that are not sorted.
-const UNSORTED_GROUPS: Case = Case {
-    slice: &[1, 1, 1, 3, 3, 2, 2, 2],
-    groups: &[&[1, 1, 1], &[3, 3], &[2, 2, 2]],
-};
-
-const UNSORTED_LITTLE_GROUPS: Case = Case {
-    slice: &[1, 3, 2],
-    groups: &[&[1], &[3], &[2]],
-};
-
-const OF_ANY_SLICE: [(&str, Calls, Case); 15] = [
-    ("one_big_group", Calls::Front, ONE_BIG_GROUP),
-    ("two_equal_groups", Calls::Front, TWO_EQUAL_GROUPS),
-    ("two_little_equal_groups", Calls::Front, TWO_LITTLE_GROUPS),
-    ("three_groups", Calls::Front, UNSORTED_GROUPS),
-    ("three_little_groups", Calls::Front, UNSORTED_LITTLE_GROUPS),
-    (
-        "last_three_little_groups",
-        Calls::Last,
-        UNSORTED_LITTLE_GROUPS,
-    ),
-    ("last_three_groups", Calls::Last, UNSORTED_GROUPS),
-    ("last_of_nothing", Calls::Last, NOTHING),
-    ("back_empty_slice", Calls::Back, NOTHING),
-    ("back_one_little_group", Calls::Back, ONE_LITTLE_GROUP),
-    (
-        "back_three_little_groups",
-        Calls::Back,
-        UNSORTED_LITTLE_GROUPS,
-    ),
-    ("back_three_groups", Calls::Back, UNSORTED_GROUPS),
-    ("double_ended_dont_cross", Calls::BothEnds, UNSORTED_GROUPS),
-    ("fused_iterator", Calls::Front, THREE_LITTLE_GROUPS),
-    ("back_fused_iterator", Calls::Back, THREE_LITTLE_GROUPS),
-];
-
-const OF_SORTED_SLICES: [(&str, Calls, Case); 15] = [
-    ("one_big_group", Calls::Front, ONE_BIG_GROUP),
-    ("two_equal_groups", Calls::Front, TWO_EQUAL_GROUPS),
-    ("two_little_equal_groups", Calls::Front, TWO_LITTLE_GROUPS),
-    ("three_groups", Calls::Front, THREE_GROUPS),
-    ("three_little_groups", Calls::Front, THREE_LITTLE_GROUPS),
-    ("last_three_little_groups", Calls::Last, THREE_LITTLE_GROUPS),
-    ("last_three_groups", Calls::Last, THREE_GROUPS),
-    ("last_of_nothing", Calls::Last, NOTHING),
-    ("back_empty_slice", Calls::Back, NOTHING),
-    ("back_one_little_group", Calls::Back, ONE_LITTLE_GROUP),
-    ("back_three_little_groups", Calls::Back, THREE_LITTLE_GROUPS),
-    ("back_three_groups", Calls::Back, THREE_GROUPS),
-    ("double_ended_dont_cross", Calls::BothEnds, THREE_GROUPS),
-    ("fused_iterator", Calls::Front, THREE_LITTLE_GROUPS),
-    ("back_fused_iterator", Calls::Back, THREE_LITTLE_GROUPS),
-];
-
-// The name of the first case that the family does not answer.
-fn first_missed<F: Family>(cases: &[(&'static str, Calls, Case)]) -> Option<&'static str> {
-    for (name, calls, case) in cases {
-        let holds = match calls {
-            Calls::Front => come_from_front::<F>(*case),
-            Calls::Back => come_from_back::<F>(*case),
-            Calls::BothEnds => come_from_both_ends::<F>(*case),
-            Calls::Last => ends_with_last::<F>(*case),
-        };
-        if !holds {
-            return Some(*name);
-        }
-    }
-    None
+fn two_equal_groups<F: Family>() -> bool {
+    come_from_front::<F>(TWO_EQUAL_GROUPS)
 }
 
-fn first_missed_of_sorted<F: Family>() -> Option<&'static str> {
-    first_missed::<F>(&OF_SORTED_SLICES)
+fn two_little_equal_groups<F: Family>() -> bool {
+    come_from_front::<F>(TWO_LITTLE_GROUPS)
+}
+
+fn three_groups<F: Family>() -> bool {
+    come_from_front::<F>(F::three())
+}
+
+fn three_little_groups<F: Family>() -> bool {
+    come_from_front::<F>(F::three_little())
+}
+
+fn last_three_little_groups<F: Family>() -> bool {
+    ends_with_last::<F>(F::three_little())
+}
+
+fn last_three_groups<F: Family>() -> bool {
+    ends_with_last::<F>(F::three())
+}
+
+fn last_of_nothing<F: Family>() -> bool {
+    ends_with_last::<F>(NOTHING)
+}
+
+fn back_empty_slice<F: Family>() -> bool {
+    come_from_back::<F>(NOTHING)
+}
+
+fn back_one_little_group<F: Family>() -> bool {
+    come_from_back::<F>(ONE_LITTLE_GROUP)
+}
+
+fn back_three_little_groups<F: Family>() -> bool {
+    come_from_back::<F>(F::three_little())
+}
+
+fn back_three_groups<F: Family>() -> bool {
+    come_from_back::<F>(F::three())
+}
+
+fn double_ended_dont_cross<F: Family>() -> bool {
+    come_from_both_ends::<F>(F::three())
+}
+
+fn fused_iterator<F: Family>() -> bool {
+    come_from_front::<F>(THREE_LITTLE_GROUPS)
+}
+
+fn back_fused_iterator<F: Family>() -> bool {
+    come_from_back::<F>(THREE_LITTLE_GROUPS)
+}
+
+// Whether the family answers each case.
+fn answered<F: Family>() -> [(&'static str, bool); 15] {
+    [
+        ("one_big_group", one_big_group::<F>()),
+        ("two_equal_groups", two_equal_groups::<F>()),
+        ("two_little_equal_groups", two_little_equal_groups::<F>()),
+        ("three_groups", three_groups::<F>()),
+        ("three_little_groups", three_little_groups::<F>()),
+        ("last_three_little_groups", last_three_little_groups::<F>()),
+        ("last_three_groups", last_three_groups::<F>()),
+        ("last_of_nothing", last_of_nothing::<F>()),
+        ("back_empty_slice", back_empty_slice::<F>()),
+        ("back_one_little_group", back_one_little_group::<F>()),
+        ("back_three_little_groups", back_three_little_groups::<F>()),
+        ("back_three_groups", back_three_groups::<F>()),
+        ("double_ended_dont_cross", double_ended_dont_cross::<F>()),
+        ("fused_iterator", fused_iterator::<F>()),
+        ("back_fused_iterator", back_fused_iterator::<F>()),
+    ]
 }
 
 #[test]
 fn linear(rt: HostRuntime) {
-    assert_eq!(rt; first_missed::<Linear>(&OF_ANY_SLICE), None);
+    for (name, answers) in answered::<Linear>() {
+        assert!(rt; answers, "{name}");
+    }
 }
 
 #[test]
 fn binary(rt: HostRuntime) {
-    assert_eq!(rt; first_missed_of_sorted::<Binary>(), None);
+    for (name, answers) in answered::<Binary>() {
+        assert!(rt; answers, "{name}");
+    }
 }
 
 #[test]
 fn exponential(rt: HostRuntime) {
-    assert_eq!(rt; first_missed_of_sorted::<Exponential>(), None);
+    for (name, answers) in answered::<Exponential>() {
+        assert!(rt; answers, "{name}");
+    }
 }

@@ -43,9 +43,25 @@ pub(super) const THREE_LITTLE_GROUPS: Case = Case {
     groups: &[&[1], &[2], &[3]],
 };
 
+// Slices that are not sorted.
+pub(super) const UNSORTED_GROUPS: Case = Case {
+    slice: &[1, 1, 1, 3, 3, 2, 2, 2],
+    groups: &[&[1, 1, 1], &[3, 3], &[2, 2, 2]],
+};
+
+pub(super) const UNSORTED_LITTLE_GROUPS: Case = Case {
+    slice: &[1, 3, 2],
+    groups: &[&[1], &[3], &[2]],
+};
+
 /// A family of groups of equal numbers.
 pub(super) trait Family {
     type Groups: GroupQueue<Item = &'static [i32]> + Drop;
+
+    /// Three groups that the family finds, and three of one element: not sorted, where that makes no difference to it.
+    fn three() -> Case;
+
+    fn three_little() -> Case;
 
     /// The groups of the slice, none of which has come yet.
     fn over(slice: &'static [i32]) -> Self::Groups
@@ -59,6 +75,14 @@ pub(super) struct Linear;
 
 impl Family for Linear {
     type Groups = LinearGroup<'static, i32>;
+
+    fn three() -> Case {
+        UNSORTED_GROUPS
+    }
+
+    fn three_little() -> Case {
+        UNSORTED_LITTLE_GROUPS
+    }
 
     fn over(slice: &'static [i32]) -> LinearGroup<'static, i32> {
         LinearGroup::new(slice)
@@ -74,6 +98,14 @@ pub(super) struct Binary;
 impl Family for Binary {
     type Groups = BinaryGroup<'static, i32>;
 
+    fn three() -> Case {
+        THREE_GROUPS
+    }
+
+    fn three_little() -> Case {
+        THREE_LITTLE_GROUPS
+    }
+
     fn over(slice: &'static [i32]) -> BinaryGroup<'static, i32> {
         BinaryGroup::new(slice)
     }
@@ -87,6 +119,14 @@ pub(super) struct Exponential;
 
 impl Family for Exponential {
     type Groups = ExponentialGroup<'static, i32>;
+
+    fn three() -> Case {
+        THREE_GROUPS
+    }
+
+    fn three_little() -> Case {
+        THREE_LITTLE_GROUPS
+    }
 
     fn over(slice: &'static [i32]) -> ExponentialGroup<'static, i32> {
         ExponentialGroup::new(slice)

@@ -62,7 +62,11 @@ fn fill_outer_groups<'a, Q: GroupQueue<Item = &'a mut [i32]>>(queue: &mut Q) -> 
 #[test]
 fn groups_from_both_ends_at_once(rt: HostRuntime) {
     let mut slice = [1, 1, 2, 3, 3];
-    assert!(rt; fill_outer_groups(&mut LinearGroupMut::new(&mut slice)));
+    let mut groups = LinearGroupMut::new(&mut slice);
+    let first = groups.next();
+    let last = groups.next_back();
+    assert!(rt; fill(first, &[1, 1]) && fill(last, &[3, 3]));
+    assert!(rt; holds(groups.next(), &[2]) && groups.next().is_none());
     assert_eq!(rt; slice, [2, 2, 2, 2, 2]);
     let mut slice = [1, 1, 2, 3, 3];
     assert!(rt; fill_outer_groups(&mut BinaryGroupMut::new(&mut slice)));

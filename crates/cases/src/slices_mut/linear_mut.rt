@@ -97,7 +97,9 @@ fn look_at_groups(slice: &mut &mut [i32]) {
 
 #[test]
 fn ranks(rt: HostRuntime) {
-    rank_groups(&mut []);
+    let mut none: [usize; 0] = [];
+    rank_groups(&mut none);
+    assert_eq!(rt; none, []);
     let mut one = [9];
     rank_groups(&mut one);
     assert_eq!(rt; one, [0]);
