@@ -22,6 +22,11 @@ impl<'a, T> Model for Ended<'a, T> {
     ghost also_owns = { λ l. ended_as T.row l.name l.value };
 }
 
+// It holds no element, so that any thread may have it.
+unsafe impl<'a, T> Send for Ended<'a, T> {}
+
+unsafe impl<'a, T> Sync for Ended<'a, T> {}
+
 impl<'a, T> Ended<'a, T> {
     /// Gives the slice up: what it is now is what it ends as.
     #[inline]
@@ -64,6 +69,11 @@ impl<T> Model for Loans<T> {
 
     ghost also_owns = { λ l. loan_owns T.row l.root l.before l.after l.cuts l.rest };
 }
+
+// It holds no element either.
+unsafe impl<T> Send for Loans<T> {}
+
+unsafe impl<T> Sync for Loans<T> {}
 
 impl<T> Loans<T> {
     ghost use Rattle.sgb_loans.specs.Loans.{HandsOut, noted, part_at, rest_at};

@@ -1,9 +1,11 @@
-//! Slices written through their groups: each filled, cleared or reversed, and the first and last held at once.
-ghost use Rattle.std.specs.Prelude.{◌≡◌, ℕ, [], List, ◌++◌, replicate, length, map, reverse, nat_eq};
+//! Slices written through their groups: each filled, cleared or reversed, the long ones cleared and counted, and the first
+//! and last held at once.
+ghost use Rattle.std.specs.Prelude.{◌≡◌, ℕ, [], List, ◌++◌, replicate, length, map, reverse, nat_eq, count_by};
 ghost use Rattle.slice_group_by.specs.Split.{concat, split};
+ghost use Rattle.walkers.specs.LongGroups.{is_long, cleared_if_long};
 
 use slice_group_by::LinearGroupMut;
-use slice_group_by::loans::{Ended, settle};
+use slice_group_by::loans::{Ended, settle, settle_and_return};
 
 // Each group is filled with its first element, and has ended.
 fn filled(slice: &mut [u8]) -> Ended<'_, u8>
@@ -97,4 +99,31 @@ pub fn reverse_groups(slice: &mut [u8])
     ensures { slice.new ≡ concat (map reverse (split nat_eq slice.old)) }
 {
     settle(slice, |part| reversed(part));
+}
+
+// Clears each group of more than `max_len` elements, and counts those.
+#[tactic(auto, using(std::proofs::lemmas::Grind::common_steps, slice_group_by::proofs::EqualPieces::equal_piece))]
+fn long_cleared(slice: &mut [u8], max_len: usize) -> (Ended<'_, u8>, usize)
+    ensures name { result.0.name ≡ slice.entry.ghost_name }
+    ensures value { result.0.value ≡ concat (map (cleared_if_long max_len) (split nat_eq slice.old)) }
+    ensures count { result.1 ≡ count_by (is_long max_len) (split nat_eq slice.old) }
+{
+    let mut groups = LinearGroupMut::new(slice);
+    let mut count = 0usize;
+    while let Some(group) = groups.next() {
+        if group.len() > max_len {
+            group.fill(0);
+            count += 1;
+        }
+        groups.note_front(Ended::of(group));
+    }
+    (groups.finish(), count)
+}
+
+/// Clears each group of more than `max_len` elements. Gives back how many it cleared.
+pub fn clear_long_groups(slice: &mut [u8], max_len: usize) -> usize
+    ensures value { slice.new ≡ concat (map (cleared_if_long max_len) (split nat_eq slice.old)) }
+    ensures count { result ≡ count_by (is_long max_len) (split nat_eq slice.old) }
+{
+    settle_and_return(slice, |part| long_cleared(part, max_len))
 }

@@ -1,5 +1,5 @@
 //! Slices written through their groups.
-use walkers::writers::{clear_all, clear_ends, fill_with_first, reverse_groups};
+use walkers::writers::{clear_all, clear_ends, clear_long_groups, fill_with_first, reverse_groups};
 
 #[test]
 fn writers(rt: HostRuntime) {
@@ -15,4 +15,9 @@ fn writers(rt: HostRuntime) {
     let mut one = [8, 8];
     clear_ends(&mut one);
     assert_eq!(rt; one, [0, 0]);
+    let mut mixed = [8, 8, 8, 5, 5, 8, 8];
+    assert_eq!(rt; clear_long_groups(&mut mixed, 2), 1);
+    assert_eq!(rt; mixed, [0, 0, 0, 5, 5, 8, 8]);
+    assert_eq!(rt; clear_long_groups(&mut mixed, 1), 3);
+    assert_eq!(rt; mixed, [0, 0, 0, 0, 0, 0, 0]);
 }
