@@ -33,9 +33,11 @@ pub fn count_by_distance() -> usize {
 /// Of two elements it may not be handed over, since they may be asked about in both orders.
 pub fn count_of_one() -> usize {
     let one = [1];
-    let groups = one.binary_group_by(|a: &u32, b: &u32| -> bool
-        requires { a.now < b.now }
-    { b - a < 2 });
+    let groups = one.binary_group_by(
+        |a: &u32, b: &u32| -> bool
+            requires { a.now < b.now }
+        { b - a < 2 },
+    );
     groups.count()
 }
 
