@@ -11,3 +11,5 @@ mod slices;
 mod slices_mut;
 #[cfg(test)]
 mod texts;
+#[cfg(test)]
+mod threads;
