@@ -1,5 +1,4 @@
-//! Every iterator may be sent to another thread, where its elements, its closure and its keys may, and those by a closure may be
-//! shared between threads.
+//! Every iterator may be sent to another thread and shared between threads, where its elements, its closure and its keys may.
 use slice_group_by::{
     BinaryGroup, BinaryGroupBy, BinaryGroupByKey, BinaryGroupByKeyMut, BinaryGroupByMut,
     BinaryGroupMut, ExponentialGroup, ExponentialGroupBy, ExponentialGroupByKey,
@@ -11,9 +10,6 @@ use slice_group_by::{
 
 // Takes only what may be sent and shared.
 fn crosses_threads<G: Send + Sync + Drop>(_groups: G) {}
-
-// Takes what may be sent. That groups by `==` may be shared too, no proof finds by itself: `docs/DIFFERENCES.md` says why.
-fn is_sent<G: Send + Drop>(_groups: G) {}
 
 fn tens(x: &u32) -> u32 {
     *x / 10
@@ -34,13 +30,13 @@ fn same_char(a: char, b: char) -> bool {
 #[test]
 fn slices_cross_threads() {
     let xs = [1u32, 1, 12];
-    is_sent(LinearGroup::new(&xs));
+    crosses_threads(LinearGroup::new(&xs));
     crosses_threads(LinearGroupBy::new(&xs, same));
     crosses_threads(LinearGroupByKey::new(&xs, tens));
-    is_sent(BinaryGroup::new(&xs));
+    crosses_threads(BinaryGroup::new(&xs));
     crosses_threads(BinaryGroupBy::new(&xs, same));
     crosses_threads(BinaryGroupByKey::new(&xs, tens));
-    is_sent(ExponentialGroup::new(&xs));
+    crosses_threads(ExponentialGroup::new(&xs));
     crosses_threads(ExponentialGroupBy::new(&xs, same));
     crosses_threads(ExponentialGroupByKey::new(&xs, tens));
     crosses_threads(MergeJoin::new(&xs, tens, &xs, tens));
@@ -49,24 +45,24 @@ fn slices_cross_threads() {
 #[test]
 fn slices_for_writing_cross_threads() {
     let mut xs = [1u32, 1, 12];
-    is_sent(LinearGroupMut::new(&mut xs));
+    crosses_threads(LinearGroupMut::new(&mut xs));
     crosses_threads(LinearGroupByMut::new(&mut xs, same));
     crosses_threads(LinearGroupByKeyMut::new(&mut xs, tens));
-    is_sent(BinaryGroupMut::new(&mut xs));
+    crosses_threads(BinaryGroupMut::new(&mut xs));
     crosses_threads(BinaryGroupByMut::new(&mut xs, same));
     crosses_threads(BinaryGroupByKeyMut::new(&mut xs, tens));
-    is_sent(ExponentialGroupMut::new(&mut xs));
+    crosses_threads(ExponentialGroupMut::new(&mut xs));
     crosses_threads(ExponentialGroupByMut::new(&mut xs, same));
     crosses_threads(ExponentialGroupByKeyMut::new(&mut xs, tens));
 }
 
 #[test]
 fn texts_cross_threads() {
-    is_sent(LinearStrGroup::new("aab"));
+    crosses_threads(LinearStrGroup::new("aab"));
     crosses_threads(LinearStrGroupBy::new("aab", same_char));
     crosses_threads(LinearStrGroupByKey::new("aab", is_digit));
     let [mut first, mut second, mut third] = [*b"aab"; 3];
-    is_sent(LinearStrGroupMut::new(&mut first));
+    crosses_threads(LinearStrGroupMut::new(&mut first));
     crosses_threads(LinearStrGroupByMut::new(&mut second, same_char));
     crosses_threads(LinearStrGroupByKeyMut::new(&mut third, is_digit));
 }

@@ -149,6 +149,11 @@ impl Model for EqualityJudge {
     ghost also_owns = { λ _. ftrue };
 }
 
+// It holds nothing, so that any thread may have it.
+unsafe impl Send for EqualityJudge {}
+
+unsafe impl Sync for EqualityJudge {}
+
 impl<T: PartialEq> Judge<T> for EqualityJudge {
     ghost use Rattle.sgb_search.specs.Judges.{by_equality};
 
