@@ -3,11 +3,16 @@
 //! It takes no arguments and reads nothing. The status is 0 exactly if every row gave what is wanted.
 #![tactic(auto)]
 
+mod joins;
+mod jumps;
+mod lines;
+mod rows;
+mod searches;
 #[cfg(test)]
 mod tests;
+mod texts;
 
 use std::process::ExitCode;
-use worked_rows::rows;
 
 fn main(rt: HostRuntime) -> ExitCode {
     let mut out = rt.stdout();

@@ -3,8 +3,8 @@ use Rattle.std.specs.Prelude.{◌≡◌, ◌≢◌, ℕ, ◌+◌, ◌-◌, ◌<�
 use Rattle.std.proofs.Common.{◌*◌, refl, sym, ap, arith, ◌∙◌, inl, inr}
 use borrow.Author.Tests.{lt-ltb, le-ltb}
 use Rattle.std.proofs.lemmas.Bool.{cases_lt}
-use Rattle.slice_group_by.specs.declared.plans.Plan.{Plan}
-use Rattle.slice_group_by.specs.declared.plans.Plan.TheVariants.{Answer, Ask'}
+use Rattle.slice_group_by.specs.declared.laws.plans.Plan.{Plan}
+use Rattle.slice_group_by.specs.declared.laws.plans.Plan.TheVariants.{Answer, Ask'}
 use Rattle.sgb_search.specs.Searching.{digits}
 use Rattle.sgb_search.proofs.Digits.{digits_double, digits_half, digits_le_self}
 use Rattle.slice_group_by.specs.Plans.{run, IsRight, IsRefuted, IsHalvingPlan}

@@ -9,9 +9,9 @@ use Rattle.sgb_search.specs.Split.{neighbours}
 use Rattle.sgb_search.specs.Calls.{Groups}
 use Rattle.sgb_search.proofs.Pairs.{length-neighbours}
 use Rattle.sgb_search.specs.Linear.{AsksEachOnce, LinearQuestions}
-use Rattle.sgb_slice_group.proofs.Cuts.{call}
-use Rattle.sgb_slice_group.specs.declared.groups.SliceGroups.{SliceGroups}
-use Rattle.sgb_slice_group.specs.Gives.{shown, seen, Gives, GivesMut}
+use Rattle.sgb_groups.proofs.Cuts.{call}
+use Rattle.sgb_groups.specs.declared.groups.SliceGroups.{SliceGroups}
+use Rattle.sgb_groups.specs.Gives.{shown, seen, Gives, GivesMut}
 use Rattle.sgb_loans.specs.Loans.{GroupsMut}
 use Rattle.sgb_search.proofs.LinearPairs.{asks_none, asks_more, count_asked, asks_once}
 use Rattle.sgb_search.specs.declared.end.End.{End}

@@ -11,7 +11,7 @@ use Rattle.sgb_search.specs.Split.{put_at, concat, split}
 use Rattle.sgb_search.specs.Searching.{SearchCost, IsSettledApart, SearchQuestions}
 use Rattle.sgb_search.proofs.SearchQueue.{piece}
 use Rattle.sgb_loans.specs.Loans.{GroupsMut}
-use Rattle.sgb_slice_group.specs.Gives.{seen, GivesMut}
+use Rattle.sgb_groups.specs.Gives.{seen, GivesMut}
 use Rattle.slice_group_by.proofs.Chains.{piece_and_others}
 
 -- a call leads from s to t, and a note from t to u

@@ -2,8 +2,8 @@
 --     run plan l            what the plan answers where the piece has l elements, and after how many questions
 --     IsHalvingPlan         a plan that halves
 use Rattle.std.specs.Prelude.{◌≡◌, ℕ, ◌+◌, ◌-◌, ◌/◌, ◌<◌, ◌≤◌, ◌⊎◌, ◌≢◌, cond, nat_lt}
-use Rattle.slice_group_by.specs.declared.plans.Plan.{Plan}
-use Rattle.slice_group_by.specs.declared.plans.Plan.TheVariants.{Answer, Ask'}
+use Rattle.slice_group_by.specs.declared.laws.plans.Plan.{Plan}
+use Rattle.slice_group_by.specs.declared.laws.plans.Plan.TheVariants.{Answer, Ask'}
 use Rattle.sgb_search.specs.Searching.{digits}
 
 -- what the plan answers, and after how many questions: the element at place q agrees with the first exactly if q < l

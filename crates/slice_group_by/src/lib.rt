@@ -14,44 +14,36 @@
 //! ```
 #![tactic(auto)]
 
-mod counts;
-mod families;
 mod join;
 pub mod laws;
 pub mod loans;
-mod pieces;
-mod plans;
-mod queue;
-mod ranks;
-mod slices;
-mod sorted;
-mod texts;
+mod traits;
 
 pub use join::MergeJoin;
-pub use plans::{Plan, refute};
-pub use queue::{End, GroupQueue, SliceQueue, SliceQueueMut, walk};
-pub use ranks::rank_groups;
+pub use laws::plans::{Plan, refute};
+pub use laws::queue::{End, GroupQueue, SliceQueue, SliceQueueMut, walk};
+pub use laws::ranks::rank_groups;
 pub use sgb_linear_str_group::by_equality::{LinearStrGroup, LinearStrGroupMut};
 pub use sgb_linear_str_group::by_key::{LinearStrGroupByKey, LinearStrGroupByKeyMut};
 pub use sgb_linear_str_group::by_predicate::{LinearStrGroupBy, LinearStrGroupByMut};
-pub use sgb_methods::holders::{AsMutSlice, Elements};
-pub use sgb_methods::slices::GroupBy;
-pub use sgb_methods::slices_mut::GroupByMut;
-pub use sgb_methods::texts::{StrGroupBy, StrGroupByMut};
+pub use traits::holders::{AsMutSlice, Elements};
+pub use traits::group_by::GroupBy;
+pub use traits::group_by_mut::GroupByMut;
+pub use traits::str_group_by::{StrGroupBy, StrGroupByMut};
 pub use sgb_search::search::{
     exponential_search, exponential_search_by, exponential_search_by_key,
     exponential_search_by_key_ref, exponential_search_by_ref,
 };
-pub use sgb_slice_group::binary_group::{
+pub use sgb_binary_group::binary_group::{
     BinaryGroup, BinaryGroupBy, BinaryGroupByKey, BinaryGroupByKeyMut, BinaryGroupByMut,
     BinaryGroupMut,
 };
-pub use sgb_slice_group::exponential_group::{
+pub use sgb_exponential_group::exponential_group::{
     ExponentialGroup, ExponentialGroupBy, ExponentialGroupByKey, ExponentialGroupByKeyMut,
     ExponentialGroupByMut, ExponentialGroupMut,
 };
-pub use sgb_slice_group::linear_group::{
+pub use sgb_linear_group::linear_group::{
     LinearGroup, LinearGroupBy, LinearGroupByKey, LinearGroupByKeyMut, LinearGroupByMut,
     LinearGroupMut,
 };
-pub use sorted::is_sorted_for_groups;
+pub use laws::sorted::is_sorted_for_groups;

@@ -1,4 +1,4 @@
-use Rattle.sgb_slice_group.specs.Gives.{seen, GivesMut}
+use Rattle.sgb_groups.specs.Gives.{seen, GivesMut}
 use Rattle.sgb_search.specs.Linear.{LinearQuestions}
 use Rattle.slice_group_by.proofs.PairsAsked.{chain_asks_once, whole_asks, writing_asks_once}
 use Rattle.slice_group_by.proofs.laws.each_pair_asked_once_mut.Goals as goal

@@ -1,0 +1,22 @@
+use Rattle.std.proofs.Common.{◌≡◌, ◌≤◌, ◌++◌, [], map, nat_eq, length}
+use Rattle.slice_group_by.specs.Judges.{by_key}
+use Rattle.slice_group_by.specs.Searching.{IsSettledApart}
+use Rattle.slice_group_by.specs.Gives.{seen}
+use Rattle.slice_group_by.specs.Split.{split, concat}
+use Rattle.example_counts.specs.Keys.{same_key}
+use Rattle.example_counts.specs.Totals.{total, kept}
+use Rattle.example_counts.proofs.totals.totals_kept.Given as goal
+
+abbrev pub invariant-loop-group : goal.invariant-loop-group
+invariant-loop-group g l = record {
+  settled : IsSettledApart (by_key g.F.FnMut nat_eq) (seen l.groups) same_key;
+  fits : total l.groups.remainder ≤ 4294967295;
+  root : l.groups.loans.root ≡ l.initial.groups.loans.root;
+  cuts : l.groups.loans.cuts ≡ [];
+  after : l.groups.loans.after ≡ [];
+  done : l.groups.loans.before ++ concat (map kept (split same_key l.groups.remainder))
+      ≡ concat (map kept (split same_key l.initial.groups.remainder));
+}
+
+abbrev pub decreases-loop-group : goal.decreases-loop-group
+decreases-loop-group g l = length l.groups.remainder

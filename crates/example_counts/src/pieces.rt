@@ -1,0 +1,100 @@
+//! What the pieces of a slice share with the slice: as many as `dedup` leaves, and the same from a descending slice by halving.
+ghost use Rattle.std.specs.Prelude.{◌≡◌, ◌≤◌, ℕ, List, ◌∷◌, None, length, map, nat_eq, IfOk, IfSome, IsSome};
+ghost use Rattle.std.specs.List.{dedup, Contains};
+ghost use Rattle.std.specs.List.Sorted.{IsStrictlySortedBy};
+ghost use Rattle.std.specs.declared.cmp.Ordering.TheVariants.{Less};
+ghost use Rattle.std.specs.Ordering.{flip_args, nat_cmp};
+ghost use Rattle.slice_group_by.specs.Search.{NeverDescends};
+ghost use Rattle.slice_group_by.specs.Split.{split};
+ghost use Rattle.example_counts.specs.Keys.{key, same_key, common_keys};
+
+use crate::joins::{Entry, count_common_keys};
+use slice_group_by::laws::{
+    chunk_by_agrees, descending_is_grouped, pieces_begin_as_dedup, pieces_by_key, sees_pieces,
+    sorted_by_key_ascends,
+};
+use slice_group_by::{BinaryGroup, LinearGroup, LinearGroupByKey};
+use std::alloc::{AllocError, Global};
+
+/// How many elements `dedup` would leave of the slice.
+pub fn deduped_len(xs: &[u32]) -> usize
+    ensures { result ≡ length (dedup nat_eq xs.now) }
+{
+    let groups = LinearGroup::new(xs);
+    sees_pieces(&groups);
+    pieces_begin_as_dedup::<u32, u32>();
+    groups.count()
+}
+
+/// How many groups the slice has, and how many chunks of equal elements the standard library finds in it: as many.
+pub fn groups_and_chunks(xs: &[u32]) -> (usize, usize)
+    ensures { result.0 ≡ result.1 }
+{
+    let groups = LinearGroup::new(xs);
+    let chunks = xs.chunk_by(|a, b| a == b);
+    sees_pieces(&groups);
+    chunk_by_agrees(&chunks, &groups);
+    (groups.count(), chunks.count())
+}
+
+/// How many groups a slice has that descends, found by halving.
+pub fn count_descending(xs: &[u32]) -> usize
+    requires { NeverDescends (flip_args nat_cmp) xs.now }
+    ensures { result ≡ length (split nat_eq xs.now) }
+{
+    descending_is_grouped::<u32, u32>();
+    let groups = BinaryGroup::new(xs);
+    sees_pieces(&groups);
+    groups.count()
+}
+
+/// The first two groups of rows by their keys, or `None` of fewer. Where the rows ascend, each key of the first group is less
+/// than each of the second.
+pub fn first_two<'a>(rows: &'a [Entry]) -> Option<(&'a [Entry], &'a [Entry])>
+    ensures none { result ≡ None → length (split same_key rows.now) ≤ 1 }
+    ensures groups { IfSome result (λ groups. (rest : List (List (ℕ × ℕ)))
+        × (split same_key rows.now ≡ groups.0.now ∷ groups.1.now ∷ rest)) }
+    ensures ascend { NeverDescends nat_cmp (map key rows.now) → IfSome result (λ groups. (x y : ℕ × ℕ)
+        → Contains groups.0.now x → Contains groups.1.now y → nat_cmp (key x) (key y) ≡ Less) }
+{
+    pieces_by_key::<Entry, u32>();
+    let mut groups = LinearGroupByKey::new(rows, |e: &Entry| e.0);
+    sees_pieces(&groups);
+    let first = groups.next()?;
+    let second = groups.next()?;
+    Some((first, second))
+}
+
+/// The key of each group of rows that ascend by their keys, in a vector: those of the rows that `dedup` by the keys leaves, each
+/// less than those after it.
+pub fn keys_once(alloc: Global, rows: &[Entry]) -> Result<Vec<u32>, AllocError>
+    requires { NeverDescends nat_cmp (map key rows.now) }
+    ensures all { IfOk result (λ keys. keys.items ≡ map key (dedup same_key rows.now)) }
+    ensures once { IfOk result (λ keys. IsStrictlySortedBy nat_cmp keys.items) }
+{
+    pieces_by_key::<Entry, u32>();
+    pieces_begin_as_dedup::<Entry, u32>();
+    let groups = LinearGroupByKey::new(rows, |e: &Entry| e.0);
+    sees_pieces(&groups);
+    let mut keys = Vec::new(alloc);
+    for group in groups {
+        keys.push(group[0].0)?;
+    }
+    Ok(keys)
+}
+
+/// How many keys both slices have, or `None` where one of them does not ascend by its keys.
+pub fn common_keys_if_sorted(left: &[Entry], right: &[Entry]) -> Option<usize>
+    ensures counts { IfSome result (λ count. count ≡ common_keys (map key left.now) (map key right.now)) }
+    ensures sorted { NeverDescends nat_cmp (map key left.now) → NeverDescends nat_cmp (map key right.now)
+        → IsSome result }
+{
+    sorted_by_key_ascends::<Entry, u32>();
+    if !left.is_sorted_by_key(|e| e.0) {
+        return None;
+    }
+    if !right.is_sorted_by_key(|e| e.0) {
+        return None;
+    }
+    Some(count_common_keys(left, right))
+}

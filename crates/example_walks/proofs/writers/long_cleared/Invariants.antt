@@ -1,0 +1,20 @@
+use Rattle.std.proofs.Common.{length, map, nat_eq, ◌≡◌, ◌++◌, ◌+◌, ◌≤◌, []}
+use Rattle.std.specs.Prelude.{count_by}
+use Rattle.slice_group_by.specs.Split.{concat, split}
+use Rattle.example_walks.specs.LongGroups.{is_long, cleared_if_long}
+use Rattle.example_walks.proofs.writers.long_cleared.Given as goal
+
+abbrev pub invariant-loop-group : goal.invariant-loop-group
+invariant-loop-group l = record {
+  root : l.groups.loans.root ≡ l.initial.groups.loans.root;
+  cuts : l.groups.loans.cuts ≡ [];
+  after : l.groups.loans.after ≡ [];
+  done : l.groups.loans.before ++ concat (map (cleared_if_long l.max_len) (split nat_eq l.groups.remainder))
+      ≡ concat (map (cleared_if_long l.max_len) (split nat_eq l.initial.groups.remainder));
+  counted : l.count + count_by (is_long l.max_len) (split nat_eq l.groups.remainder)
+      ≡ count_by (is_long l.max_len) (split nat_eq l.initial.groups.remainder);
+  fits : l.count + length l.groups.remainder ≤ length l.initial.groups.remainder;
+}
+
+abbrev pub decreases-loop-group : goal.decreases-loop-group
+decreases-loop-group l = length l.groups.remainder

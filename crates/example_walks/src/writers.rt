@@ -1,0 +1,129 @@
+//! Slices written through their groups: each filled, cleared or reversed, the long ones cleared and counted, and the first
+//! and last held at once.
+ghost use Rattle.std.specs.Prelude.{◌≡◌, ℕ, [], List, ◌++◌, replicate, length, map, reverse, nat_eq, count_by};
+ghost use Rattle.slice_group_by.specs.Split.{concat, split};
+ghost use Rattle.example_walks.specs.LongGroups.{is_long, cleared_if_long};
+
+use slice_group_by::LinearGroupMut;
+use slice_group_by::loans::{Ended, settle, settle_and_return};
+
+// Each group is filled with its first element, and has ended.
+fn filled(slice: &mut [u8]) -> Ended<'_, u8>
+    ensures name { result.name ≡ slice.entry.ghost_name }
+    ensures len { length result.value ≡ length slice.old }
+{
+    let mut groups = LinearGroupMut::new(slice);
+    while let Some(group) = groups.next() {
+        let first = group[0];
+        group.fill(first);
+        groups.note_front(Ended::of(group));
+    }
+    groups.finish()
+}
+
+/// Writes the first element of each group over the whole group.
+pub fn fill_with_first(slice: &mut [u8])
+    ensures { length slice.new ≡ length slice.old }
+{
+    settle(slice, |part| filled(part));
+}
+
+// Holds the first and the last group at once, and clears both: what stands between them stays.
+fn ends_cleared(slice: &mut [u8]) -> Ended<'_, u8>
+    ensures name { result.name ≡ slice.entry.ghost_name }
+    ensures value { (a b c : List ℕ) × (slice.old ≡ a ++ (b ++ c))
+        × (result.value ≡ replicate (length a) 0 ++ (b ++ replicate (length c) 0))
+        × (a ≡ [] → b ≡ []) × (c ≡ [] → b ≡ []) }
+{
+    let mut groups = LinearGroupMut::new(slice);
+    let Some(first) = groups.next() else {
+        return groups.finish();
+    };
+    let Some(last) = groups.next_back() else {
+        first.fill(0);
+        groups.note_front(Ended::of(first));
+        return groups.finish();
+    };
+    last.fill(0);
+    first.fill(0);
+    groups.note_front(Ended::of(first));
+    groups.note_back(Ended::of(last));
+    groups.finish()
+}
+
+/// Clears the first and the last group, and nothing between them.
+pub fn clear_ends(slice: &mut [u8])
+    ensures { (a b c : List ℕ) × (slice.old ≡ a ++ (b ++ c))
+        × (slice.new ≡ replicate (length a) 0 ++ (b ++ replicate (length c) 0))
+        × (a ≡ [] → b ≡ []) × (c ≡ [] → b ≡ []) }
+{
+    settle(slice, |part| ends_cleared(part));
+}
+
+// Clears each group, from the back.
+fn all_cleared(slice: &mut [u8]) -> Ended<'_, u8>
+    ensures name { result.name ≡ slice.entry.ghost_name }
+    ensures value { result.value ≡ replicate (length slice.old) 0 }
+{
+    let mut groups = LinearGroupMut::new(slice);
+    while let Some(group) = groups.next_back() {
+        group.fill(0);
+        groups.note_back(Ended::of(group));
+    }
+    groups.finish()
+}
+
+/// Clears each group.
+pub fn clear_all(slice: &mut [u8])
+    ensures { slice.new ≡ replicate (length slice.old) 0 }
+{
+    settle(slice, |part| all_cleared(part));
+}
+
+// Reverses each group in place.
+#[tactic(auto, using(std::proofs::lemmas::Grind::common_steps, slice_group_by::proofs::EqualPieces::equal_piece))]
+fn reversed(slice: &mut [u8]) -> Ended<'_, u8>
+    ensures name { result.name ≡ slice.entry.ghost_name }
+    ensures value { result.value ≡ concat (map reverse (split nat_eq slice.old)) }
+{
+    let mut groups = LinearGroupMut::new(slice);
+    while let Some(group) = groups.next() {
+        group.reverse();
+        groups.note_front(Ended::of(group));
+    }
+    groups.finish()
+}
+
+/// Reverses each group in place.
+pub fn reverse_groups(slice: &mut [u8])
+    ensures { slice.new ≡ concat (map reverse (split nat_eq slice.old)) }
+{
+    settle(slice, |part| reversed(part));
+}
+
+// Clears each group of more than `max_len` elements, and counts those.
+#[tactic(auto, using(std::proofs::lemmas::Grind::common_steps, slice_group_by::proofs::EqualPieces::equal_piece))]
+fn long_cleared(slice: &mut [u8], max_len: usize) -> (Ended<'_, u8>, usize)
+    ensures name { result.0.name ≡ slice.entry.ghost_name }
+    ensures value { result.0.value ≡ concat (map (cleared_if_long max_len) (split nat_eq slice.old)) }
+    ensures count { result.1 ≡ count_by (is_long max_len) (split nat_eq slice.old) }
+{
+    let mut groups = LinearGroupMut::new(slice);
+    let mut count = 0usize;
+    while let Some(group) = groups.next() {
+        if group.len() > max_len {
+            group.fill(0);
+            count += 1;
+        }
+        groups.note_front(Ended::of(group));
+    }
+    (groups.finish(), count)
+}
+
+/// Clears each group of more than `max_len` elements. Gives back how many it cleared.
+pub fn clear_long_groups(slice: &mut [u8], max_len: usize) -> usize
+    ensures value { slice.new ≡ concat (map (cleared_if_long max_len) (split nat_eq slice.old)) }
+    ensures count { result ≡ count_by (is_long max_len) (split nat_eq slice.old) }
+{
+    settle_and_return(slice, |part| long_cleared(part, max_len))
+}

@@ -1,9 +1,0 @@
-use Rattle.programs.specs.index_reader.Keys.{IsAscending}
-use Rattle.index_reader.proofs.main.Given as goal
-
-abbrev pub invariant-loop-number : goal.invariant-loop-number
-invariant-loop-number l = record {
-  can_next : (goal.iterator-loop-number).can_next l.number-iterator;
-  is_finite : (goal.iterator-loop-number).is_finite l.number-iterator;
-  ascending : IsAscending l.index.items;
-}

@@ -1,0 +1,6 @@
+use Rattle.std.proofs.Common.{arith}
+use Rattle.std.proofs.lemmas.Grind.{common_steps}
+use Rattle.sgb_groups.proofs.groups.SliceGroupsDoubleEndedIterator.next_back.Goals as goal
+
+pub returns : goal.returns
+returns g c = record { steps = c.take.ensures.gives; goes = grind (arith, common_steps) }

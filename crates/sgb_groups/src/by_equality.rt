@@ -1,0 +1,50 @@
+//! Groups by `==` of the elements, for reading and for writing.
+ghost use Rattle.std.specs.Prelude.{◌≡◌, ◌<◌};
+ghost use Rattle.sgb_search.specs.declared.judge.EqualityJudge.{EqualityJudge};
+ghost use Rattle.sgb_search.specs.Calls.{IsCallableBy, ComputesBy};
+ghost use Rattle.sgb_search.specs.Judges.{by_equality};
+ghost use Rattle.sgb_loans.specs.Loans.{NothingOut};
+
+use crate::group_end::GroupEnd;
+use crate::groups::SliceGroups;
+use crate::groups_mut::SliceGroupsMut;
+use sgb_search::judge::EqualityJudge;
+
+impl<'a, T: PartialEq, C: GroupEnd> SliceGroups<'a, T, EqualityJudge, C> {
+    ghost use Rattle.sgb_groups.specs.Gives.{shown};
+
+    /// All groups of equal elements of the slice, which are still to come. Nothing is asked yet.
+    ///
+    /// For binary and exponential groups the slice should be grouped: equal elements should stand side by side, as in one that
+    /// is sorted.
+    #[inline]
+    pub fn new(slice: &'a [T]) -> Self
+        ensures remainder { (shown result).remainder ≡ slice.now }
+        ensures asked { result.judge.asked ≡ 0 }
+        ensures callable { IsCallableBy (C.allowed T) (by_equality T.eq) (shown result) }
+        ensures computes { ComputesBy (C.allowed T) (by_equality T.eq) (shown result) T.eq }
+        ensures settled { C.fits T T.eq slice.now → C.settled T EqualityJudge (by_equality T.eq) (shown result) T.eq }
+    {
+        SliceGroups::with_judge(slice, EqualityJudge::new())
+    }
+}
+
+impl<'a, T: PartialEq, C: GroupEnd> SliceGroupsMut<'a, T, EqualityJudge, C> {
+    ghost use Rattle.sgb_groups.specs.Gives.{seen};
+
+    /// All groups of equal elements of the slice, which are still to come. Nothing is asked yet, and nothing is out.
+    ///
+    /// For binary and exponential groups the slice should be grouped: equal elements should stand side by side, as in one that
+    /// is sorted.
+    #[inline]
+    pub fn new(slice: &'a mut [T]) -> Self
+        ensures remainder { result.remainder ≡ slice.old }
+        ensures asked { result.judge.asked ≡ 0 }
+        ensures callable { IsCallableBy (C.allowed T) (by_equality T.eq) (seen result) }
+        ensures computes { ComputesBy (C.allowed T) (by_equality T.eq) (seen result) T.eq }
+        ensures settled { C.fits T T.eq slice.old → C.settled T EqualityJudge (by_equality T.eq) (seen result) T.eq }
+        ensures loans { NothingOut slice.entry.ghost_name result.loans }
+    {
+        SliceGroupsMut::with_judge(slice, EqualityJudge::new())
+    }
+}

@@ -1,0 +1,72 @@
+//! Groups by a key, for reading and for writing.
+ghost use Rattle.std.specs.Prelude.{◌≡◌, ◌<◌, ◌+◌};
+ghost use Rattle.std.specs.Fn.{ComputesKey};
+ghost use Rattle.sgb_search.specs.declared.judge.KeyJudge.{KeyJudge};
+ghost use Rattle.sgb_search.specs.Calls.{IsCallableBy, ComputesBy};
+ghost use Rattle.sgb_search.specs.Judges.{by_key, key_judge};
+ghost use Rattle.sgb_loans.specs.Loans.{NothingOut};
+
+use crate::group_end::GroupEnd;
+use crate::groups::SliceGroups;
+use crate::groups_mut::SliceGroupsMut;
+use sgb_search::judge::KeyJudge;
+
+type ByKey<'a, T, F, K, C> = SliceGroups<'a, T, KeyJudge<F, K>, C>;
+
+impl<'a, T, K: PartialEq + Drop, F: FnMut(&T) -> K, C: GroupEnd> ByKey<'a, T, F, K, C> {
+    ghost use Rattle.sgb_groups.specs.Gives.{shown};
+
+    /// All groups of the slice by the key, which are still to come. Nothing is asked yet.
+    ///
+    /// A question is a call of the key function on the element that stands first in it, then one on the other. The key function
+    /// has to be such that it may be called so on the pairs that are `allowed`, in every state that its calls can lead to: of
+    /// linear groups on each neighbouring pair, the left element first, and of binary and exponential ones on every two
+    /// different places, in both orders. Of a slice of at most one element nothing is asked. A closure whose body may run on
+    /// all elements, in every state, meets this at once. A caller that is handed the function takes `F.IsAlwaysCallable func`
+    /// as a `requires`, calls `laws::always_callable_key`, or `laws::always_callable_key_apart`, and answers with
+    /// `c.always_callable_key.ensures _ _ c.requires`.
+    ///
+    /// The result is settled for equality of the keys that the function computes. For binary and exponential groups the slice
+    /// should be grouped for the key: equal keys should stand side by side, as where the slice ascends by the key.
+    #[inline]
+    pub fn new(slice: &'a [T], func: F) -> Self
+        requires { IsCallableBy (C.allowed T) (by_key F.FnMut K.eq)
+            (record { remainder = slice.now; judge = key_judge func }) }
+        ensures remainder { (shown result).remainder ≡ slice.now }
+        ensures judge { result.judge ≡ key_judge func }
+        ensures callable { IsCallableBy (C.allowed T) (by_key F.FnMut K.eq) (shown result) }
+        ensures computes { (key : T → K) → ComputesKey F.FnMut key func
+            → ComputesBy (C.allowed T) (by_key F.FnMut K.eq) (shown result) (λ x y. K.eq (key x) (key y)) }
+        ensures settled { (key : T → K) → ComputesKey F.FnMut key func
+            → C.fits T (λ x y. K.eq (key x) (key y)) slice.now
+            → C.settled T (KeyJudge F K) (by_key F.FnMut K.eq) (shown result) (λ x y. K.eq (key x) (key y)) }
+    {
+        SliceGroups::with_judge(slice, KeyJudge::new(func))
+    }
+}
+
+type ByKeyMut<'a, T, F, K, C> = SliceGroupsMut<'a, T, KeyJudge<F, K>, C>;
+
+impl<'a, T, K: PartialEq + Drop, F: FnMut(&T) -> K, C: GroupEnd> ByKeyMut<'a, T, F, K, C> {
+    ghost use Rattle.sgb_groups.specs.Gives.{seen};
+
+    /// All groups of the slice by the key, which are still to come. Nothing is asked yet, and nothing is out.
+    ///
+    /// It requires of the key function what `new` for reading requires, of the elements as they are now.
+    #[inline]
+    pub fn new(slice: &'a mut [T], func: F) -> Self
+        requires { IsCallableBy (C.allowed T) (by_key F.FnMut K.eq)
+            (record { remainder = slice.old; judge = key_judge func }) }
+        ensures remainder { result.remainder ≡ slice.old }
+        ensures judge { result.judge ≡ key_judge func }
+        ensures callable { IsCallableBy (C.allowed T) (by_key F.FnMut K.eq) (seen result) }
+        ensures computes { (key : T → K) → ComputesKey F.FnMut key func
+            → ComputesBy (C.allowed T) (by_key F.FnMut K.eq) (seen result) (λ x y. K.eq (key x) (key y)) }
+        ensures settled { (key : T → K) → ComputesKey F.FnMut key func
+            → C.fits T (λ x y. K.eq (key x) (key y)) slice.old
+            → C.settled T (KeyJudge F K) (by_key F.FnMut K.eq) (seen result) (λ x y. K.eq (key x) (key y)) }
+        ensures loans { NothingOut slice.entry.ghost_name result.loans }
+    {
+        SliceGroupsMut::with_judge(slice, KeyJudge::new(func))
+    }
+}

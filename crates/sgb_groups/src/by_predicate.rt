@@ -1,0 +1,65 @@
+//! Groups by a predicate, for reading and for writing.
+ghost use Rattle.std.specs.Prelude.{◌≡◌, ◌<◌, Bool};
+ghost use Rattle.std.specs.Fn.{ComputesOnPairs};
+ghost use Rattle.sgb_search.specs.declared.judge.PredicateJudge.{PredicateJudge};
+ghost use Rattle.sgb_search.specs.Calls.{IsCallableBy, ComputesBy};
+ghost use Rattle.sgb_search.specs.Judges.{by_predicate, predicate_judge};
+ghost use Rattle.sgb_loans.specs.Loans.{NothingOut};
+
+use crate::group_end::GroupEnd;
+use crate::groups::SliceGroups;
+use crate::groups_mut::SliceGroupsMut;
+use sgb_search::judge::PredicateJudge;
+
+impl<'a, T, P: FnMut(&T, &T) -> bool, C: GroupEnd> SliceGroups<'a, T, PredicateJudge<P>, C> {
+    ghost use Rattle.sgb_groups.specs.Gives.{shown};
+
+    /// All groups of the slice by the predicate, which are still to come. Nothing is asked yet.
+    ///
+    /// The predicate has to be such that it may be called on the pairs that are `allowed`, in every state that its answers can
+    /// lead to: of linear groups on each neighbouring pair of the slice, the left element first, and of binary and exponential
+    /// ones on every two different places, in both orders. Of a slice of at most one element nothing is asked. A closure whose
+    /// body may run on all elements, in every state, meets this at once. One with a `requires` meets it where the slice is
+    /// known to have only such pairs. A caller that is handed the closure takes `P.IsAlwaysCallable predicate` as a
+    /// `requires`, and calls `laws::always_callable`, or `laws::always_callable_apart`.
+    ///
+    /// The result is settled for each test that the predicate computes. For binary and exponential groups the slice should be
+    /// grouped for the test: any two different places should agree exactly if all neighbours between them do.
+    #[inline]
+    pub fn new(slice: &'a [T], predicate: P) -> Self
+        requires { IsCallableBy (C.allowed T) (by_predicate P.FnMut)
+            (record { remainder = slice.now; judge = predicate_judge predicate }) }
+        ensures remainder { (shown result).remainder ≡ slice.now }
+        ensures judge { result.judge ≡ predicate_judge predicate }
+        ensures callable { IsCallableBy (C.allowed T) (by_predicate P.FnMut) (shown result) }
+        ensures computes { (p : T → T → Bool) → ComputesOnPairs P.FnMut p predicate
+            → ComputesBy (C.allowed T) (by_predicate P.FnMut) (shown result) p }
+        ensures settled { (p : T → T → Bool) → ComputesOnPairs P.FnMut p predicate → C.fits T p slice.now
+            → C.settled T (PredicateJudge P) (by_predicate P.FnMut) (shown result) p }
+    {
+        SliceGroups::with_judge(slice, PredicateJudge { predicate })
+    }
+}
+
+impl<'a, T, P: FnMut(&T, &T) -> bool, C: GroupEnd> SliceGroupsMut<'a, T, PredicateJudge<P>, C> {
+    ghost use Rattle.sgb_groups.specs.Gives.{seen};
+
+    /// All groups of the slice by the predicate, which are still to come. Nothing is asked yet, and nothing is out.
+    ///
+    /// It requires of the predicate what `new` for reading requires, of the elements as they are now.
+    #[inline]
+    pub fn new(slice: &'a mut [T], predicate: P) -> Self
+        requires { IsCallableBy (C.allowed T) (by_predicate P.FnMut)
+            (record { remainder = slice.old; judge = predicate_judge predicate }) }
+        ensures remainder { result.remainder ≡ slice.old }
+        ensures judge { result.judge ≡ predicate_judge predicate }
+        ensures callable { IsCallableBy (C.allowed T) (by_predicate P.FnMut) (seen result) }
+        ensures computes { (p : T → T → Bool) → ComputesOnPairs P.FnMut p predicate
+            → ComputesBy (C.allowed T) (by_predicate P.FnMut) (seen result) p }
+        ensures settled { (p : T → T → Bool) → ComputesOnPairs P.FnMut p predicate → C.fits T p slice.old
+            → C.settled T (PredicateJudge P) (by_predicate P.FnMut) (seen result) p }
+        ensures loans { NothingOut slice.entry.ghost_name result.loans }
+    {
+        SliceGroupsMut::with_judge(slice, PredicateJudge { predicate })
+    }
+}

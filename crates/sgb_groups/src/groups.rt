@@ -1,0 +1,173 @@
+//! The groups of a slice for reading, over any judge and any way to find where a group ends.
+ghost use Rattle.std.specs.Prelude.{◌≡◌, ◌<◌, ◌≤◌, ◌+◌, [], length, Option, MatchOption, nat_eq, IfSome, if◌then◌else◌};
+ghost use Rattle.std.specs.Iterator.{UpTo};
+ghost use Rattle.std.specs.Iterator.SizeHint.{IsWithinCount};
+ghost use Rattle.sgb_search.specs.declared.end.End.TheVariants.{Front, Back};
+ghost use Rattle.sgb_search.specs.Calls.{IsCallableBy, groups_to_come};
+
+use crate::group_end::GroupEnd;
+use sgb_search::end::End;
+use sgb_search::judge::Judge;
+use std::iter::FusedIterator;
+use std::marker::PhantomData;
+
+/// An iterator over the groups of a slice, from both ends. `J` decides what belongs together, and `C` finds where a group ends.
+///
+/// Contracts see of it the elements that it has not handed out yet, its `remainder`, and its `judge`: both are in `shown` of it.
+#[derive(Drop)]
+pub struct SliceGroups<'a, T, J, C> {
+    slice: &'a [T],
+    // The remainder lies from the place `low` up to the place `high`, and is empty where these do not lie in the slice in order.
+    low: usize,
+    high: usize,
+    judge: J,
+    group_end: PhantomData<C>,
+}
+
+impl<'a, T, J, C> SliceGroups<'a, T, J, C> {
+    ghost use Rattle.sgb_groups.specs.Gives.{shown};
+
+    // All groups of the slice are still to come.
+    #[inline]
+    pub(crate) fn with_judge(slice: &'a [T], judge: J) -> Self
+        ensures remainder { (shown result).remainder ≡ slice.now }
+        ensures judge { result.judge ≡ judge }
+    {
+        SliceGroups {
+            slice,
+            low: 0,
+            high: slice.len(),
+            judge,
+            group_end: PhantomData,
+        }
+    }
+
+    /// The elements that no call has handed out yet.
+    #[inline]
+    pub fn remainder(&self) -> &'a [T]
+        ensures { result.now ≡ (shown self.now).remainder }
+    {
+        match self.places() {
+            Some((low, high)) => &self.slice[low..high],
+            None => &[],
+        }
+    }
+
+    // The places between which the remainder lies, where it is not empty, so that a call tests that once.
+    #[inline]
+    fn places(&self) -> Option<(usize, usize)>
+        ensures { MatchOption result ((shown self.now).remainder ≡ [])
+            (λ p. (p.0 ≡ self.now.low) × (p.1 ≡ self.now.high) × (p.0 < p.1) × (p.1 ≤ length self.now.slice.now)) }
+    {
+        // That the places lie in order and within the slice is tested here, and not kept of the fields: what is kept of a struct
+        // that holds a closure hides from callers what the closure captured.
+        if self.low < self.high && self.high <= self.slice.len() {
+            Some((self.low, self.high))
+        } else {
+            None
+        }
+    }
+
+    /// How many elements no call has handed out yet.
+    #[inline]
+    pub fn remainder_len(&self) -> usize
+        ensures { result ≡ length (shown self.now).remainder }
+    {
+        self.remainder().len()
+    }
+
+    /// Whether all elements are handed out.
+    #[inline]
+    pub fn is_empty(&self) -> bool
+        ensures { result ≡ nat_eq (length (shown self.now).remainder) 0 }
+    {
+        self.remainder_len() == 0
+    }
+}
+
+impl<'a, T, J: Judge<T> + Drop, C: GroupEnd> Iterator for SliceGroups<'a, T, J, C> {
+    type Item = &'a [T];
+
+    ghost use Rattle.sgb_groups.specs.Gives.{shown, Gives};
+
+    ghost can_next = { λ s. IsCallableBy (C.allowed T) J.Judge (shown s) };
+
+    ghost next_gives = { Gives (C.asks T J J.Judge) Front };
+
+    ghost remaining = { λ s. groups_to_come (shown s) };
+
+    /// The first group of the remainder, or `None` where nothing remains.
+    #[inline]
+    fn next(&mut self) -> Option<&'a [T]> {
+        self.take(&End::Front)
+    }
+
+    /// No groups where nothing remains, and else at least one and at most as many as elements remain.
+    #[inline]
+    fn size_hint(&self) -> (usize, Option<usize>)
+        ensures value { result
+            ≡ (if nat_eq (length (shown self.now).remainder) 0 then (0, Some 0)
+            else (1, Some (length (shown self.now).remainder))) }
+        ensures lower { IsWithinCount result.0 (groups_to_come (shown self.now)) }
+        ensures upper { IfSome result.1 (UpTo (groups_to_come (shown self.now))) }
+    {
+        let len = self.remainder_len();
+        (len.min(1), Some(len))
+    }
+}
+
+impl<'a, T, J: Judge<T> + Drop, C: GroupEnd> DoubleEndedIterator for SliceGroups<'a, T, J, C> {
+    ghost use Rattle.sgb_groups.specs.Gives.{shown, Gives};
+
+    ghost can_next_back = { λ s. IsCallableBy (C.allowed T) J.Judge (shown s) };
+
+    ghost next_back_gives = { Gives (C.asks T J J.Judge) Back };
+
+    /// The last group of the remainder, or `None` where nothing remains.
+    #[inline]
+    fn next_back(&mut self) -> Option<&'a [T]> {
+        self.take(&End::Back)
+    }
+}
+
+impl<'a, T, J: Judge<T> + Drop, C: GroupEnd> FusedIterator for SliceGroups<'a, T, J, C> {}
+
+impl<'a, T, J: Judge<T> + Drop, C: GroupEnd> SliceGroups<'a, T, J, C> {
+    ghost use Rattle.sgb_groups.specs.Gives.{shown, Gives};
+    ghost use Rattle.sgb_groups.specs.declared.groups.SliceGroups.{SliceGroups};
+
+    /// The last group of the remainder, or `None` where nothing remains: what `next_back` gives. The iterator is given up.
+    ///
+    /// It asks what `next_back` asks, which leads the judge to some state `t`; what is asked after that, before the judge is
+    /// given up, is nothing, which is read in the code. `Iterator::last` walks all groups from the front, and on a slice that
+    /// is not grouped, binary and exponential groups may end with another there.
+    #[inline]
+    pub fn last(mut self) -> Option<&'a [T]>
+        requires { IsCallableBy (C.allowed T) J.Judge (shown self) }
+        ensures { (t : SliceGroups T J C) × Gives (C.asks T J J.Judge) Back self.entry result t }
+    {
+        self.next_back()
+    }
+
+    // The group at the end. Each caller names its end, and gets a copy for that end alone.
+    #[inline(always)]
+    fn take(&mut self, end: &End) -> Option<&'a [T]>
+        requires { IsCallableBy (C.allowed T) J.Judge (shown self.old) }
+        ensures gives { Gives (C.asks T J J.Judge) end.now self.old result self.new }
+        ensures callable { IsCallableBy (C.allowed T) J.Judge (shown self.new) }
+    {
+        let (low, high) = self.places()?;
+        let slice = self.slice;
+        let len = C::group_len(end, slice, low, high, &mut self.judge);
+        match end {
+            End::Front => {
+                self.low = low + len;
+                Some(&slice[low..low + len])
+            }
+            End::Back => {
+                self.high = high - len;
+                Some(&slice[high - len..high])
+            }
+        }
+    }
+}

@@ -1,0 +1,224 @@
+//! The groups of a slice for writing, over any judge and any way to find where a group ends.
+ghost use Rattle.std.specs.Prelude.{◌∷◌, ◌++◌, drop, ◌≡◌, ◌<◌, ◌+◌, [], length, Option, nat_eq, IfSome, if◌then◌else◌};
+ghost use Rattle.std.specs.Iterator.{UpTo};
+ghost use Rattle.std.specs.Iterator.SizeHint.{IsWithinCount};
+ghost use Rattle.sgb_search.specs.declared.end.End.TheVariants.{Front, Back};
+ghost use Rattle.sgb_loans.specs.Loans.{NothingOut, groups_mut_to_come};
+
+use crate::group_end::GroupEnd;
+use sgb_loans::loans::{Ended, Loans};
+use sgb_search::end::End;
+use sgb_search::judge::Judge;
+use std::iter::FusedIterator;
+use std::marker::{Model, PhantomData};
+use std::mem;
+
+/// An iterator over the groups of a slice for writing, from both ends. It asks what `SliceGroups` asks, and gives the same
+/// groups.
+///
+/// Contracts see of it the elements that it has not handed out yet, its `remainder`, its `judge`, and which parts of the
+/// input are out (`loans`): take note of each group in the order in which the groups came, by `note_front` and `note_back`,
+/// and then `finish` says what the whole input ends as. These calls ask nothing and run no code but moves.
+#[derive(Drop)]
+pub struct SliceGroupsMut<'a, T, J, C> {
+    slice: &'a mut [T],
+    judge: J,
+    loans: Loans<T>,
+    group_end: PhantomData<C>,
+}
+
+impl<'a, T, J, C> Model for SliceGroupsMut<'a, T, J, C> {
+    ghost use Rattle.std.specs.Prelude.{◌≡◌};
+    ghost use Rattle.sgb_loans.specs.Loans.{GroupsMut};
+
+    ghost Value = { GroupsMut T J };
+
+    ghost view = { λ s. record { remainder = s.slice.now; judge = s.judge; loans = s.loans } };
+
+    ghost invariant = { λ s. s.loans.rest ≡ s.slice.ghost_name };
+}
+
+impl<'a, T, J, C> SliceGroupsMut<'a, T, J, C> {
+    // All groups of the slice are still to come.
+    #[inline]
+    pub(crate) fn with_judge(slice: &'a mut [T], judge: J) -> Self
+        ensures remainder { result.remainder ≡ slice.old }
+        ensures judge { result.judge ≡ judge }
+        ensures loans { NothingOut slice.entry.ghost_name result.loans }
+    {
+        let (slice, loans) = Loans::open(slice);
+        SliceGroupsMut {
+            slice,
+            judge,
+            loans,
+            group_end: PhantomData,
+        }
+    }
+
+    /// The elements that no call has handed out yet.
+    #[inline]
+    pub fn remainder(&self) -> &[T]
+        ensures { result.now ≡ self.now.remainder }
+    {
+        self.slice
+    }
+
+    /// How many elements no call has handed out yet.
+    #[inline]
+    pub fn remainder_len(&self) -> usize
+        ensures { result ≡ length self.now.remainder }
+    {
+        self.slice.len()
+    }
+
+    /// Whether all elements are handed out.
+    #[inline]
+    pub fn is_empty(&self) -> bool
+        ensures { result ≡ nat_eq (length self.now.remainder) 0 }
+    {
+        self.remainder_len() == 0
+    }
+}
+
+impl<'a, T, J: Drop, C> SliceGroupsMut<'a, T, J, C> {
+    /// Takes note of how the oldest group that is out was left, which came off at the front.
+    #[inline]
+    pub fn note_front(&mut self, group: Ended<'_, T>)
+        requires { self.old.loans.cuts ≡ (Front, group.name) ∷ drop 1 self.old.loans.cuts }
+        ensures remainder { self.new.remainder ≡ self.old.remainder }
+        ensures judge { self.new.judge ≡ self.old.judge }
+        ensures root { self.new.loans.root ≡ self.old.loans.root }
+        ensures before { self.new.loans.before ≡ self.old.loans.before ++ group.entry.value }
+        ensures after { self.new.loans.after ≡ self.old.loans.after }
+        ensures cuts { self.new.loans.cuts ≡ drop 1 self.old.loans.cuts }
+    {
+        self.loans.note(&End::Front, group);
+    }
+
+    /// Takes note of how the oldest group that is out was left, which came off at the back.
+    #[inline]
+    pub fn note_back(&mut self, group: Ended<'_, T>)
+        requires { self.old.loans.cuts ≡ (Back, group.name) ∷ drop 1 self.old.loans.cuts }
+        ensures remainder { self.new.remainder ≡ self.old.remainder }
+        ensures judge { self.new.judge ≡ self.old.judge }
+        ensures root { self.new.loans.root ≡ self.old.loans.root }
+        ensures before { self.new.loans.before ≡ self.old.loans.before }
+        ensures after { self.new.loans.after ≡ group.entry.value ++ self.old.loans.after }
+        ensures cuts { self.new.loans.cuts ≡ drop 1 self.old.loans.cuts }
+    {
+        self.loans.note(&End::Back, group);
+    }
+
+    /// The elements that no call has handed out yet, for writing, with what is known of the input. The judge is given up.
+    #[inline]
+    pub fn into_parts(self) -> (&'a mut [T], Loans<T>)
+        ensures remainder { result.0.now ≡ self.entry.remainder }
+        ensures name { result.0.ghost_name ≡ self.entry.loans.rest }
+        ensures loans { result.1 ≡ self.entry.loans }
+    {
+        let SliceGroupsMut { slice, loans, .. } = self;
+        (slice, loans)
+    }
+
+    /// The elements that no call has handed out yet, for writing. The iterator is given up, and the loans with it: where
+    /// it is wanted what the input ends as, call `into_parts`.
+    #[inline]
+    pub fn into_remainder(self) -> &'a mut [T]
+        ensures value { result.now ≡ self.entry.remainder }
+        ensures name { result.ghost_name ≡ self.entry.loans.rest }
+    {
+        self.into_parts().0
+    }
+
+    /// No group is out: what remains stays as it is, and so the whole input is known.
+    #[inline]
+    pub fn finish(self) -> Ended<'a, T>
+        requires { self.loans.cuts ≡ [] }
+        ensures name { result.name ≡ self.entry.loans.root }
+        ensures value { result.value ≡ self.entry.loans.before ++ (self.entry.remainder ++ self.entry.loans.after) }
+    {
+        let (rest, loans) = self.into_parts();
+        loans.close(Ended::of(rest))
+    }
+}
+
+impl<'a, T, J: Judge<T> + Drop, C: GroupEnd> Iterator for SliceGroupsMut<'a, T, J, C> {
+    type Item = &'a mut [T];
+
+    ghost use Rattle.sgb_groups.specs.Gives.{IsCallableByMut, GivesMut};
+
+    ghost can_next = { IsCallableByMut (C.allowed T) J.Judge };
+
+    ghost next_gives = { GivesMut (C.asks T J J.Judge) Front };
+
+    ghost remaining = { groups_mut_to_come };
+
+    /// The first group of the remainder, or `None` where nothing remains.
+    #[inline]
+    fn next(&mut self) -> Option<&'a mut [T]> {
+        self.take(&End::Front)
+    }
+
+    /// No groups where nothing remains, and else at least one and at most as many as elements remain.
+    #[inline]
+    fn size_hint(&self) -> (usize, Option<usize>)
+        ensures value { result ≡ (if nat_eq (length self.now.remainder) 0 then (0, Some 0)
+            else (1, Some (length self.now.remainder))) }
+        ensures lower { IsWithinCount result.0 (groups_mut_to_come self.now) }
+        ensures upper { IfSome result.1 (UpTo (groups_mut_to_come self.now)) }
+    {
+        let len = self.remainder_len();
+        (len.min(1), Some(len))
+    }
+}
+
+impl<'a, T, J: Judge<T> + Drop, C: GroupEnd> DoubleEndedIterator for SliceGroupsMut<'a, T, J, C> {
+    ghost use Rattle.sgb_groups.specs.Gives.{IsCallableByMut, GivesMut};
+
+    ghost can_next_back = { IsCallableByMut (C.allowed T) J.Judge };
+
+    ghost next_back_gives = { GivesMut (C.asks T J J.Judge) Back };
+
+    /// The last group of the remainder, or `None` where nothing remains.
+    #[inline]
+    fn next_back(&mut self) -> Option<&'a mut [T]> {
+        self.take(&End::Back)
+    }
+}
+
+impl<'a, T, J: Judge<T> + Drop, C: GroupEnd> FusedIterator for SliceGroupsMut<'a, T, J, C> {}
+
+impl<'a, T, J: Judge<T> + Drop, C: GroupEnd> SliceGroupsMut<'a, T, J, C> {
+    ghost use Rattle.sgb_loans.specs.Loans.{GroupsMut};
+    ghost use Rattle.sgb_groups.specs.Gives.{IsCallableByMut, GivesMut};
+
+    /// The last group of the remainder, or `None` where nothing remains: what `next_back` gives, by its questions. The
+    /// iterator is given up. `Iterator::last` walks all groups from the front.
+    ///
+    /// What the input ends as cannot be known from it, since the loans are given up too: where that is wanted, call
+    /// `next_back`, take note of the group, and `finish`.
+    #[inline]
+    pub fn last(mut self) -> Option<&'a mut [T]>
+        requires { IsCallableByMut (C.allowed T) J.Judge self }
+        ensures { (t : GroupsMut T J) × GivesMut (C.asks T J J.Judge) Back self.entry result t }
+    {
+        self.next_back()
+    }
+
+    // The group at the end. Each caller names its end, and gets a copy for that end alone.
+    #[inline(always)]
+    fn take(&mut self, end: &End) -> Option<&'a mut [T]>
+        requires { IsCallableByMut (C.allowed T) J.Judge self.old }
+        ensures gives { GivesMut (C.asks T J J.Judge) end.now self.old result self.new }
+        ensures callable { IsCallableByMut (C.allowed T) J.Judge self.new }
+    {
+        if self.slice.len() == 0 {
+            return None;
+        }
+        let all = mem::take(&mut self.slice);
+        let len = C::group_len(end, all, 0, all.len(), &mut self.judge);
+        let (group, rest) = self.loans.cut(end, all, len);
+        self.slice = rest;
+        Some(group)
+    }
+}

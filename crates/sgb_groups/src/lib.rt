@@ -1,0 +1,12 @@
+//! The engines: iterators over the groups of a slice, for reading and for writing, over any judge and any way to find where a
+//! group ends. A family of groups is such a way (`GroupEnd`), in a crate of its own.
+#![tactic(auto)]
+
+pub mod by_equality;
+pub mod by_key;
+pub mod by_predicate;
+pub mod debug;
+pub mod group_end;
+pub mod groups;
+pub mod groups_mut;
+pub mod searching;

@@ -1,0 +1,151 @@
+//! The binary and the exponential way to find a group: a search among the places beside the outermost element, at either end of a
+//! slice.
+ghost use Rattle.std.specs.Prelude.{◌≡◌, ◌+◌, ◌-◌, ◌<◌, ◌≤◌, Bool, length};
+ghost use Rattle.sgb_search.specs.Searching.{MayAskApart, SearchCost, SearchRun, MayCompareBetween, IsPlaceSearch, MayAskAt, AnsweredAt, as_ordering};
+
+use crate::group_end::GroupEnd;
+use crate::groups::SliceGroups;
+use crate::groups_mut::SliceGroupsMut;
+use sgb_search::end::End;
+use sgb_search::gallop::Places;
+use sgb_search::judge::Judge;
+use std::cmp::Ordering;
+use std::marker::PhantomData;
+
+/// An iterator over the groups of a slice, from both ends, that finds the end of a group by the search `S`.
+///
+/// A call asks its judge about the outermost element of the remainder, which stands first from both ends, and one of the
+/// others, and never about an element and itself. By halving it asks at most `digits(n - 1)` questions where n elements
+/// remain, by galloping at most `2 * digits(g) + 1` for a group of g, where `digits` is the number of binary digits. It reads
+/// no other element, and so takes time by its questions.
+///
+/// On a slice that is grouped for the judge, as one that is sorted is for `==`, the groups are those of the linear iterators. On
+/// any other, where the judge answers by its arguments alone, a group ends where the innermost element agrees with the
+/// outermost and the element beyond does not.
+pub type SearchGroups<'a, T, J, S> = SliceGroups<'a, T, J, Search<S>>;
+
+/// An iterator over the groups of a slice for writing, that asks what `SearchGroups` asks.
+pub type SearchGroupsMut<'a, T, J, S> = SliceGroupsMut<'a, T, J, Search<S>>;
+
+/// How the end of a group is sought.
+pub trait GroupSearch {
+    // What it may ask.
+    ghost cost: { SearchCost };
+
+    /// Searches the places from `low` up to, not including, `high`: `Ok` of one that answered `Equal`, or `Err` of the place
+    /// where the answers turn from `Less` to `Greater`, if those that answer `Less` come first. It asks at most what `cost`
+    /// says.
+    fn search<A, P: Places<A>>(
+        asker: &mut A,
+        places: &P,
+        low: usize,
+        high: usize,
+    ) -> Result<usize, usize>
+        requires order { low ≤ high }
+        requires callable { MayCompareBetween (λ s i. P.may_compare s places.now i)
+            (λ s i o t. P.compares s places.now i o t) low high asker.old }
+        ensures { IsPlaceSearch (λ s i. P.may_compare s places.now i) (λ s i o t. P.compares s places.now i o t)
+            cost low high asker.old result asker.new };
+}
+
+/// Asks about the outermost element and others, by the search `S`.
+#[derive(Drop)]
+pub struct Search<S> {
+    search: PhantomData<S>,
+}
+
+impl<S: GroupSearch> GroupEnd for Search<S> {
+    ghost use Rattle.std.specs.Prelude.{false};
+    ghost use Rattle.sgb_search.specs.Split.{AreApart, IsGrouped};
+    ghost use Rattle.sgb_search.specs.Searching.{SearchQuestions, IsSettledApart};
+    ghost use Rattle.sgb_search.proofs.SearchQueue as laws;
+
+    ghost allowed = { λ T. AreApart };
+
+    ghost asks = { λ T J g. SearchQuestions g S.cost };
+
+    ghost fits = { λ T. IsGrouped };
+
+    ghost settled = { λ T J. IsSettledApart };
+
+    ghost due = { λ T xs. S.cost.walk (length xs) };
+
+    ghost exact = { false };
+
+    ghost settled_if_fits = { λ T J g s p computes fits. record { computes = computes; grouped = fits } };
+
+    ghost piece = { λ T J g. laws.piece g S.cost };
+
+    ghost keeps = { λ T J g. laws.keeps g S.cost };
+
+    ghost asks_due = { λ T J g. laws.asks g S.cost };
+
+    #[inline]
+    fn group_len<T, J: Judge<T>>(
+        end: &End,
+        slice: &[T],
+        low: usize,
+        high: usize,
+        judge: &mut J,
+    ) -> usize {
+        match end {
+            End::Front => match S::search(judge, &FromFront { slice, low }, low + 1, high) {
+                Ok(place) | Err(place) => place - low,
+            },
+            End::Back => match S::search(judge, &FromBack { slice, high }, 0, high - low - 1) {
+                Ok(place) | Err(place) => place + 1,
+            },
+        }
+    }
+}
+
+// The elements of the slice from the place `low` on: their places there, each asked about with the element at `low`.
+#[derive(Drop)]
+struct FromFront<'a, T> {
+    slice: &'a [T],
+    low: usize,
+}
+
+impl<'a, T, J: Judge<T>> Places<J> for FromFront<'a, T> {
+    ghost may_compare = { λ j c i. MayAskAt J.may_ask J.answers c.slice.now c.low j i };
+
+    ghost compares = { λ j c i o k. AnsweredAt J.may_ask J.answers c.slice.now c.low j i o k };
+
+    #[inline]
+    fn compare(&self, judge: &mut J, place: usize) -> Ordering {
+        before_end(judge.ask(&self.slice[self.low], &self.slice[place]))
+    }
+}
+
+// The elements of the slice before the place `high`, read from the back: place 0 is that of the last but one, and each is asked about
+// with the last.
+#[derive(Drop)]
+struct FromBack<'a, T> {
+    slice: &'a [T],
+    high: usize,
+}
+
+impl<'a, T, J: Judge<T>> Places<J> for FromBack<'a, T> {
+    ghost may_compare = { λ j c i. (i + 1 < c.high)
+        × MayAskAt J.may_ask J.answers c.slice.now (c.high - 1) j (c.high - 1 - 1 - i) };
+
+    ghost compares = { λ j c i o k. AnsweredAt J.may_ask J.answers c.slice.now (c.high - 1) j (c.high - 1 - 1 - i) o k };
+
+    #[inline]
+    fn compare(&self, judge: &mut J, place: usize) -> Ordering {
+        let last = self.high - 1;
+        before_end(judge.ask(&self.slice[last], &self.slice[last - 1 - place]))
+    }
+}
+
+// The elements that are accepted lie before the end of the group.
+#[inline]
+fn before_end(accepted: bool) -> Ordering
+    ensures { result ≡ as_ordering accepted }
+{
+    if accepted {
+        Ordering::Less
+    } else {
+        Ordering::Greater
+    }
+}

@@ -1,8 +1,0 @@
-use Rattle.std.proofs.Common.{rules}
-use Rattle.sgb_methods.proofs.slices.GroupBy.binary_group_by_key.Goals as goal
-
-pub new-requires : goal.new-requires
-new-requires g c = rw c.as_slice.ensures c.requires
-
-pub returns-clause-remainder : goal.returns-clause-remainder
-returns-clause-remainder g c = search rules

@@ -1,8 +1,0 @@
-use Rattle.std.proofs.Common.{rules}
-use Rattle.sgb_methods.proofs.texts.StrGroupByMut.linear_group_by_key_mut.Goals as goal
-
-pub new-requires-clause-callable : goal.new-requires-clause-callable
-new-requires-clause-callable g c = rw c.as_mut_slice.ensures c.requires.callable
-
-pub returns-clause-text : goal.returns-clause-text
-returns-clause-text g c = search rules

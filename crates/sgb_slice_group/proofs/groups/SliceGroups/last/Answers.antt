@@ -1,4 +1,0 @@
-use Rattle.sgb_slice_group.proofs.groups.SliceGroups.last.Goals as goal
-
-pub returns : goal.returns
-returns g c = (_, c.next_back.ensures.steps)

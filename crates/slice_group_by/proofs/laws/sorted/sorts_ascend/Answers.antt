@@ -1,0 +1,16 @@
+use Rattle.slice_group_by.proofs.Adjacent.{sort_ascends, keys_of_neighbours, ascends_sorted, neighbours_of_keys}
+use Rattle.slice_group_by.proofs.laws.sorted.sorts_ascend.Goals as goal
+
+pub returns-clause-by_itself : goal.returns-clause-by_itself
+returns-clause-by_itself g c xs h = sort_ascends g.K.Ord.cmp g.met.K.Ord.total (λ x. x) xs h
+
+pub returns-clause-by_key : goal.returns-clause-by_key
+returns-clause-by_key g c key xs h =
+    keys_of_neighbours g.K.Ord.cmp g.met.K.Ord.total key xs (sort_ascends g.K.Ord.cmp g.met.K.Ord.total key xs h)
+
+pub returns-clause-sorted : goal.returns-clause-sorted
+returns-clause-sorted g c xs h = ascends_sorted g.K.Ord.cmp g.met.K.Ord.total (λ x. x) xs h
+
+pub returns-clause-sorted_by_key : goal.returns-clause-sorted_by_key
+returns-clause-sorted_by_key g c key xs h =
+    ascends_sorted g.K.Ord.cmp g.met.K.Ord.total key xs (neighbours_of_keys g.K.Ord.cmp g.met.K.Ord.total key xs h)

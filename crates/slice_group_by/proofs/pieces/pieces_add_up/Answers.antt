@@ -1,8 +1,0 @@
-use Rattle.slice_group_by.proofs.PiecesOfLists.{lengths, sums}
-use Rattle.slice_group_by.proofs.pieces.pieces_add_up.Goals as goal
-
-pub returns-clause-lengths : goal.returns-clause-lengths
-returns-clause-lengths g c = lengths
-
-pub returns-clause-sums : goal.returns-clause-sums
-returns-clause-sums g c = sums

@@ -1,0 +1,8 @@
+use Rattle.std.proofs.Common.{rules}
+use Rattle.slice_group_by.proofs.traits.group_by.GroupBy.binary_group_by_key.Goals as goal
+
+pub new-requires : goal.new-requires
+new-requires g c = rw c.as_slice.ensures c.requires
+
+pub returns-clause-remainder : goal.returns-clause-remainder
+returns-clause-remainder g c = search rules

@@ -1,0 +1,79 @@
+//! Laws of the families of groups beside each other.
+ghost use Rattle.std.specs.Prelude.{◌≡◌, ℕ, Bool, List, length, Option, Some, map, option_map};
+ghost use Rattle.std.specs.Borrow.{Bor, MutBor};
+ghost use Rattle.sgb_search.specs.Split.{from, split};
+ghost use Rattle.std.specs.Fn.{ComputesOnPairs};
+ghost use Rattle.std.specs.Iterator.{Drains};
+ghost use Rattle.std.specs.Slice.Iter.{chunk_by_rest, chunk_by_callee};
+ghost use Rattle.std.specs.declared.slice.ChunkBy.{ChunkBy};
+ghost use Rattle.std.proofs.lemmas.Iterator.{YieldsList};
+ghost use Rattle.slice_group_by.specs.Chunks.{chunk_calls};
+ghost use Rattle.sgb_search.specs.Searching.{IsLocalEnd, ComputesApart, SearchQuestions};
+ghost use Rattle.sgb_groups.specs.declared.searching.Search.{Search};
+ghost use Rattle.sgb_groups.specs.declared.groups.SliceGroups.{SliceGroups};
+ghost use Rattle.sgb_groups.specs.Gives.{shown, seen, Gives, GivesMut};
+ghost use Rattle.sgb_loans.specs.Loans.{GroupsMut};
+ghost use Rattle.sgb_search.specs.declared.end.End.{End};
+ghost use Rattle.slice_group_by.specs.Walk.{IsChain};
+
+use crate::laws::queue::GroupQueue;
+use sgb_search::judge::Judge;
+use sgb_groups::searching::SearchGroups;
+use sgb_groups::searching::SearchGroupsMut;
+use sgb_groups::searching::GroupSearch;
+use std::slice::ChunkBy;
+
+/// The families agree: any two queues of groups that are settled for one test, of equal remainders, give groups of equal elements to
+/// equal lists of calls, by whatever judges. So do linear, binary and exponential groups of a slice, for reading and for writing, as
+/// the groups are when they are handed out.
+pub fn families_agree<T, Q: GroupQueue<Element = T>, R: GroupQueue<Element = T>>(
+    _one: &Q,
+    _other: &R,
+)
+    ensures { (p : T → T → Bool) (q q' : Q) (r r' : R) (ends : List End) (out : List (Option Q.Item))
+        (other : List (Option R.Item))
+        → Q.is_settled q p → R.is_settled r p → Q.remainder q ≡ R.remainder r
+        → IsChain Q.gives q ends out q' → IsChain R.gives r ends other r'
+        → map (option_map Q.shows) out ≡ map (option_map R.shows) other }
+{}
+
+/// The standard library agrees: by its own contract, `chunk_by` with a predicate that computes a test gives the pieces of the one
+/// split, from both ends. So its chunks are the groups of every queue that is settled for the test, as of `LinearGroupBy` by that
+/// predicate.
+pub fn chunk_by_agrees<T, F: FnMut(&T, &T) -> bool, Q: GroupQueue<Element = T>>(
+    _chunks: &ChunkBy<'_, T, F>,
+    _queue: &Q,
+)
+    ensures pieces { (p : T → T → Bool) (e : End) (s : ChunkBy T F) → ComputesOnPairs F.FnMut p (chunk_by_callee s)
+        → YieldsList (chunk_calls F.FnMut e) (λ chunk. chunk.now) s (from e (split p (chunk_by_rest s))) }
+    ensures groups { (p : T → T → Bool) (e : End) (s : ChunkBy T F) (q : Q) (chunks : List (Bor (List T)))
+        (groups : List Q.Item)
+        → ComputesOnPairs F.FnMut p (chunk_by_callee s) → Q.is_settled q p → Q.remainder q ≡ chunk_by_rest s
+        → Drains (chunk_calls F.FnMut e) s chunks → Drains (Q.gives e) q groups
+        → map (λ chunk. chunk.now) chunks ≡ map Q.shows groups }
+{}
+
+/// On any slice, grouped or not: a call of binary or exponential groups, whose judge answers by its arguments alone, gives a
+/// group that ends at a local boundary, where the remainder reads from the call's end, and leaves such a judge.
+pub fn groups_end_locally<T, J: Judge<T>, S: GroupSearch>(_groups: &SearchGroups<'_, T, J, S>)
+    ensures ends { (p : T → T → Bool) (e : End) (s t : SliceGroups T J (Search S)) (group : Bor (List T))
+        → ComputesApart J.Judge (shown s) p
+        → Gives (SearchQuestions J.Judge S.cost) e s (Some group) t
+        → IsLocalEnd (from e (shown s).remainder) p (length group.now) }
+    ensures computes { (p : T → T → Bool) (e : End) (s t : SliceGroups T J (Search S)) (group : Bor (List T))
+        → ComputesApart J.Judge (shown s) p
+        → Gives (SearchQuestions J.Judge S.cost) e s (Some group) t → ComputesApart J.Judge (shown t) p }
+{}
+
+/// The same of those for writing.
+pub fn groups_end_locally_mut<T, J: Judge<T>, S: GroupSearch>(
+    _groups: &SearchGroupsMut<'_, T, J, S>,
+)
+    ensures ends { (p : T → T → Bool) (e : End) (s t : GroupsMut T J) (group : MutBor (List T))
+        → ComputesApart J.Judge (seen s) p
+        → GivesMut (SearchQuestions J.Judge S.cost) e s (Some group) t
+        → IsLocalEnd (from e s.remainder) p (length group.now) }
+    ensures computes { (p : T → T → Bool) (e : End) (s t : GroupsMut T J) (group : MutBor (List T))
+        → ComputesApart J.Judge (seen s) p
+        → GivesMut (SearchQuestions J.Judge S.cost) e s (Some group) t → ComputesApart J.Judge (seen t) p }
+{}

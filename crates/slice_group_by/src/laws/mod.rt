@@ -1,0 +1,279 @@
+//! Laws for the proofs of callers. Each is a function that does nothing: its contract is the law. `rank_groups`, which is
+//! proved from them, stands here too, and so do `is_sorted_for_groups`, plans of questions, and `refute`.
+//!
+//! A function whose contract rests on a law calls it, and then its proof may cite it. Where a law takes a queue, that only
+//! names the type, which may hold a closure: the law is over all of its states.
+ghost use Rattle.std.specs.Prelude.{◌≡◌, ◌≢◌, ℕ, ◌+◌, ◌-◌, ◌<◌, ◌≤◌, Bool, List, [], ◌∷◌, ◌++◌, length, Option, Some, map, option_map, reverse, count_by, is_some, IfSome};
+ghost use Rattle.std.specs.Borrow.{Bor, MutBor};
+ghost use Rattle.std.specs.Iterator.{Yields, Drains};
+ghost use Rattle.std.specs.Iterator.Adapters.{rev_source, rev_steps};
+ghost use Rattle.std.specs.declared.iter.Rev.{Rev};
+ghost use Rattle.std.proofs.lemmas.Iterator.{YieldsList};
+ghost use Rattle.std.specs.Str.{chars, IsUtf8};
+ghost use Rattle.std.proofs.Math.Utf8.{encodes};
+ghost use Rattle.std.specs.List.{AllByRecursion};
+ghost use Rattle.sgb_search.specs.Split.{from, put_at, first, last, without, concat, IsAccepted, split};
+ghost use Rattle.sgb_search.specs.Judges.{IsRunOf, AsksWithin};
+ghost use Rattle.sgb_search.specs.declared.end.End.{End};
+ghost use Rattle.sgb_search.specs.declared.end.End.TheVariants.{Front, Back};
+ghost use Rattle.sgb_search.specs.Linear.{AsksEachOnce, LinearQuestions};
+ghost use Rattle.sgb_linear_group.specs.declared.linear_group.Linear.{Linear};
+ghost use Rattle.sgb_groups.specs.declared.groups.SliceGroups.{SliceGroups};
+ghost use Rattle.sgb_groups.specs.Gives.{shown, seen, Gives, GivesMut};
+ghost use Rattle.sgb_loans.specs.Loans.{GroupsMut};
+ghost use Rattle.sgb_linear_str_group.specs.Texts.{shown_text, in_characters, GivesText};
+ghost use Rattle.sgb_linear_str_group.specs.TextsMut.{TextGroupsMut, seen_text, GivesTextMut};
+ghost use Rattle.sgb_search.specs.Searching.{digits};
+ghost use Rattle.slice_group_by.specs.declared.laws.plans.Plan.{Plan};
+ghost use Rattle.slice_group_by.specs.Plans.{run, IsRight, IsHalvingPlan};
+ghost use Rattle.slice_group_by.specs.Walk.{Partition, IsChain, handed_out, HandsOutAll};
+ghost use Rattle.slice_group_by.specs.Queue.{pops, after_pops};
+
+pub mod counts;
+pub mod families;
+pub mod pieces;
+pub mod plans;
+pub mod queue;
+pub mod ranks;
+pub mod slices;
+pub mod sorted;
+pub mod texts;
+
+pub use counts::{
+    Judged, calls_ask, comparisons_count, key_calls_count, linear_counts, mapped_calls_ask,
+    questions_count, search_asks, text_counts,
+};
+pub use families::{
+    chunk_by_agrees, families_agree, groups_end_locally, groups_end_locally_mut,
+};
+pub use crate::join::{
+    joins_may_go_on, pairs_ascend, pairs_match, partners_are_unique, sees_pairs,
+};
+pub use pieces::{
+    equal_pieces_are_copies, partitioned_pieces, pieces_add_up, pieces_begin_as_dedup,
+    pieces_by_key,
+};
+pub use plans::{Plan, refute};
+use queue::GroupQueue;
+pub use ranks::rank_groups;
+pub use sorted::{is_sorted_for_groups, sorted_by_key_ascends, sorts_ascend};
+use sgb_linear_str_group::groups::LinearStrGroups;
+use sgb_linear_str_group::groups_mut::LinearStrGroupsMut;
+use sgb_search::judge::Judge;
+pub use sgb_search::laws::{
+    always_callable, always_callable_apart, always_callable_char_key, always_callable_chars,
+    always_callable_key, always_callable_key_apart, always_callable_on_elements, always_computes,
+    ascending_is_grouped, ascending_is_searchable, callable_now, callable_now_on_pairs,
+    callable_on_elements, callable_on_pairs, computes_on_char_pairs, computes_on_chars,
+    computes_on_elements, computes_on_pairs, descending_is_grouped, digits_is_least,
+    equality_judges, first_group_agrees, gap_parts, one_split, parts_are_grouped, question_count,
+};
+use sgb_groups::group_end::GroupEnd;
+use sgb_linear_group::linear_group::LinearGroups;
+use sgb_groups::groups_mut::SliceGroupsMut;
+use sgb_linear_group::linear_group::LinearGroupsMut;
+
+/// One call on a queue that is settled for a test: it gives the outermost piece of the split of what remained, or `None`
+/// where there is no piece; the other pieces are the split of what remains; and the queue is settled again.
+pub fn calls_take_pieces<Q: GroupQueue>(_queue: &Q)
+    ensures front { (p : Q.Element → Q.Element → Bool) (q t : Q) (group : Option Q.Item)
+        → Q.gives Front q group t → Q.is_settled q p → option_map Q.shows group ≡ first (split p (Q.remainder q)) }
+    ensures back { (p : Q.Element → Q.Element → Bool) (q t : Q) (group : Option Q.Item)
+        → Q.gives Back q group t → Q.is_settled q p → option_map Q.shows group ≡ last (split p (Q.remainder q)) }
+    ensures others { (p : Q.Element → Q.Element → Bool) (e : End) (q t : Q) (group : Option Q.Item)
+        → Q.gives e q group t → Q.is_settled q p → split p (Q.remainder t) ≡ without e (split p (Q.remainder q)) }
+    ensures whole { (p : Q.Element → Q.Element → Bool) (e : End) (q t : Q) (group : Q.Item)
+        → Q.gives e q (Some group) t → Q.is_settled q p
+        → split p (Q.remainder q) ≡ put_at e (Q.shows group ∷ []) (split p (Q.remainder t)) }
+    ensures settled { (p : Q.Element → Q.Element → Bool) (e : End) (q t : Q) (group : Option Q.Item)
+        → Q.gives e q group t → Q.is_settled q p → Q.is_settled t p }
+    ensures accepted { (p : Q.Element → Q.Element → Bool) (e : End) (q t : Q) (group : Q.Item)
+        → Q.gives e q (Some group) t → Q.is_settled q p → IsAccepted p (Q.shows group) }
+{}
+
+/// Where a call may be made, one may be made after it, whatever it gave, also `None`: so the condition of `new` is all that is
+/// ever asked.
+pub fn calls_may_go_on<Q: GroupQueue>(_queue: &Q)
+    ensures call { (e : End) (q t : Q) (group : Option Q.Item) → Q.gives e q group t → Q.can_pop q → Q.can_pop t }
+    ensures calls { (q t : Q) (ends : List End) (out : List (Option Q.Item)) → IsChain Q.gives q ends out t
+        → Q.can_pop q → Q.can_pop t }
+{}
+
+/// A list of calls on a queue, made one by one, as a loop of a caller makes them: what `walk` promises of its calls.
+pub fn chains_answer<Q: GroupQueue>(_queue: &Q)
+    ensures none { (q : Q) → IsChain Q.gives q [] [] q }
+    ensures more { (q r t : Q) (ends : List End) (out : List (Option Q.Item)) (e : End) (group : Option Q.Item)
+        → IsChain Q.gives q ends out r → Q.gives e r group t
+        → IsChain Q.gives q (ends ++ e ∷ []) (out ++ group ∷ []) t }
+    ensures partition { (q t : Q) (ends : List End) (out : List (Option Q.Item))
+        → IsChain Q.gives q ends out t → Partition ends (map (option_map Q.shows) out) (Q.remainder t) (Q.remainder q) }
+    ensures pieces { (p : Q.Element → Q.Element → Bool) (q t : Q) (ends : List End) (out : List (Option Q.Item))
+        → IsChain Q.gives q ends out t → Q.is_settled q p
+        → map (option_map Q.shows) out ≡ pops (split p (Q.remainder q)) ends }
+    ensures left { (p : Q.Element → Q.Element → Bool) (q t : Q) (ends : List End) (out : List (Option Q.Item))
+        → IsChain Q.gives q ends out t → Q.is_settled q p
+        → split p (Q.remainder t) ≡ after_pops (split p (Q.remainder q)) ends }
+    ensures settled { (p : Q.Element → Q.Element → Bool) (q t : Q) (ends : List End) (out : List (Option Q.Item))
+        → IsChain Q.gives q ends out t → Q.is_settled q p → Q.is_settled t p }
+    ensures questions { (q t : Q) (ends : List End) (out : List (Option Q.Item))
+        → IsChain Q.gives q ends out t → AsksWithin Q.asked Q.due Q.exact q t }
+{}
+
+/// What a loop or an adapter sees of a settled queue: the pieces of the split in order, and from the back or under `rev()`
+/// in reverse. What `next` and `next_back` of this library's types give is `gives Front` and `gives Back`. The lemmas of the
+/// standard library that take it stand in `Rattle.std.proofs.lemmas.Iterator.Consumers`, as `count_from_yields_List`.
+///
+/// `part` and `whole` say it of the groups that calls at one end gave, some of them or all, as a loop keeps them; `more` adds a
+/// call to such calls, whatever the judge answers; and `settled` says that the queue is settled after them.
+pub fn sees_pieces<Q: GroupQueue>(_queue: &Q)
+    ensures pieces { (p : Q.Element → Q.Element → Bool) (e : End) (q : Q) → Q.is_settled q p
+        → YieldsList (Q.gives e) Q.shows q (from e (split p (Q.remainder q))) }
+    ensures rev { (p : Q.Element → Q.Element → Bool) (q : Rev Q) → Q.is_settled (rev_source q) p
+        → YieldsList (rev_steps (Q.gives Back)) Q.shows q (reverse (split p (Q.remainder (rev_source q)))) }
+    ensures part { (p : Q.Element → Q.Element → Bool) (e : End) (q t : Q) (groups : List Q.Item) → Q.is_settled q p
+        → Yields (Q.gives e) q groups t
+        → from e (split p (Q.remainder q)) ≡ map Q.shows groups ++ from e (split p (Q.remainder t)) }
+    ensures whole { (p : Q.Element → Q.Element → Bool) (e : End) (q : Q) (groups : List Q.Item) → Q.is_settled q p
+        → Drains (Q.gives e) q groups → map Q.shows groups ≡ from e (split p (Q.remainder q)) }
+    ensures count { (p : Q.Element → Q.Element → Bool) (e : End) (q : Q) (groups : List Q.Item) → Q.is_settled q p
+        → Drains (Q.gives e) q groups → length groups ≡ length (split p (Q.remainder q)) }
+    ensures more { (e : End) (q s t : Q) (groups : List Q.Item) (group : Q.Item) → Yields (Q.gives e) q groups s
+        → Q.gives e s (Some group) t → Yields (Q.gives e) q (groups ++ group ∷ []) t }
+    ensures settled { (p : Q.Element → Q.Element → Bool) (e : End) (q t : Q) (groups : List Q.Item) → Q.is_settled q p
+        → Yields (Q.gives e) q groups t → Q.is_settled t p }
+{}
+
+/// The groups that calls at one end give, joined in their order, are what goes off that end, whatever the judge answers: all of
+/// it, where the calls go on until `None`.
+pub fn groups_join<Q: GroupQueue>(_queue: &Q)
+    ensures part { (e : End) (q t : Q) (groups : List Q.Item) → Yields (Q.gives e) q groups t
+        → put_at e (concat (from e (map Q.shows groups))) (Q.remainder t) ≡ Q.remainder q }
+    ensures whole { (e : End) (q : Q) (groups : List Q.Item) → Drains (Q.gives e) q groups
+        → concat (from e (map Q.shows groups)) ≡ Q.remainder q }
+{}
+
+/// Front and back agree: the groups from the back until nothing remains are, in reverse, those from the front, for every
+/// test that the queue is settled for, also one that is not symmetric.
+pub fn ends_agree<Q: GroupQueue>(_queue: &Q)
+    ensures { (p : Q.Element → Q.Element → Bool) (q s t : Q) (fronts backs : List Q.Item) → Q.is_settled q p
+        → Yields (Q.gives Front) q fronts s → Q.remainder s ≡ [] → Yields (Q.gives Back) q backs t
+        → Q.remainder t ≡ [] → reverse (map Q.shows backs) ≡ map Q.shows fronts }
+{}
+
+/// How many groups come, whatever the judge answers: no more than elements go, at least one before nothing remains of a
+/// nonempty remainder, and as many calls as there are elements leave nothing.
+pub fn groups_still_come<Q: GroupQueue>(_queue: &Q)
+    ensures most { (q t : Q) (ends : List End) (out : List (Option Q.Item)) → IsChain Q.gives q ends out t
+        → count_by is_some out + length (Q.remainder t) ≤ length (Q.remainder q) }
+    ensures least { (q t : Q) (ends : List End) (out : List (Option Q.Item)) → IsChain Q.gives q ends out t
+        → Q.remainder q ≢ [] → Q.remainder t ≡ [] → 0 < count_by is_some out }
+    ensures fewer { (q t : Q) (ends : List End) (out : List (Option Q.Item)) → IsChain Q.gives q ends out t
+        → length (Q.remainder t) ≤ length (Q.remainder q) - length ends }
+{}
+
+/// A list of calls of linear groups asks about each neighbouring pair that goes once, however the ends are mixed, and
+/// about no other: so until nothing remains of n > 0 elements it asks exactly n - 1 questions.
+pub fn each_pair_asked_once<T, J: Judge<T>>(_groups: &LinearGroups<'_, T, J>)
+    ensures pairs { (s t : SliceGroups T J Linear) (ends : List End) (out : List (Option (Bor (List T))))
+        → IsChain (Gives (LinearQuestions J.Judge)) s ends out t → AsksEachOnce J.Judge (shown s) (shown t) }
+    ensures whole { (s t : SliceGroups T J Linear) (ends : List End) (out : List (Option (Bor (List T))))
+        → IsChain (Gives (LinearQuestions J.Judge)) s ends out t → (shown t).remainder ≡ []
+        → IsRunOf J.may_ask J.answers (length (shown s).remainder - 1) s.judge t.judge }
+{}
+
+/// The same of linear groups for writing.
+pub fn each_pair_asked_once_mut<T, J: Judge<T>>(_groups: &LinearGroupsMut<'_, T, J>)
+    ensures pairs { (s t : GroupsMut T J) (ends : List End) (out : List (Option (MutBor (List T))))
+        → IsChain (GivesMut (LinearQuestions J.Judge)) s ends out t → AsksEachOnce J.Judge (seen s) (seen t) }
+    ensures whole { (s t : GroupsMut T J) (ends : List End) (out : List (Option (MutBor (List T))))
+        → IsChain (GivesMut (LinearQuestions J.Judge)) s ends out t → t.remainder ≡ []
+        → IsRunOf J.may_ask J.answers (length s.remainder - 1) s.judge t.judge }
+{}
+
+/// The bytes of the groups of a text, joined, are what goes: of a list of calls at both ends, and of calls at one end, until nothing
+/// remains or not. What `groups_join` and `walk` say of characters, this says of bytes. Those of each group of a list of calls are
+/// the encodings of its characters, and so of the piece that it is.
+pub fn texts_join<J: Judge<char>>(_groups: &LinearStrGroups<'_, J>)
+    ensures encodings { (s t : LinearStrGroups J) (ends : List End) (out : List (Option (Bor (List ℕ))))
+        → IsChain (GivesText J.Judge) s ends out t → map (option_map (λ group. group.now)) out
+        ≡ map (option_map encodes) (map (option_map (λ group. chars group.now)) out) }
+    ensures calls { (s t : LinearStrGroups J) (ends : List End) (out : List (Option (Bor (List ℕ))))
+        → IsChain (GivesText J.Judge) s ends out t
+        → Partition ends (map (option_map (λ group. group.now)) out) (shown_text t).text (shown_text s).text }
+    ensures part { (e : End) (s t : LinearStrGroups J) (groups : List (Bor (List ℕ)))
+        → Yields (GivesText J.Judge e) s groups t
+        → put_at e (concat (from e (map (λ group. group.now) groups))) (shown_text t).text ≡ (shown_text s).text }
+    ensures whole { (e : End) (s : LinearStrGroups J) (groups : List (Bor (List ℕ)))
+        → Drains (GivesText J.Judge e) s groups
+        → concat (from e (map (λ group. group.now) groups)) ≡ (shown_text s).text }
+{}
+
+/// The same of the bytes of a text for writing. Each group of a list of calls is UTF-8, as it was when it was handed out.
+pub fn texts_join_mut<J: Judge<char>>(_groups: &LinearStrGroupsMut<'_, J>)
+    ensures utf8 { (s t : TextGroupsMut J) (ends : List End) (out : List (Option (MutBor (List ℕ))))
+        → IsChain (GivesTextMut J.Judge) s ends out t
+        → AllByRecursion (λ o. IfSome o (λ group. IsUtf8 group.now)) out }
+    ensures encodings { (s t : TextGroupsMut J) (ends : List End) (out : List (Option (MutBor (List ℕ))))
+        → IsChain (GivesTextMut J.Judge) s ends out t → map (option_map (λ group. group.now)) out
+        ≡ map (option_map encodes) (map (option_map (λ group. chars group.now)) out) }
+    ensures calls { (s t : TextGroupsMut J) (ends : List End) (out : List (Option (MutBor (List ℕ))))
+        → IsChain (GivesTextMut J.Judge) s ends out t
+        → Partition ends (map (option_map (λ group. group.now)) out) t.text s.text }
+    ensures part { (e : End) (s t : TextGroupsMut J) (groups : List (MutBor (List ℕ)))
+        → Yields (GivesTextMut J.Judge e) s groups t
+        → put_at e (concat (from e (map (λ group. group.now) groups))) t.text ≡ s.text }
+    ensures whole { (e : End) (s : TextGroupsMut J) (groups : List (MutBor (List ℕ)))
+        → Drains (GivesTextMut J.Judge e) s groups
+        → concat (from e (map (λ group. group.now) groups)) ≡ s.text }
+{}
+
+/// What a list of calls on groups for writing, as those of `walk`, has handed out: each group that a call gave stands at the end
+/// of `cuts`, in the order of the calls, with its end; and nothing else of what the input ends as has changed. So once these are
+/// noted, `finish` says what the input ends as.
+pub fn chains_hand_out<T, J: Judge<T>, C: GroupEnd>(_groups: &SliceGroupsMut<'_, T, J, C>)
+    ensures { (s t : GroupsMut T J) (ends : List End) (out : List (Option (MutBor (List T))))
+        → IsChain (GivesMut (C.asks T J J.Judge)) s ends out t
+        → HandsOutAll s.loans (handed_out ends out) t.loans }
+{}
+
+/// The same of the bytes of a text.
+pub fn text_chains_hand_out<J: Judge<char>>(_groups: &LinearStrGroupsMut<'_, J>)
+    ensures { (s t : TextGroupsMut J) (ends : List End) (out : List (Option (MutBor (List ℕ))))
+        → IsChain (GivesTextMut J.Judge) s ends out t
+        → HandsOutAll s.loans (handed_out ends out) t.loans }
+{}
+
+/// A list of calls on a text asks about each pair of neighbouring characters that goes once, however the ends are mixed, and
+/// about no other.
+pub fn each_char_pair_asked_once<J: Judge<char>>(_groups: &LinearStrGroups<'_, J>)
+    ensures pairs { (s t : LinearStrGroups J) (ends : List End) (out : List (Option (Bor (List ℕ))))
+        → IsChain (GivesText J.Judge) s ends out t
+        → AsksEachOnce J.Judge (in_characters (shown_text s)) (in_characters (shown_text t)) }
+    ensures whole { (s t : LinearStrGroups J) (ends : List End) (out : List (Option (Bor (List ℕ))))
+        → IsChain (GivesText J.Judge) s ends out t → (shown_text t).text ≡ []
+        → IsRunOf J.may_ask J.answers (length (chars (shown_text s).text) - 1) s.judge t.judge }
+{}
+
+/// The same of the bytes of a text for writing.
+pub fn each_char_pair_asked_once_mut<J: Judge<char>>(_groups: &LinearStrGroupsMut<'_, J>)
+    ensures pairs { (s t : TextGroupsMut J) (ends : List End) (out : List (Option (MutBor (List ℕ))))
+        → IsChain (GivesTextMut J.Judge) s ends out t
+        → AsksEachOnce J.Judge (in_characters (seen_text s)) (in_characters (seen_text t)) }
+    ensures whole { (s t : TextGroupsMut J) (ends : List End) (out : List (Option (MutBor (List ℕ))))
+        → IsChain (GivesTextMut J.Judge) s ends out t → t.text ≡ []
+        → IsRunOf J.may_ask J.answers (length (chars s.text) - 1) s.judge t.judge }
+{}
+
+/// No plan of questions has a smaller worst case than halving: each that answers every length from 1 up to n rightly asks
+/// at least `digits(n - 1)` questions at one of them. A plan compares the first element with others, and nothing else.
+pub fn right_plans_ask()
+    ensures { (plan : Plan) (n : ℕ) → 0 < n → IsRight plan 1 n
+        → (l : ℕ) × (1 ≤ l) × (l ≤ n) × (digits (n - 1) ≤ (run plan l).1) }
+{}
+
+/// A plan that halves the lengths from 1 up to n answers each of them rightly, and asks at most `digits(n - 1)` questions at
+/// each.
+pub fn halving_plans_ask()
+    ensures right { (plan : Plan) (n : ℕ) → IsHalvingPlan 1 n plan → IsRight plan 1 n }
+    ensures most { (plan : Plan) (n l : ℕ) → IsHalvingPlan 1 n plan → 1 ≤ l → l ≤ n → (run plan l).1 ≤ digits (n - 1) }
+{}

@@ -1,0 +1,12 @@
+//! Calls whose conditions are met.
+use example_counts::conditions::{count_by_distance, count_equal_characters, three_outer_groups};
+
+#[test]
+fn meets_conditions(rt: HostRuntime) {
+    let outer: [Option<&'static [i32]>; 3] = [Some(&[1, 1]), Some(&[3]), Some(&[2])];
+    assert!(rt; three_outer_groups(&[1, 1, 2, 3]) == outer);
+    assert_eq!(rt; count_by_distance(), 2);
+    let mut bytes = [0x61, 0x61, 0xC3, 0xA9, 0xC3, 0xA9, 0x62];
+    assert!(rt; matches!(count_equal_characters(&mut bytes), Some(3)));
+    assert!(rt; count_equal_characters(&mut [0x61, 0xC3]).is_none());
+}

@@ -1,0 +1,15 @@
+//! The first group of any queue.
+use slice_group_by::{ExponentialGroupMut, LinearGroupBy};
+use example_counts::queues::{first_of_queue, first_of_queue_mut};
+
+#[test]
+fn of_any_type(rt: HostRuntime) {
+    let mut groups = LinearGroupBy::new(&[1, 2, 2, 1], |a, b| a <= b);
+    assert_eq!(rt; first_of_queue(&mut groups), Some(&[1, 2, 2][..]));
+    let mut slice = [4, 4, 7];
+    let mut groups = ExponentialGroupMut::new(&mut slice);
+    assert_eq!(rt;
+        first_of_queue_mut(&mut groups).as_deref(),
+        Some(&[4, 4][..])
+    );
+}

@@ -1,5 +1,0 @@
-use Rattle.std.proofs.Common.{rules}
-use Rattle.users.proofs.conditions.count_by_distance.Goals as goal
-
-pub new-groups-requires : goal.new-groups-requires
-new-groups-requires g c = search rules

@@ -1,5 +1,0 @@
-use Rattle.std.proofs.Common.{rules}
-use Rattle.users.proofs.conditions.count_equal_characters.Goals as goal
-
-pub new-requires : goal.new-requires
-new-requires c = search rules

@@ -1,5 +1,0 @@
-use Rattle.std.proofs.Common.{rules}
-use Rattle.users.proofs.conditions.three_outer_groups.Goals as goal
-
-pub walk-requires-clause-len : goal.walk-requires-clause-len
-walk-requires-clause-len c = search rules

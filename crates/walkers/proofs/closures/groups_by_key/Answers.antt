@@ -1,4 +1,0 @@
-use Rattle.walkers.proofs.closures.groups_by_key.Goals as goal
-
-pub new-groups-requires : goal.new-groups-requires
-new-groups-requires g c = c.always_callable_key.ensures _ _ c.requires.callable

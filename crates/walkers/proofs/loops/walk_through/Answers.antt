@@ -1,7 +1,0 @@
-use Rattle.std.proofs.Common.{length, arith, ap}
-use Rattle.walkers.proofs.loops.walk_through.Goals as goal
-
-pub returns : goal.returns
-returns g c none =
-    let run = c.each_pair_asked_once.ensures.whole c.new-groups.result c.walk.new.queue _ _ c.walk.ensures.chain none in
-    omega (arith, c.equality_judges.ensures.counts _ _ _ run, c.new-groups.ensures.asked, ap length c.new-groups.ensures.remainder)

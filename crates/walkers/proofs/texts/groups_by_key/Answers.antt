@@ -1,4 +1,0 @@
-use Rattle.walkers.proofs.texts.groups_by_key.Goals as goal
-
-pub new-groups-requires : goal.new-groups-requires
-new-groups-requires g c = c.always_callable_char_key.ensures _ _ c.requires.callable
