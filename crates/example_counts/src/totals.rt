@@ -3,7 +3,7 @@ ghost use Rattle.std.specs.Prelude.{◌≡◌, ◌≤◌, [], map, nat_eq};
 ghost use Rattle.std.specs.Ordering.{nat_cmp};
 ghost use Rattle.slice_group_by.specs.Judges.{by_key};
 ghost use Rattle.slice_group_by.specs.Searching.{IsCallableApart, IsSettledApart};
-ghost use Rattle.slice_group_by.specs.Gives.{seen};
+ghost use Rattle.slice_group_by.specs.Gives.{groups_of_mut};
 ghost use Rattle.slice_group_by.specs.Search.{NeverDescends};
 ghost use Rattle.slice_group_by.specs.Split.{split, concat};
 ghost use Rattle.example_counts.specs.Keys.{same_key};
@@ -12,7 +12,7 @@ ghost use Rattle.example_counts.specs.Totals.{total, kept};
 use crate::joins::Entry;
 use slice_group_by::ExponentialGroupByKeyMut;
 use slice_group_by::laws::{ascending_is_grouped, calls_take_pieces};
-use slice_group_by::loans::{Ended, settle};
+use slice_group_by::loans::{Ended, resolve};
 
 fn total_of(group: &[Entry]) -> u32
     requires { total group.now ≤ 4294967295 }
@@ -25,8 +25,8 @@ fn total_of(group: &[Entry]) -> u32
 fn totals_kept<'a, F: FnMut(&Entry) -> u32>(
     mut groups: ExponentialGroupByKeyMut<'a, Entry, F, u32>,
 ) -> Ended<'a, Entry>
-    requires callable { IsCallableApart (by_key F.FnMut nat_eq) (seen groups) }
-    requires settled { IsSettledApart (by_key F.FnMut nat_eq) (seen groups) same_key }
+    requires callable { IsCallableApart (by_key F.FnMut nat_eq) (groups_of_mut groups) }
+    requires settled { IsSettledApart (by_key F.FnMut nat_eq) (groups_of_mut groups) same_key }
     requires fits { total groups.remainder ≤ 4294967295 }
     requires before { groups.loans.before ≡ [] }
     requires after { groups.loans.after ≡ [] }
@@ -60,5 +60,5 @@ pub fn keep_totals(slice: &mut [Entry])
     requires fits { total slice.old ≤ 4294967295 }
     ensures { slice.new ≡ concat (map kept (split same_key slice.old)) }
 {
-    settle(slice, |part| totalled(part));
+    resolve(slice, |part| totalled(part));
 }

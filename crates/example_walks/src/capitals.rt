@@ -4,18 +4,18 @@ ghost use Rattle.std.specs.Str.{IsUtf8, str_to_ascii_uppercase};
 ghost use Rattle.std.specs.Char.{is_ascii_alphabetic};
 ghost use Rattle.slice_group_by.specs.Judges.{by_char_key};
 ghost use Rattle.slice_group_by.specs.Texts.{IsCallableText, IsSettledText};
-ghost use Rattle.slice_group_by.specs.TextsMut.{seen_text};
+ghost use Rattle.slice_group_by.specs.TextsMut.{text_groups_of_mut};
 
 use slice_group_by::LinearStrGroupByKeyMut;
 use slice_group_by::laws::calls_take_pieces;
-use slice_group_by::loans::{Ended, settle};
+use slice_group_by::loans::{Ended, resolve};
 
 // Makes each group of letters upper case, and leaves the other groups as they are.
 fn groups_capitalized<'a, F: FnMut(char) -> bool>(
     mut groups: LinearStrGroupByKeyMut<'a, F, bool>,
 ) -> Ended<'a, u8>
-    requires callable { IsCallableText (by_char_key F.FnMut ⟦<bool as PartialEq>⟧.eq) (seen_text groups) }
-    requires letters { IsSettledText (by_char_key F.FnMut ⟦<bool as PartialEq>⟧.eq) (seen_text groups)
+    requires callable { IsCallableText (by_char_key F.FnMut ⟦<bool as PartialEq>⟧.eq) (text_groups_of_mut groups) }
+    requires letters { IsSettledText (by_char_key F.FnMut ⟦<bool as PartialEq>⟧.eq) (text_groups_of_mut groups)
         (λ a b. ⟦<bool as PartialEq>⟧.eq (is_ascii_alphabetic a) (is_ascii_alphabetic b)) }
     requires before { groups.loans.before ≡ [] }
     requires after { groups.loans.after ≡ [] }
@@ -46,5 +46,5 @@ pub fn capitalize(bytes: &mut [u8])
     requires { IsUtf8 bytes.old }
     ensures { bytes.new ≡ str_to_ascii_uppercase bytes.old }
 {
-    settle(bytes, |part| capitalized(part));
+    resolve(bytes, |part| capitalized(part));
 }

@@ -1,6 +1,6 @@
 //! Groups in loops and through adapters of iterators: `count`, `rev`, `map`, `nth`, a `for`, and how many questions were asked.
 ghost use Rattle.std.specs.Prelude.{◌≡◌, ◌-◌, [], length, map, fold, max, slice_get, nat_eq, nat_lt};
-ghost use Rattle.slice_group_by.specs.Gives.{shown};
+ghost use Rattle.slice_group_by.specs.Gives.{groups_of};
 ghost use Rattle.slice_group_by.specs.Split.{split};
 
 use slice_group_by::laws::{each_pair_asked_once, equality_judges, sees_pieces};
@@ -62,7 +62,7 @@ pub fn walk_through<'a, T: PartialEq>(
     out: &mut [Option<&'a [T]>],
 ) -> LinearGroup<'a, T>
     requires { length out.old ≡ length ends.now }
-    ensures { (shown result).remainder ≡ [] → result.judge.asked ≡ length xs.now - 1 }
+    ensures { (groups_of result).remainder ≡ [] → result.judge.asked ≡ length xs.now - 1 }
 {
     let mut groups = LinearGroup::new(xs);
     each_pair_asked_once(&groups);

@@ -5,7 +5,7 @@ ghost use Rattle.slice_group_by.specs.Split.{concat, split};
 ghost use Rattle.example_walks.specs.LongGroups.{is_long, cleared_if_long};
 
 use slice_group_by::LinearGroupMut;
-use slice_group_by::loans::{Ended, settle, settle_and_return};
+use slice_group_by::loans::{Ended, resolve, resolve_and_return};
 
 // Each group is filled with its first element, and has ended.
 fn filled(slice: &mut [u8]) -> Ended<'_, u8>
@@ -25,7 +25,7 @@ fn filled(slice: &mut [u8]) -> Ended<'_, u8>
 pub fn fill_with_first(slice: &mut [u8])
     ensures { length slice.new ≡ length slice.old }
 {
-    settle(slice, |part| filled(part));
+    resolve(slice, |part| filled(part));
 }
 
 // Holds the first and the last group at once, and clears both: what stands between them stays.
@@ -57,7 +57,7 @@ pub fn clear_ends(slice: &mut [u8])
         × (slice.new ≡ replicate (length a) 0 ++ (b ++ replicate (length c) 0))
         × (a ≡ [] → b ≡ []) × (c ≡ [] → b ≡ []) }
 {
-    settle(slice, |part| ends_cleared(part));
+    resolve(slice, |part| ends_cleared(part));
 }
 
 // Clears each group, from the back.
@@ -77,7 +77,7 @@ fn all_cleared(slice: &mut [u8]) -> Ended<'_, u8>
 pub fn clear_all(slice: &mut [u8])
     ensures { slice.new ≡ replicate (length slice.old) 0 }
 {
-    settle(slice, |part| all_cleared(part));
+    resolve(slice, |part| all_cleared(part));
 }
 
 // Reverses each group in place.
@@ -98,7 +98,7 @@ fn reversed(slice: &mut [u8]) -> Ended<'_, u8>
 pub fn reverse_groups(slice: &mut [u8])
     ensures { slice.new ≡ concat (map reverse (split nat_eq slice.old)) }
 {
-    settle(slice, |part| reversed(part));
+    resolve(slice, |part| reversed(part));
 }
 
 // Clears each group of more than `max_len` elements, and counts those.
@@ -125,5 +125,5 @@ pub fn clear_long_groups(slice: &mut [u8], max_len: usize) -> usize
     ensures value { slice.new ≡ concat (map (cleared_if_long max_len) (split nat_eq slice.old)) }
     ensures count { result ≡ count_by (is_long max_len) (split nat_eq slice.old) }
 {
-    settle_and_return(slice, |part| long_cleared(part, max_len))
+    resolve_and_return(slice, |part| long_cleared(part, max_len))
 }

@@ -9,13 +9,13 @@ use Rattle.sgb_search.specs.Calls.{CallAt, IsGroupAt, between}
 use Rattle.sgb_search.proofs.Between.{between_places, places_between}
 use Rattle.sgb_search.proofs.Ranges.{length-range}
 use Rattle.sgb_groups.specs.declared.groups.SliceGroups.{SliceGroups}
-use Rattle.sgb_groups.specs.Gives.{shown, Gives, lies_within}
+use Rattle.sgb_groups.specs.Gives.{groups_of, Gives, lies_within}
 use Rattle.sgb_groups.proofs.Parts.{range_split}
 
 module _ {T J C : Type 0} (asks : End → List T → ℕ → J → J → Type 0) where
   pub call : (e : End) (s : SliceGroups T J C) (o : Option (Bor (List T))) (t : SliceGroups T J C) → Gives asks e s o t
-      → CallAt asks e (shown s) (option_copied o) (shown t)
-  call e s None t h = (h.0, ap shown h.1)
+      → CallAt asks e (groups_of s) (option_copied o) (groups_of t)
+  call e s None t h = (h.0, ap groups_of h.1)
   call e s (Some x) t h = h
 
 -- a place of a list is one that lies in it or at its end

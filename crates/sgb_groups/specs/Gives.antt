@@ -14,27 +14,27 @@ lies_within xs place = nat_le place (length xs)
 
 -- what contracts see of an iterator for reading: the elements that it has not handed out yet, which lie between its two places,
 -- and its judge
-abbrev pub shown : {T J C : Type 0} → SliceGroups T J C → Groups T J
-shown s = record { remainder = between (lies_within s.slice.now) s.slice.now s.low s.high; judge = s.judge }
+abbrev pub groups_of : {T J C : Type 0} → SliceGroups T J C → Groups T J
+groups_of s = record { remainder = between (lies_within s.slice.now) s.slice.now s.low s.high; judge = s.judge }
 
 -- what an iterator for writing shows of the same
-abbrev pub seen : {T J : Type 0} → GroupsMut T J → Groups T J
-seen s = record { remainder = s.remainder; judge = s.judge }
+abbrev pub groups_of_mut : {T J : Type 0} → GroupsMut T J → Groups T J
+groups_of_mut s = record { remainder = s.remainder; judge = s.judge }
 
 -- a call may be made, as for reading
 abbrev pub IsCallableByMut : {T J : Type 0} → (List T → T × T → Type 0) → Ghosts J T → GroupsMut T J → Type 0
-IsCallableByMut allowed g s = IsCallableBy allowed g (seen s)
+IsCallableByMut allowed g s = IsCallableBy allowed g (groups_of_mut s)
 
 -- asks: what a call asks, as of linear, binary or exponential groups
 
 -- what a call at the end e gives for reading: what `CallAt` says of what the two show, and where it gives `None` nothing at all changes
 abbrev pub Gives : {T J C : Type 0} → (End → List T → ℕ → J → J → Type 0)
     → End → SliceGroups T J C → Option (Bor (List T)) → SliceGroups T J C → Type 0
-Gives asks e s group t = MatchOption group (((shown s).remainder ≡ []) × (t ≡ s)) (λ x. IsGroupAt asks e (shown s) x.now (shown t))
+Gives asks e s group t = MatchOption group (((groups_of s).remainder ≡ []) × (t ≡ s)) (λ x. IsGroupAt asks e (groups_of s) x.now (groups_of t))
 
 -- what a call at the end e gives for writing: the same, and the group is out then; or nothing, and then nothing changes
 abbrev pub GivesMut : {T J : Type 0} → (End → List T → ℕ → J → J → Type 0)
     → End → GroupsMut T J → Option (MutBor (List T)) → GroupsMut T J → Type 0
 GivesMut asks e s group t =
-    CallAt asks e (seen s) (option_copied_mut group) (seen t)
+    CallAt asks e (groups_of_mut s) (option_copied_mut group) (groups_of_mut t)
     × MatchOption group (t ≡ s) (λ x. HandsOut e s.loans x.ghost_name t.loans)

@@ -11,7 +11,7 @@ use crate::groups_mut::SliceGroupsMut;
 use sgb_search::judge::EqualityJudge;
 
 impl<'a, T: PartialEq, C: GroupEnd> SliceGroups<'a, T, EqualityJudge, C> {
-    ghost use Rattle.sgb_groups.specs.Gives.{shown};
+    ghost use Rattle.sgb_groups.specs.Gives.{groups_of};
 
     /// All groups of equal elements of the slice, which are still to come. Nothing is asked yet.
     ///
@@ -19,18 +19,18 @@ impl<'a, T: PartialEq, C: GroupEnd> SliceGroups<'a, T, EqualityJudge, C> {
     /// is sorted.
     #[inline]
     pub fn new(slice: &'a [T]) -> Self
-        ensures remainder { (shown result).remainder ≡ slice.now }
+        ensures remainder { (groups_of result).remainder ≡ slice.now }
         ensures asked { result.judge.asked ≡ 0 }
-        ensures callable { IsCallableBy (C.allowed T) (by_equality T.eq) (shown result) }
-        ensures computes { ComputesBy (C.allowed T) (by_equality T.eq) (shown result) T.eq }
-        ensures settled { C.fits T T.eq slice.now → C.settled T EqualityJudge (by_equality T.eq) (shown result) T.eq }
+        ensures callable { IsCallableBy (C.allowed T) (by_equality T.eq) (groups_of result) }
+        ensures computes { ComputesBy (C.allowed T) (by_equality T.eq) (groups_of result) T.eq }
+        ensures settled { C.fits T T.eq slice.now → C.settled T EqualityJudge (by_equality T.eq) (groups_of result) T.eq }
     {
         SliceGroups::with_judge(slice, EqualityJudge::new())
     }
 }
 
 impl<'a, T: PartialEq, C: GroupEnd> SliceGroupsMut<'a, T, EqualityJudge, C> {
-    ghost use Rattle.sgb_groups.specs.Gives.{seen};
+    ghost use Rattle.sgb_groups.specs.Gives.{groups_of_mut};
 
     /// All groups of equal elements of the slice, which are still to come. Nothing is asked yet, and nothing is out.
     ///
@@ -40,9 +40,9 @@ impl<'a, T: PartialEq, C: GroupEnd> SliceGroupsMut<'a, T, EqualityJudge, C> {
     pub fn new(slice: &'a mut [T]) -> Self
         ensures remainder { result.remainder ≡ slice.old }
         ensures asked { result.judge.asked ≡ 0 }
-        ensures callable { IsCallableBy (C.allowed T) (by_equality T.eq) (seen result) }
-        ensures computes { ComputesBy (C.allowed T) (by_equality T.eq) (seen result) T.eq }
-        ensures settled { C.fits T T.eq slice.old → C.settled T EqualityJudge (by_equality T.eq) (seen result) T.eq }
+        ensures callable { IsCallableBy (C.allowed T) (by_equality T.eq) (groups_of_mut result) }
+        ensures computes { ComputesBy (C.allowed T) (by_equality T.eq) (groups_of_mut result) T.eq }
+        ensures settled { C.fits T T.eq slice.old → C.settled T EqualityJudge (by_equality T.eq) (groups_of_mut result) T.eq }
         ensures loans { NothingOut slice.entry.ghost_name result.loans }
     {
         SliceGroupsMut::with_judge(slice, EqualityJudge::new())

@@ -14,7 +14,7 @@ use sgb_search::judge::KeyJudge;
 type ByKey<'a, T, F, K, C> = SliceGroups<'a, T, KeyJudge<F, K>, C>;
 
 impl<'a, T, K: PartialEq + Drop, F: FnMut(&T) -> K, C: GroupEnd> ByKey<'a, T, F, K, C> {
-    ghost use Rattle.sgb_groups.specs.Gives.{shown};
+    ghost use Rattle.sgb_groups.specs.Gives.{groups_of};
 
     /// All groups of the slice by the key, which are still to come. Nothing is asked yet.
     ///
@@ -32,14 +32,14 @@ impl<'a, T, K: PartialEq + Drop, F: FnMut(&T) -> K, C: GroupEnd> ByKey<'a, T, F,
     pub fn new(slice: &'a [T], func: F) -> Self
         requires { IsCallableBy (C.allowed T) (by_key F.FnMut K.eq)
             (record { remainder = slice.now; judge = key_judge func }) }
-        ensures remainder { (shown result).remainder ≡ slice.now }
+        ensures remainder { (groups_of result).remainder ≡ slice.now }
         ensures judge { result.judge ≡ key_judge func }
-        ensures callable { IsCallableBy (C.allowed T) (by_key F.FnMut K.eq) (shown result) }
+        ensures callable { IsCallableBy (C.allowed T) (by_key F.FnMut K.eq) (groups_of result) }
         ensures computes { (key : T → K) → ComputesKey F.FnMut key func
-            → ComputesBy (C.allowed T) (by_key F.FnMut K.eq) (shown result) (λ x y. K.eq (key x) (key y)) }
+            → ComputesBy (C.allowed T) (by_key F.FnMut K.eq) (groups_of result) (λ x y. K.eq (key x) (key y)) }
         ensures settled { (key : T → K) → ComputesKey F.FnMut key func
             → C.fits T (λ x y. K.eq (key x) (key y)) slice.now
-            → C.settled T (KeyJudge F K) (by_key F.FnMut K.eq) (shown result) (λ x y. K.eq (key x) (key y)) }
+            → C.settled T (KeyJudge F K) (by_key F.FnMut K.eq) (groups_of result) (λ x y. K.eq (key x) (key y)) }
     {
         SliceGroups::with_judge(slice, KeyJudge::new(func))
     }
@@ -48,7 +48,7 @@ impl<'a, T, K: PartialEq + Drop, F: FnMut(&T) -> K, C: GroupEnd> ByKey<'a, T, F,
 type ByKeyMut<'a, T, F, K, C> = SliceGroupsMut<'a, T, KeyJudge<F, K>, C>;
 
 impl<'a, T, K: PartialEq + Drop, F: FnMut(&T) -> K, C: GroupEnd> ByKeyMut<'a, T, F, K, C> {
-    ghost use Rattle.sgb_groups.specs.Gives.{seen};
+    ghost use Rattle.sgb_groups.specs.Gives.{groups_of_mut};
 
     /// All groups of the slice by the key, which are still to come. Nothing is asked yet, and nothing is out.
     ///
@@ -59,12 +59,12 @@ impl<'a, T, K: PartialEq + Drop, F: FnMut(&T) -> K, C: GroupEnd> ByKeyMut<'a, T,
             (record { remainder = slice.old; judge = key_judge func }) }
         ensures remainder { result.remainder ≡ slice.old }
         ensures judge { result.judge ≡ key_judge func }
-        ensures callable { IsCallableBy (C.allowed T) (by_key F.FnMut K.eq) (seen result) }
+        ensures callable { IsCallableBy (C.allowed T) (by_key F.FnMut K.eq) (groups_of_mut result) }
         ensures computes { (key : T → K) → ComputesKey F.FnMut key func
-            → ComputesBy (C.allowed T) (by_key F.FnMut K.eq) (seen result) (λ x y. K.eq (key x) (key y)) }
+            → ComputesBy (C.allowed T) (by_key F.FnMut K.eq) (groups_of_mut result) (λ x y. K.eq (key x) (key y)) }
         ensures settled { (key : T → K) → ComputesKey F.FnMut key func
             → C.fits T (λ x y. K.eq (key x) (key y)) slice.old
-            → C.settled T (KeyJudge F K) (by_key F.FnMut K.eq) (seen result) (λ x y. K.eq (key x) (key y)) }
+            → C.settled T (KeyJudge F K) (by_key F.FnMut K.eq) (groups_of_mut result) (λ x y. K.eq (key x) (key y)) }
         ensures loans { NothingOut slice.entry.ghost_name result.loans }
     {
         SliceGroupsMut::with_judge(slice, KeyJudge::new(func))

@@ -12,7 +12,7 @@ use crate::groups_mut::SliceGroupsMut;
 use sgb_search::judge::PredicateJudge;
 
 impl<'a, T, P: FnMut(&T, &T) -> bool, C: GroupEnd> SliceGroups<'a, T, PredicateJudge<P>, C> {
-    ghost use Rattle.sgb_groups.specs.Gives.{shown};
+    ghost use Rattle.sgb_groups.specs.Gives.{groups_of};
 
     /// All groups of the slice by the predicate, which are still to come. Nothing is asked yet.
     ///
@@ -29,20 +29,20 @@ impl<'a, T, P: FnMut(&T, &T) -> bool, C: GroupEnd> SliceGroups<'a, T, PredicateJ
     pub fn new(slice: &'a [T], predicate: P) -> Self
         requires { IsCallableBy (C.allowed T) (by_predicate P.FnMut)
             (record { remainder = slice.now; judge = predicate_judge predicate }) }
-        ensures remainder { (shown result).remainder ≡ slice.now }
+        ensures remainder { (groups_of result).remainder ≡ slice.now }
         ensures judge { result.judge ≡ predicate_judge predicate }
-        ensures callable { IsCallableBy (C.allowed T) (by_predicate P.FnMut) (shown result) }
+        ensures callable { IsCallableBy (C.allowed T) (by_predicate P.FnMut) (groups_of result) }
         ensures computes { (p : T → T → Bool) → ComputesOnPairs P.FnMut p predicate
-            → ComputesBy (C.allowed T) (by_predicate P.FnMut) (shown result) p }
+            → ComputesBy (C.allowed T) (by_predicate P.FnMut) (groups_of result) p }
         ensures settled { (p : T → T → Bool) → ComputesOnPairs P.FnMut p predicate → C.fits T p slice.now
-            → C.settled T (PredicateJudge P) (by_predicate P.FnMut) (shown result) p }
+            → C.settled T (PredicateJudge P) (by_predicate P.FnMut) (groups_of result) p }
     {
         SliceGroups::with_judge(slice, PredicateJudge { predicate })
     }
 }
 
 impl<'a, T, P: FnMut(&T, &T) -> bool, C: GroupEnd> SliceGroupsMut<'a, T, PredicateJudge<P>, C> {
-    ghost use Rattle.sgb_groups.specs.Gives.{seen};
+    ghost use Rattle.sgb_groups.specs.Gives.{groups_of_mut};
 
     /// All groups of the slice by the predicate, which are still to come. Nothing is asked yet, and nothing is out.
     ///
@@ -53,11 +53,11 @@ impl<'a, T, P: FnMut(&T, &T) -> bool, C: GroupEnd> SliceGroupsMut<'a, T, Predica
             (record { remainder = slice.old; judge = predicate_judge predicate }) }
         ensures remainder { result.remainder ≡ slice.old }
         ensures judge { result.judge ≡ predicate_judge predicate }
-        ensures callable { IsCallableBy (C.allowed T) (by_predicate P.FnMut) (seen result) }
+        ensures callable { IsCallableBy (C.allowed T) (by_predicate P.FnMut) (groups_of_mut result) }
         ensures computes { (p : T → T → Bool) → ComputesOnPairs P.FnMut p predicate
-            → ComputesBy (C.allowed T) (by_predicate P.FnMut) (seen result) p }
+            → ComputesBy (C.allowed T) (by_predicate P.FnMut) (groups_of_mut result) p }
         ensures settled { (p : T → T → Bool) → ComputesOnPairs P.FnMut p predicate → C.fits T p slice.old
-            → C.settled T (PredicateJudge P) (by_predicate P.FnMut) (seen result) p }
+            → C.settled T (PredicateJudge P) (by_predicate P.FnMut) (groups_of_mut result) p }
         ensures loans { NothingOut slice.entry.ghost_name result.loans }
     {
         SliceGroupsMut::with_judge(slice, PredicateJudge { predicate })

@@ -13,7 +13,7 @@ use std::marker::PhantomData;
 
 /// An iterator over the groups of a slice, from both ends. `J` decides what belongs together, and `C` finds where a group ends.
 ///
-/// Contracts see of it the elements that it has not handed out yet, its `remainder`, and its `judge`: both are in `shown` of it.
+/// Contracts see of it the elements that it has not handed out yet, its `remainder`, and its `judge`: both are in `groups_of` of it.
 #[derive(Drop)]
 pub struct SliceGroups<'a, T, J, C> {
     slice: &'a [T],
@@ -25,12 +25,12 @@ pub struct SliceGroups<'a, T, J, C> {
 }
 
 impl<'a, T, J, C> SliceGroups<'a, T, J, C> {
-    ghost use Rattle.sgb_groups.specs.Gives.{shown};
+    ghost use Rattle.sgb_groups.specs.Gives.{groups_of};
 
     // All groups of the slice are still to come.
     #[inline]
     pub(crate) fn with_judge(slice: &'a [T], judge: J) -> Self
-        ensures remainder { (shown result).remainder ≡ slice.now }
+        ensures remainder { (groups_of result).remainder ≡ slice.now }
         ensures judge { result.judge ≡ judge }
     {
         SliceGroups {
@@ -45,7 +45,7 @@ impl<'a, T, J, C> SliceGroups<'a, T, J, C> {
     /// The elements that no call has handed out yet.
     #[inline]
     pub fn remainder(&self) -> &'a [T]
-        ensures { result.now ≡ (shown self.now).remainder }
+        ensures { result.now ≡ (groups_of self.now).remainder }
     {
         match self.places() {
             Some((low, high)) => &self.slice[low..high],
@@ -56,7 +56,7 @@ impl<'a, T, J, C> SliceGroups<'a, T, J, C> {
     // The places between which the remainder lies, where it is not empty, so that a call tests that once.
     #[inline]
     fn places(&self) -> Option<(usize, usize)>
-        ensures { MatchOption result ((shown self.now).remainder ≡ [])
+        ensures { MatchOption result ((groups_of self.now).remainder ≡ [])
             (λ p. (p.0 ≡ self.now.low) × (p.1 ≡ self.now.high) × (p.0 < p.1) × (p.1 ≤ length self.now.slice.now)) }
     {
         // That the places lie in order and within the slice is tested here, and not kept of the fields: what is kept of a struct
@@ -71,7 +71,7 @@ impl<'a, T, J, C> SliceGroups<'a, T, J, C> {
     /// How many elements no call has handed out yet.
     #[inline]
     pub fn remainder_len(&self) -> usize
-        ensures { result ≡ length (shown self.now).remainder }
+        ensures { result ≡ length (groups_of self.now).remainder }
     {
         self.remainder().len()
     }
@@ -79,7 +79,7 @@ impl<'a, T, J, C> SliceGroups<'a, T, J, C> {
     /// Whether all elements are handed out.
     #[inline]
     pub fn is_empty(&self) -> bool
-        ensures { result ≡ nat_eq (length (shown self.now).remainder) 0 }
+        ensures { result ≡ nat_eq (length (groups_of self.now).remainder) 0 }
     {
         self.remainder_len() == 0
     }
@@ -88,28 +88,28 @@ impl<'a, T, J, C> SliceGroups<'a, T, J, C> {
 impl<'a, T, J: Judge<T> + Drop, C: GroupEnd> Iterator for SliceGroups<'a, T, J, C> {
     type Item = &'a [T];
 
-    ghost use Rattle.sgb_groups.specs.Gives.{shown, Gives};
+    ghost use Rattle.sgb_groups.specs.Gives.{groups_of, Gives};
 
-    ghost can_next = { λ s. IsCallableBy (C.allowed T) J.Judge (shown s) };
+    ghost can_next = { λ s. IsCallableBy (C.allowed T) J.Judge (groups_of s) };
 
     ghost next_gives = { Gives (C.asks T J J.Judge) Front };
 
-    ghost remaining = { λ s. groups_to_come (shown s) };
+    ghost remaining = { λ s. groups_to_come (groups_of s) };
 
     /// The first group of the remainder, or `None` where nothing remains.
     #[inline]
     fn next(&mut self) -> Option<&'a [T]> {
-        self.take(&End::Front)
+        self.next_at(&End::Front)
     }
 
     /// No groups where nothing remains, and else at least one and at most as many as elements remain.
     #[inline]
     fn size_hint(&self) -> (usize, Option<usize>)
         ensures value { result
-            ≡ (if nat_eq (length (shown self.now).remainder) 0 then (0, Some 0)
-            else (1, Some (length (shown self.now).remainder))) }
-        ensures lower { IsWithinCount result.0 (groups_to_come (shown self.now)) }
-        ensures upper { IfSome result.1 (UpTo (groups_to_come (shown self.now))) }
+            ≡ (if nat_eq (length (groups_of self.now).remainder) 0 then (0, Some 0)
+            else (1, Some (length (groups_of self.now).remainder))) }
+        ensures lower { IsWithinCount result.0 (groups_to_come (groups_of self.now)) }
+        ensures upper { IfSome result.1 (UpTo (groups_to_come (groups_of self.now))) }
     {
         let len = self.remainder_len();
         (len.min(1), Some(len))
@@ -117,23 +117,23 @@ impl<'a, T, J: Judge<T> + Drop, C: GroupEnd> Iterator for SliceGroups<'a, T, J, 
 }
 
 impl<'a, T, J: Judge<T> + Drop, C: GroupEnd> DoubleEndedIterator for SliceGroups<'a, T, J, C> {
-    ghost use Rattle.sgb_groups.specs.Gives.{shown, Gives};
+    ghost use Rattle.sgb_groups.specs.Gives.{groups_of, Gives};
 
-    ghost can_next_back = { λ s. IsCallableBy (C.allowed T) J.Judge (shown s) };
+    ghost can_next_back = { λ s. IsCallableBy (C.allowed T) J.Judge (groups_of s) };
 
     ghost next_back_gives = { Gives (C.asks T J J.Judge) Back };
 
     /// The last group of the remainder, or `None` where nothing remains.
     #[inline]
     fn next_back(&mut self) -> Option<&'a [T]> {
-        self.take(&End::Back)
+        self.next_at(&End::Back)
     }
 }
 
 impl<'a, T, J: Judge<T> + Drop, C: GroupEnd> FusedIterator for SliceGroups<'a, T, J, C> {}
 
 impl<'a, T, J: Judge<T> + Drop, C: GroupEnd> SliceGroups<'a, T, J, C> {
-    ghost use Rattle.sgb_groups.specs.Gives.{shown, Gives};
+    ghost use Rattle.sgb_groups.specs.Gives.{groups_of, Gives};
     ghost use Rattle.sgb_groups.specs.declared.groups.SliceGroups.{SliceGroups};
 
     /// The last group of the remainder, or `None` where nothing remains: what `next_back` gives. The iterator is given up.
@@ -143,7 +143,7 @@ impl<'a, T, J: Judge<T> + Drop, C: GroupEnd> SliceGroups<'a, T, J, C> {
     /// is not grouped, binary and exponential groups may end with another there.
     #[inline]
     pub fn last(mut self) -> Option<&'a [T]>
-        requires { IsCallableBy (C.allowed T) J.Judge (shown self) }
+        requires { IsCallableBy (C.allowed T) J.Judge (groups_of self) }
         ensures { (t : SliceGroups T J C) × Gives (C.asks T J J.Judge) Back self.entry result t }
     {
         self.next_back()
@@ -151,10 +151,10 @@ impl<'a, T, J: Judge<T> + Drop, C: GroupEnd> SliceGroups<'a, T, J, C> {
 
     // The group at the end. Each caller names its end, and gets a copy for that end alone.
     #[inline(always)]
-    fn take(&mut self, end: &End) -> Option<&'a [T]>
-        requires { IsCallableBy (C.allowed T) J.Judge (shown self.old) }
+    fn next_at(&mut self, end: &End) -> Option<&'a [T]>
+        requires { IsCallableBy (C.allowed T) J.Judge (groups_of self.old) }
         ensures gives { Gives (C.asks T J J.Judge) end.now self.old result self.new }
-        ensures callable { IsCallableBy (C.allowed T) J.Judge (shown self.new) }
+        ensures callable { IsCallableBy (C.allowed T) J.Judge (groups_of self.new) }
     {
         let (low, high) = self.places()?;
         let slice = self.slice;

@@ -156,7 +156,7 @@ impl<'a, T, J: Judge<T> + Drop, C: GroupEnd> Iterator for SliceGroupsMut<'a, T, 
     /// The first group of the remainder, or `None` where nothing remains.
     #[inline]
     fn next(&mut self) -> Option<&'a mut [T]> {
-        self.take(&End::Front)
+        self.next_at(&End::Front)
     }
 
     /// No groups where nothing remains, and else at least one and at most as many as elements remain.
@@ -182,7 +182,7 @@ impl<'a, T, J: Judge<T> + Drop, C: GroupEnd> DoubleEndedIterator for SliceGroups
     /// The last group of the remainder, or `None` where nothing remains.
     #[inline]
     fn next_back(&mut self) -> Option<&'a mut [T]> {
-        self.take(&End::Back)
+        self.next_at(&End::Back)
     }
 }
 
@@ -207,7 +207,7 @@ impl<'a, T, J: Judge<T> + Drop, C: GroupEnd> SliceGroupsMut<'a, T, J, C> {
 
     // The group at the end. Each caller names its end, and gets a copy for that end alone.
     #[inline(always)]
-    fn take(&mut self, end: &End) -> Option<&'a mut [T]>
+    fn next_at(&mut self, end: &End) -> Option<&'a mut [T]>
         requires { IsCallableByMut (C.allowed T) J.Judge self.old }
         ensures gives { GivesMut (C.asks T J J.Judge) end.now self.old result self.new }
         ensures callable { IsCallableByMut (C.allowed T) J.Judge self.new }

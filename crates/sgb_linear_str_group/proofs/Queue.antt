@@ -14,7 +14,7 @@ use Rattle.sgb_search.proofs.LinearPairs.{asks_once}
 use Rattle.sgb_search.proofs.Calls as calls
 use Rattle.sgb_search.proofs.LinearQueue as list
 use Rattle.sgb_linear_str_group.specs.declared.groups.LinearStrGroups.{LinearStrGroups}
-use Rattle.sgb_linear_str_group.specs.Texts.{TextGroups, shown_text, in_characters, IsCallableText, IsSettledText, TextCallAt, GivesText}
+use Rattle.sgb_linear_str_group.specs.Texts.{TextGroups, text_groups_of, in_characters, IsCallableText, IsSettledText, TextCallAt, GivesText}
 
 module _ {J : Type 0} (g : Ghosts J ℕ) (e : End) where
   -- a call on a text is one on the list of its characters
@@ -25,8 +25,8 @@ module _ {J : Type 0} (g : Ghosts J ℕ) (e : End) where
 
   -- and a call for reading is one on what the iterator shows
   pub call : (s : LinearStrGroups J) (r : Option (Bor (List ℕ))) (t : LinearStrGroups J) → GivesText g e s r t
-      → TextCallAt g e (shown_text s) (option_copied r) (shown_text t)
-  call s None t h = (h.0, ap shown_text h.1)
+      → TextCallAt g e (text_groups_of s) (option_copied r) (text_groups_of t)
+  call s None t h = (h.0, ap text_groups_of h.1)
   call s (Some x) t h = h
 
   pub text_once : (s t : TextGroups J) (r : Option (List ℕ)) → TextCallAt g e s r t → AsksEachOnce g (in_characters s) (in_characters t)

@@ -30,8 +30,8 @@ abbrev pub text_between : List ℕ → ℕ → ℕ → List ℕ
 text_between text = between (lies_between_characters text) text
 
 -- what contracts see of an iterator for reading: the bytes that it has not handed out yet, and its judge
-abbrev pub shown_text : {J : Type 0} → LinearStrGroups J → TextGroups J
-shown_text s = record { text = text_between s.string.now s.low s.high; judge = s.judge }
+abbrev pub text_groups_of : {J : Type 0} → LinearStrGroups J → TextGroups J
+text_groups_of s = record { text = text_between s.string.now s.low s.high; judge = s.judge }
 
 -- no more groups come than bytes remain
 abbrev pub text_groups_to_come : {J : Type 0} → TextGroups J → Count
@@ -60,4 +60,4 @@ module _ {J : Type 0} (g : Ghosts J ℕ) where
 
   -- what a call at the end gives for reading: the same of what it shows, and where it gives `None` nothing at all changes
   abbrev pub GivesText : End → LinearStrGroups J → Option (Bor (List ℕ)) → LinearStrGroups J → Type 0
-  GivesText e s group t = MatchOption group (((shown_text s).text ≡ []) × (t ≡ s)) (λ x. IsTextAt e (shown_text s) x.now (shown_text t))
+  GivesText e s group t = MatchOption group (((text_groups_of s).text ≡ []) × (t ≡ s)) (λ x. IsTextAt e (text_groups_of s) x.now (text_groups_of t))

@@ -16,15 +16,15 @@ pub record TextGroupsMut (J : Type 0) : Type 0 where
   pub loans : Loans ℕ
 
 -- what an iterator for reading shows of the same
-abbrev pub seen_text : {J : Type 0} → TextGroupsMut J → TextGroups J
-seen_text s = record { text = s.text; judge = s.judge }
+abbrev pub text_groups_of_mut : {J : Type 0} → TextGroupsMut J → TextGroups J
+text_groups_of_mut s = record { text = s.text; judge = s.judge }
 
 -- no more groups come than bytes remain, as for reading
 abbrev pub text_groups_mut_to_come : {J : Type 0} → TextGroupsMut J → Count
-text_groups_mut_to_come s = text_groups_to_come (seen_text s)
+text_groups_mut_to_come s = text_groups_to_come (text_groups_of_mut s)
 
 -- what a call at the end gives for writing: what it gives for reading, and the group is out then; or nothing, and then nothing changes
 abbrev pub GivesTextMut : {J : Type 0} → Ghosts J ℕ → End → TextGroupsMut J → Option (MutBor (List ℕ)) → TextGroupsMut J → Type 0
 GivesTextMut g e s group t =
-    TextCallAt g e (seen_text s) (option_copied_mut group) (seen_text t)
+    TextCallAt g e (text_groups_of_mut s) (option_copied_mut group) (text_groups_of_mut t)
     × MatchOption group (t ≡ s) (λ x. HandsOut e s.loans x.ghost_name t.loans)

@@ -2,8 +2,8 @@
 ghost use Rattle.std.specs.Prelude.{◌≡◌, nat_eq};
 ghost use Rattle.std.specs.Str.{IsUtf8};
 ghost use Rattle.sgb_search.specs.Judges.{by_equality};
-ghost use Rattle.sgb_linear_str_group.specs.Texts.{shown_text, IsCallableText, IsSettledText};
-ghost use Rattle.sgb_linear_str_group.specs.TextsMut.{seen_text};
+ghost use Rattle.sgb_linear_str_group.specs.Texts.{text_groups_of, IsCallableText, IsSettledText};
+ghost use Rattle.sgb_linear_str_group.specs.TextsMut.{text_groups_of_mut};
 ghost use Rattle.sgb_loans.specs.Loans.{NothingOut};
 
 use crate::groups::LinearStrGroups;
@@ -35,10 +35,10 @@ impl<'a> LinearStrGroups<'a, EqualityJudge> {
     /// All groups of equal characters of the text, which are still to come. Nothing is asked yet.
     #[inline]
     pub fn new(string: &'a str) -> Self
-        ensures text { (shown_text result).text ≡ string.now }
+        ensures text { (text_groups_of result).text ≡ string.now }
         ensures asked { result.judge.asked ≡ 0 }
-        ensures callable { IsCallableText (by_equality nat_eq) (shown_text result) }
-        ensures settled { IsSettledText (by_equality nat_eq) (shown_text result) nat_eq }
+        ensures callable { IsCallableText (by_equality nat_eq) (text_groups_of result) }
+        ensures settled { IsSettledText (by_equality nat_eq) (text_groups_of result) nat_eq }
     {
         LinearStrGroups::with_judge(string, EqualityJudge::new())
     }
@@ -54,8 +54,8 @@ impl<'a> LinearStrGroupsMut<'a, EqualityJudge> {
         requires { IsUtf8 bytes.old }
         ensures text { result.text ≡ bytes.old }
         ensures asked { result.judge.asked ≡ 0 }
-        ensures callable { IsCallableText (by_equality nat_eq) (seen_text result) }
-        ensures settled { IsSettledText (by_equality nat_eq) (seen_text result) nat_eq }
+        ensures callable { IsCallableText (by_equality nat_eq) (text_groups_of_mut result) }
+        ensures settled { IsSettledText (by_equality nat_eq) (text_groups_of_mut result) nat_eq }
         ensures loans { NothingOut bytes.entry.ghost_name result.loans }
     {
         LinearStrGroupsMut::with_judge(bytes, EqualityJudge::new())

@@ -2,8 +2,8 @@
 ghost use Rattle.std.specs.Prelude.{◌≡◌, ℕ};
 ghost use Rattle.std.specs.Str.{IsUtf8};
 ghost use Rattle.sgb_search.specs.Judges.{by_char_key, char_key_judge, ComputesCharKey};
-ghost use Rattle.sgb_linear_str_group.specs.Texts.{shown_text, IsCallableText, IsSettledText};
-ghost use Rattle.sgb_linear_str_group.specs.TextsMut.{seen_text};
+ghost use Rattle.sgb_linear_str_group.specs.Texts.{text_groups_of, IsCallableText, IsSettledText};
+ghost use Rattle.sgb_linear_str_group.specs.TextsMut.{text_groups_of_mut};
 ghost use Rattle.sgb_loans.specs.Loans.{NothingOut};
 
 use crate::groups::LinearStrGroups;
@@ -47,11 +47,11 @@ impl<'a, K: PartialEq + Drop, F: FnMut(char) -> K> LinearStrGroups<'a, CharKeyJu
     pub fn new(string: &'a str, func: F) -> Self
         requires { IsCallableText (by_char_key F.FnMut K.eq)
             (record { text = string.now; judge = char_key_judge func }) }
-        ensures text { (shown_text result).text ≡ string.now }
+        ensures text { (text_groups_of result).text ≡ string.now }
         ensures judge { result.judge ≡ char_key_judge func }
-        ensures callable { IsCallableText (by_char_key F.FnMut K.eq) (shown_text result) }
+        ensures callable { IsCallableText (by_char_key F.FnMut K.eq) (text_groups_of result) }
         ensures settled { (key : ℕ → K) → ComputesCharKey F.FnMut key func
-            → IsSettledText (by_char_key F.FnMut K.eq) (shown_text result) (λ x y. K.eq (key x) (key y)) }
+            → IsSettledText (by_char_key F.FnMut K.eq) (text_groups_of result) (λ x y. K.eq (key x) (key y)) }
     {
         LinearStrGroups::with_judge(string, CharKeyJudge::new(func))
     }
@@ -70,9 +70,9 @@ impl<'a, K: PartialEq + Drop, F: FnMut(char) -> K> LinearStrGroupsMut<'a, CharKe
             (record { text = bytes.old; judge = char_key_judge func }) }
         ensures text { result.text ≡ bytes.old }
         ensures judge { result.judge ≡ char_key_judge func }
-        ensures callable { IsCallableText (by_char_key F.FnMut K.eq) (seen_text result) }
+        ensures callable { IsCallableText (by_char_key F.FnMut K.eq) (text_groups_of_mut result) }
         ensures settled { (key : ℕ → K) → ComputesCharKey F.FnMut key func
-            → IsSettledText (by_char_key F.FnMut K.eq) (seen_text result) (λ x y. K.eq (key x) (key y)) }
+            → IsSettledText (by_char_key F.FnMut K.eq) (text_groups_of_mut result) (λ x y. K.eq (key x) (key y)) }
         ensures loans { NothingOut bytes.entry.ghost_name result.loans }
     {
         LinearStrGroupsMut::with_judge(bytes, CharKeyJudge::new(func))

@@ -2,8 +2,8 @@
 ghost use Rattle.std.specs.Prelude.{◌≡◌, ℕ, Bool};
 ghost use Rattle.std.specs.Str.{IsUtf8};
 ghost use Rattle.sgb_search.specs.Judges.{by_char_predicate, char_predicate_judge, ComputesOnChars};
-ghost use Rattle.sgb_linear_str_group.specs.Texts.{shown_text, IsCallableText, IsSettledText};
-ghost use Rattle.sgb_linear_str_group.specs.TextsMut.{seen_text};
+ghost use Rattle.sgb_linear_str_group.specs.Texts.{text_groups_of, IsCallableText, IsSettledText};
+ghost use Rattle.sgb_linear_str_group.specs.TextsMut.{text_groups_of_mut};
 ghost use Rattle.sgb_loans.specs.Loans.{NothingOut};
 
 use crate::groups::LinearStrGroups;
@@ -46,11 +46,11 @@ impl<'a, P: FnMut(char, char) -> bool> LinearStrGroups<'a, CharPredicateJudge<P>
     pub fn new(string: &'a str, predicate: P) -> Self
         requires { IsCallableText (by_char_predicate P.FnMut)
             (record { text = string.now; judge = char_predicate_judge predicate }) }
-        ensures text { (shown_text result).text ≡ string.now }
+        ensures text { (text_groups_of result).text ≡ string.now }
         ensures judge { result.judge ≡ char_predicate_judge predicate }
-        ensures callable { IsCallableText (by_char_predicate P.FnMut) (shown_text result) }
+        ensures callable { IsCallableText (by_char_predicate P.FnMut) (text_groups_of result) }
         ensures settled { (p : ℕ → ℕ → Bool) → ComputesOnChars P.FnMut p predicate
-            → IsSettledText (by_char_predicate P.FnMut) (shown_text result) p }
+            → IsSettledText (by_char_predicate P.FnMut) (text_groups_of result) p }
     {
         LinearStrGroups::with_judge(string, CharPredicateJudge { predicate })
     }
@@ -69,9 +69,9 @@ impl<'a, P: FnMut(char, char) -> bool> LinearStrGroupsMut<'a, CharPredicateJudge
             (record { text = bytes.old; judge = char_predicate_judge predicate }) }
         ensures text { result.text ≡ bytes.old }
         ensures judge { result.judge ≡ char_predicate_judge predicate }
-        ensures callable { IsCallableText (by_char_predicate P.FnMut) (seen_text result) }
+        ensures callable { IsCallableText (by_char_predicate P.FnMut) (text_groups_of_mut result) }
         ensures settled { (p : ℕ → ℕ → Bool) → ComputesOnChars P.FnMut p predicate
-            → IsSettledText (by_char_predicate P.FnMut) (seen_text result) p }
+            → IsSettledText (by_char_predicate P.FnMut) (text_groups_of_mut result) p }
         ensures loans { NothingOut bytes.entry.ghost_name result.loans }
     {
         LinearStrGroupsMut::with_judge(bytes, CharPredicateJudge { predicate })

@@ -4,7 +4,7 @@ ghost use Rattle.std.specs.Str.{IsCharBoundary};
 ghost use Rattle.std.specs.Iterator.{UpTo};
 ghost use Rattle.std.specs.Iterator.SizeHint.{IsWithinCount};
 ghost use Rattle.sgb_search.specs.declared.end.End.TheVariants.{Front, Back};
-ghost use Rattle.sgb_linear_str_group.specs.Texts.{text_between, shown_text, text_groups_to_come};
+ghost use Rattle.sgb_linear_str_group.specs.Texts.{text_between, text_groups_of, text_groups_to_come};
 
 use crate::scan::split_group;
 use sgb_search::end::End;
@@ -13,7 +13,7 @@ use std::iter::FusedIterator;
 
 /// An iterator over the groups of a text, from both ends, that asks its judge about neighbouring characters.
 ///
-/// Contracts see of it, as `shown_text`, the bytes that it has not handed out yet and its judge.
+/// Contracts see of it, as `text_groups_of`, the bytes that it has not handed out yet and its judge.
 ///
 /// A call asks about the neighbouring characters of the remainder from its end on, the left one first from both ends, up
 /// to the first pair that the judge refuses. So a group of g characters costs g questions, or g - 1 if nothing remains
@@ -61,7 +61,7 @@ impl<'a, J> LinearStrGroups<'a, J> {
     // All groups of the text are still to come.
     #[inline]
     pub(crate) fn with_judge(string: &'a str, judge: J) -> Self
-        ensures text { (shown_text result).text ≡ string.now }
+        ensures text { (text_groups_of result).text ≡ string.now }
         ensures judge { result.judge ≡ judge }
     {
         LinearStrGroups {
@@ -75,7 +75,7 @@ impl<'a, J> LinearStrGroups<'a, J> {
     /// The characters that no call has handed out yet.
     #[inline]
     pub fn as_str(&self) -> &'a str
-        ensures { result.now ≡ (shown_text self.now).text }
+        ensures { result.now ≡ (text_groups_of self.now).text }
     {
         part(&End::Front, self.string, self.low, self.high)
     }
@@ -83,7 +83,7 @@ impl<'a, J> LinearStrGroups<'a, J> {
     /// How many bytes no call has handed out yet.
     #[inline]
     pub fn remainder_len(&self) -> usize
-        ensures { result ≡ length (shown_text self.now).text }
+        ensures { result ≡ length (text_groups_of self.now).text }
     {
         self.as_str().len()
     }
@@ -91,7 +91,7 @@ impl<'a, J> LinearStrGroups<'a, J> {
     /// Whether all characters are handed out.
     #[inline]
     pub fn is_empty(&self) -> bool
-        ensures { result ≡ nat_eq (length (shown_text self.now).text) 0 }
+        ensures { result ≡ nat_eq (length (text_groups_of self.now).text) 0 }
     {
         self.remainder_len() == 0
     }
@@ -102,24 +102,24 @@ impl<'a, J: Judge<char> + Drop> Iterator for LinearStrGroups<'a, J> {
 
     ghost use Rattle.sgb_linear_str_group.specs.Texts.{IsCallableText, GivesText};
 
-    ghost can_next = { λ s. IsCallableText J.Judge (shown_text s) };
+    ghost can_next = { λ s. IsCallableText J.Judge (text_groups_of s) };
 
     ghost next_gives = { GivesText J.Judge Front };
 
-    ghost remaining = { λ s. text_groups_to_come (shown_text s) };
+    ghost remaining = { λ s. text_groups_to_come (text_groups_of s) };
 
     /// The first group of the remainder, or `None` where nothing remains.
     #[inline(always)]
     fn next(&mut self) -> Option<&'a str> {
-        self.take(&End::Front)
+        self.next_at(&End::Front)
     }
 
     /// `(0, None)`, which says nothing of how many groups come.
     #[inline]
     fn size_hint(&self) -> (usize, Option<usize>)
         ensures value { result ≡ (0, None) }
-        ensures lower { IsWithinCount result.0 (text_groups_to_come (shown_text self.now)) }
-        ensures upper { IfSome result.1 (UpTo (text_groups_to_come (shown_text self.now))) }
+        ensures lower { IsWithinCount result.0 (text_groups_to_come (text_groups_of self.now)) }
+        ensures upper { IfSome result.1 (UpTo (text_groups_to_come (text_groups_of self.now))) }
     {
         (0, None)
     }
@@ -128,14 +128,14 @@ impl<'a, J: Judge<char> + Drop> Iterator for LinearStrGroups<'a, J> {
 impl<'a, J: Judge<char> + Drop> DoubleEndedIterator for LinearStrGroups<'a, J> {
     ghost use Rattle.sgb_linear_str_group.specs.Texts.{IsCallableText, GivesText};
 
-    ghost can_next_back = { λ s. IsCallableText J.Judge (shown_text s) };
+    ghost can_next_back = { λ s. IsCallableText J.Judge (text_groups_of s) };
 
     ghost next_back_gives = { GivesText J.Judge Back };
 
     /// The last group of the remainder, or `None` where nothing remains.
     #[inline(always)]
     fn next_back(&mut self) -> Option<&'a str> {
-        self.take(&End::Back)
+        self.next_at(&End::Back)
     }
 }
 
@@ -151,7 +151,7 @@ impl<'a, J: Judge<char> + Drop> LinearStrGroups<'a, J> {
     /// the last group alone.
     #[inline]
     pub fn last(mut self) -> Option<&'a str>
-        requires { IsCallableText J.Judge (shown_text self) }
+        requires { IsCallableText J.Judge (text_groups_of self) }
         ensures { (t : LinearStrGroups J) × GivesText J.Judge Back self.entry result t }
     {
         self.next_back()
@@ -159,10 +159,10 @@ impl<'a, J: Judge<char> + Drop> LinearStrGroups<'a, J> {
 
     // The group at the end. Each caller names its end, and gets a copy for that end alone.
     #[inline(always)]
-    fn take(&mut self, end: &End) -> Option<&'a str>
-        requires { IsCallableText J.Judge (shown_text self.old) }
+    fn next_at(&mut self, end: &End) -> Option<&'a str>
+        requires { IsCallableText J.Judge (text_groups_of self.old) }
         ensures gives { GivesText J.Judge end.now self.old result self.new }
-        ensures callable { IsCallableText J.Judge (shown_text self.new) }
+        ensures callable { IsCallableText J.Judge (text_groups_of self.new) }
     {
         let rest = part(end, self.string, self.low, self.high);
         let (group, left) = split_group(end, rest, &mut self.judge)?;

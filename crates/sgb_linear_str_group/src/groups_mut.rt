@@ -144,9 +144,9 @@ impl<'a, J: Judge<char> + Drop> Iterator for LinearStrGroupsMut<'a, J> {
     type Item = &'a mut [u8];
 
     ghost use Rattle.sgb_linear_str_group.specs.Texts.{IsCallableText};
-    ghost use Rattle.sgb_linear_str_group.specs.TextsMut.{seen_text, GivesTextMut};
+    ghost use Rattle.sgb_linear_str_group.specs.TextsMut.{text_groups_of_mut, GivesTextMut};
 
-    ghost can_next = { λ s. IsCallableText J.Judge (seen_text s) };
+    ghost can_next = { λ s. IsCallableText J.Judge (text_groups_of_mut s) };
 
     ghost next_gives = { GivesTextMut J.Judge Front };
 
@@ -156,7 +156,7 @@ impl<'a, J: Judge<char> + Drop> Iterator for LinearStrGroupsMut<'a, J> {
     /// questions, or g - 1 where nothing remains after it.
     #[inline]
     fn next(&mut self) -> Option<&'a mut [u8]> {
-        self.take(&End::Front)
+        self.next_at(&End::Front)
     }
 
     /// `(0, None)`, which says nothing of how many groups come.
@@ -172,9 +172,9 @@ impl<'a, J: Judge<char> + Drop> Iterator for LinearStrGroupsMut<'a, J> {
 
 impl<'a, J: Judge<char> + Drop> DoubleEndedIterator for LinearStrGroupsMut<'a, J> {
     ghost use Rattle.sgb_linear_str_group.specs.Texts.{IsCallableText};
-    ghost use Rattle.sgb_linear_str_group.specs.TextsMut.{seen_text, GivesTextMut};
+    ghost use Rattle.sgb_linear_str_group.specs.TextsMut.{text_groups_of_mut, GivesTextMut};
 
-    ghost can_next_back = { λ s. IsCallableText J.Judge (seen_text s) };
+    ghost can_next_back = { λ s. IsCallableText J.Judge (text_groups_of_mut s) };
 
     ghost next_back_gives = { GivesTextMut J.Judge Back };
 
@@ -182,7 +182,7 @@ impl<'a, J: Judge<char> + Drop> DoubleEndedIterator for LinearStrGroupsMut<'a, J
     /// questions, or g - 1 where nothing remains before it.
     #[inline]
     fn next_back(&mut self) -> Option<&'a mut [u8]> {
-        self.take(&End::Back)
+        self.next_at(&End::Back)
     }
 }
 
@@ -190,7 +190,7 @@ impl<'a, J: Judge<char> + Drop> FusedIterator for LinearStrGroupsMut<'a, J> {}
 
 impl<'a, J: Judge<char> + Drop> LinearStrGroupsMut<'a, J> {
     ghost use Rattle.sgb_linear_str_group.specs.Texts.{IsCallableText};
-    ghost use Rattle.sgb_linear_str_group.specs.TextsMut.{seen_text, GivesTextMut};
+    ghost use Rattle.sgb_linear_str_group.specs.TextsMut.{text_groups_of_mut, GivesTextMut};
 
     /// The bytes of the last group of the remainder, or `None` where nothing remains: what `next_back` gives, by its
     /// questions. The iterator is given up. `Iterator::last` walks all groups from the front.
@@ -200,7 +200,7 @@ impl<'a, J: Judge<char> + Drop> LinearStrGroupsMut<'a, J> {
     /// `next_back`, take note of the group, and `finish`.
     #[inline]
     pub fn last(mut self) -> Option<&'a mut [u8]>
-        requires { IsCallableText J.Judge (seen_text self) }
+        requires { IsCallableText J.Judge (text_groups_of_mut self) }
         ensures { (t : TextGroupsMut J) × GivesTextMut J.Judge Back self.entry result t }
     {
         self.next_back()
@@ -208,10 +208,10 @@ impl<'a, J: Judge<char> + Drop> LinearStrGroupsMut<'a, J> {
 
     // The group at the end. Each caller names its end, and gets a copy for that end alone.
     #[inline(always)]
-    fn take(&mut self, end: &End) -> Option<&'a mut [u8]>
-        requires { IsCallableText J.Judge (seen_text self.old) }
+    fn next_at(&mut self, end: &End) -> Option<&'a mut [u8]>
+        requires { IsCallableText J.Judge (text_groups_of_mut self.old) }
         ensures gives { GivesTextMut J.Judge end.now self.old result self.new }
-        ensures callable { IsCallableText J.Judge (seen_text self.new) }
+        ensures callable { IsCallableText J.Judge (text_groups_of_mut self.new) }
     {
         if self.bytes.len() == 0 {
             return None;

@@ -24,10 +24,10 @@ pub(crate) fn split_group<'a, J: Judge<char>>(
         (record { text = x.1.now; judge = judge.new })) }
 {
     let mut characters = text.chars();
-    let mut innermost = next_at(end, &mut characters)?;
+    let mut innermost = next_character(end, &mut characters)?;
     // What is left beyond `innermost`. While a question is asked, `characters` has taken off one character more.
     let mut rest = characters.as_str();
-    while let Some(beyond) = next_at(end, &mut characters) {
+    while let Some(beyond) = next_character(end, &mut characters) {
         let (left, right) = match end {
             End::Front => (innermost, beyond),
             End::Back => (beyond, innermost),
@@ -48,7 +48,7 @@ pub(crate) fn split_group<'a, J: Judge<char>>(
 
 /// Takes off the next character at the end, or gives `None` where none is left.
 #[inline(always)]
-fn next_at(end: &End, characters: &mut Chars<'_>) -> Option<char>
+fn next_character(end: &End, characters: &mut Chars<'_>) -> Option<char>
     requires { IsUtf8 (chars_rest characters.old) }
     ensures { MatchOption result (chars_rest characters.old ≡ [])
         (λ c. (chars_rest characters.old ≡ put_at end.now (encode_utf8 c) (chars_rest characters.new))

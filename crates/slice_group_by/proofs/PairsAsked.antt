@@ -11,7 +11,7 @@ use Rattle.sgb_search.proofs.Pairs.{length-neighbours}
 use Rattle.sgb_search.specs.Linear.{AsksEachOnce, LinearQuestions}
 use Rattle.sgb_groups.proofs.Cuts.{call}
 use Rattle.sgb_groups.specs.declared.groups.SliceGroups.{SliceGroups}
-use Rattle.sgb_groups.specs.Gives.{shown, seen, Gives, GivesMut}
+use Rattle.sgb_groups.specs.Gives.{groups_of, groups_of_mut, Gives, GivesMut}
 use Rattle.sgb_loans.specs.Loans.{GroupsMut}
 use Rattle.sgb_search.proofs.LinearPairs.{asks_none, asks_more, count_asked, asks_once}
 use Rattle.sgb_search.specs.declared.end.End.{End}
@@ -34,9 +34,9 @@ module _ {T J : Type 0} (g : Ghosts J T) where
       (a.questions, a.run, omega (arith, count_asked g s t a, length-neighbours s.remainder, ap (λ xs. length (neighbours xs)) z))
 
   pub reading_asks_once : {C : Type 0} (e : End) (s : SliceGroups T J C) (o : Option (Bor (List T))) (t : SliceGroups T J C)
-      → Gives (LinearQuestions g) e s o t → AsksEachOnce g (shown s) (shown t)
-  reading_asks_once e s o t h = asks_once g e (shown s) (option_copied o) (shown t) (call (LinearQuestions g) e s o t h)
+      → Gives (LinearQuestions g) e s o t → AsksEachOnce g (groups_of s) (groups_of t)
+  reading_asks_once e s o t h = asks_once g e (groups_of s) (option_copied o) (groups_of t) (call (LinearQuestions g) e s o t h)
 
   pub writing_asks_once : (e : End) (s : GroupsMut T J) (o : Option (MutBor (List T))) (t : GroupsMut T J)
-      → GivesMut (LinearQuestions g) e s o t → AsksEachOnce g (seen s) (seen t)
-  writing_asks_once e s o t h = asks_once g e (seen s) (option_copied_mut o) (seen t) h.0
+      → GivesMut (LinearQuestions g) e s o t → AsksEachOnce g (groups_of_mut s) (groups_of_mut t)
+  writing_asks_once e s o t h = asks_once g e (groups_of_mut s) (option_copied_mut o) (groups_of_mut t) h.0

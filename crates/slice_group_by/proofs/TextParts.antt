@@ -10,28 +10,28 @@ use Rattle.sgb_search.specs.declared.judge.Judge.{Ghosts}
 use Rattle.sgb_search.specs.Split.{TakesPart}
 use Rattle.sgb_search.specs.Linear.{AsksEachOnce}
 use Rattle.sgb_linear_str_group.specs.declared.groups.LinearStrGroups.{LinearStrGroups}
-use Rattle.sgb_linear_str_group.specs.Texts.{shown_text, in_characters, GivesText}
-use Rattle.sgb_linear_str_group.specs.TextsMut.{TextGroupsMut, seen_text, GivesTextMut}
+use Rattle.sgb_linear_str_group.specs.Texts.{text_groups_of, in_characters, GivesText}
+use Rattle.sgb_linear_str_group.specs.TextsMut.{TextGroupsMut, text_groups_of_mut, GivesTextMut}
 use Rattle.sgb_linear_str_group.proofs.Queue.{call, bytes_part, text_once}
 use Rattle.sgb_search.specs.declared.end.End.{End}
 use Rattle.slice_group_by.specs.Walk.{IsChain}
 
 module _ {J : Type 0} (g : Ghosts J ℕ) where
   pub text_part : (e : End) (s : LinearStrGroups J) (o : Option (Bor (List ℕ))) (t : LinearStrGroups J) → GivesText g e s o t
-      → TakesPart e (shown_text s).text (option_map (λ x. x.now) o) (shown_text t).text
-  text_part e s o t h = bytes_part g e shown_text (λ x. x.now) s o t (call g e s o t h)
+      → TakesPart e (text_groups_of s).text (option_map (λ x. x.now) o) (text_groups_of t).text
+  text_part e s o t h = bytes_part g e text_groups_of (λ x. x.now) s o t (call g e s o t h)
 
   pub text_part_mut : (e : End) (s : TextGroupsMut J) (o : Option (MutBor (List ℕ))) (t : TextGroupsMut J) → GivesTextMut g e s o t
       → TakesPart e s.text (option_map (λ x. x.now) o) t.text
-  text_part_mut e s o t h = bytes_part g e seen_text (λ x. x.now) s o t h.0
+  text_part_mut e s o t h = bytes_part g e text_groups_of_mut (λ x. x.now) s o t h.0
 
   pub reading_once : (e : End) (s : LinearStrGroups J) (o : Option (Bor (List ℕ))) (t : LinearStrGroups J) → GivesText g e s o t
-      → AsksEachOnce g (in_characters (shown_text s)) (in_characters (shown_text t))
-  reading_once e s o t h = text_once g e (shown_text s) (shown_text t) (option_map (λ x. x.now) o) (call g e s o t h)
+      → AsksEachOnce g (in_characters (text_groups_of s)) (in_characters (text_groups_of t))
+  reading_once e s o t h = text_once g e (text_groups_of s) (text_groups_of t) (option_map (λ x. x.now) o) (call g e s o t h)
 
   pub writing_once : (e : End) (s : TextGroupsMut J) (o : Option (MutBor (List ℕ))) (t : TextGroupsMut J) → GivesTextMut g e s o t
-      → AsksEachOnce g (in_characters (seen_text s)) (in_characters (seen_text t))
-  writing_once e s o t h = text_once g e (seen_text s) (seen_text t) (option_map (λ x. x.now) o) h.0
+      → AsksEachOnce g (in_characters (text_groups_of_mut s)) (in_characters (text_groups_of_mut t))
+  writing_once e s o t h = text_once g e (text_groups_of_mut s) (text_groups_of_mut t) (option_map (λ x. x.now) o) h.0
 
   utf8_read : (e : End) (s : LinearStrGroups J) (o : Option (Bor (List ℕ))) (t : LinearStrGroups J) → GivesText g e s o t
       → IfSome o (λ x. IsUtf8 x.now)

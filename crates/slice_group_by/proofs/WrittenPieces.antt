@@ -11,21 +11,21 @@ use Rattle.sgb_search.specs.Split.{put_at, concat, split}
 use Rattle.sgb_search.specs.Searching.{SearchCost, IsSettledApart, SearchQuestions}
 use Rattle.sgb_search.proofs.SearchQueue.{piece}
 use Rattle.sgb_loans.specs.Loans.{GroupsMut}
-use Rattle.sgb_groups.specs.Gives.{seen, GivesMut}
+use Rattle.sgb_groups.specs.Gives.{groups_of_mut, GivesMut}
 use Rattle.slice_group_by.proofs.Chains.{piece_and_others}
 
 -- a call leads from s to t, and a note from t to u
 module _ {T J : Type 0} (g : Ghosts J T) (p : T → T → Bool) (e : End) (s t u : GroupsMut T J) (x : MutBor (List T))
     (same : u.remainder ≡ t.remainder) (cost : SearchCost) where
-  pub search_piece : GivesMut (SearchQuestions g cost) e s (Some x) t → IsSettledApart g (seen s) p
+  pub search_piece : GivesMut (SearchQuestions g cost) e s (Some x) t → IsSettledApart g (groups_of_mut s) p
       → split p s.remainder ≡ put_at e (x.now ∷ []) (split p u.remainder)
   search_piece steps m =
-      piece_and_others e p _ _ _ (piece g cost e (seen s) (Some x.now) (seen t) p steps.0 m).0
+      piece_and_others e p _ _ _ (piece g cost e (groups_of_mut s) (Some x.now) (groups_of_mut t) p steps.0 m).0
       ∙ ap (λ l. put_at e (x.now ∷ []) (split p l)) (sym same)
 
-  pub search_settled : GivesMut (SearchQuestions g cost) e s (Some x) t → u.judge ≡ t.judge → IsSettledApart g (seen s) p
-      → IsSettledApart g (seen u) p
-  search_settled steps asked m = rw (same, asked) (piece g cost e (seen s) (Some x.now) (seen t) p steps.0 m).1
+  pub search_settled : GivesMut (SearchQuestions g cost) e s (Some x) t → u.judge ≡ t.judge → IsSettledApart g (groups_of_mut s) p
+      → IsSettledApart g (groups_of_mut u) p
+  search_settled steps asked m = rw (same, asked) (piece g cost e (groups_of_mut s) (Some x.now) (groups_of_mut t) p steps.0 m).1
 
 -- what is done, and after it what f makes of each piece to come, stays the same list when a group from the front is noted as f leaves it:
 -- for every judge and every way to find a group's end

@@ -11,7 +11,7 @@ ghost use Rattle.slice_group_by.specs.Chunks.{chunk_calls};
 ghost use Rattle.sgb_search.specs.Searching.{IsLocalEnd, ComputesApart, SearchQuestions};
 ghost use Rattle.sgb_groups.specs.declared.searching.Search.{Search};
 ghost use Rattle.sgb_groups.specs.declared.groups.SliceGroups.{SliceGroups};
-ghost use Rattle.sgb_groups.specs.Gives.{shown, seen, Gives, GivesMut};
+ghost use Rattle.sgb_groups.specs.Gives.{groups_of, groups_of_mut, Gives, GivesMut};
 ghost use Rattle.sgb_loans.specs.Loans.{GroupsMut};
 ghost use Rattle.sgb_search.specs.declared.end.End.{End};
 ghost use Rattle.slice_group_by.specs.Walk.{IsChain};
@@ -57,12 +57,12 @@ pub fn chunk_by_agrees<T, F: FnMut(&T, &T) -> bool, Q: GroupQueue<Element = T>>(
 /// group that ends at a local boundary, where the remainder reads from the call's end, and leaves such a judge.
 pub fn groups_end_locally<T, J: Judge<T>, S: GroupSearch>(_groups: &SearchGroups<'_, T, J, S>)
     ensures ends { (p : T → T → Bool) (e : End) (s t : SliceGroups T J (Search S)) (group : Bor (List T))
-        → ComputesApart J.Judge (shown s) p
+        → ComputesApart J.Judge (groups_of s) p
         → Gives (SearchQuestions J.Judge S.cost) e s (Some group) t
-        → IsLocalEnd (from e (shown s).remainder) p (length group.now) }
+        → IsLocalEnd (from e (groups_of s).remainder) p (length group.now) }
     ensures computes { (p : T → T → Bool) (e : End) (s t : SliceGroups T J (Search S)) (group : Bor (List T))
-        → ComputesApart J.Judge (shown s) p
-        → Gives (SearchQuestions J.Judge S.cost) e s (Some group) t → ComputesApart J.Judge (shown t) p }
+        → ComputesApart J.Judge (groups_of s) p
+        → Gives (SearchQuestions J.Judge S.cost) e s (Some group) t → ComputesApart J.Judge (groups_of t) p }
 {}
 
 /// The same of those for writing.
@@ -70,10 +70,10 @@ pub fn groups_end_locally_mut<T, J: Judge<T>, S: GroupSearch>(
     _groups: &SearchGroupsMut<'_, T, J, S>,
 )
     ensures ends { (p : T → T → Bool) (e : End) (s t : GroupsMut T J) (group : MutBor (List T))
-        → ComputesApart J.Judge (seen s) p
+        → ComputesApart J.Judge (groups_of_mut s) p
         → GivesMut (SearchQuestions J.Judge S.cost) e s (Some group) t
         → IsLocalEnd (from e s.remainder) p (length group.now) }
     ensures computes { (p : T → T → Bool) (e : End) (s t : GroupsMut T J) (group : MutBor (List T))
-        → ComputesApart J.Judge (seen s) p
-        → GivesMut (SearchQuestions J.Judge S.cost) e s (Some group) t → ComputesApart J.Judge (seen t) p }
+        → ComputesApart J.Judge (groups_of_mut s) p
+        → GivesMut (SearchQuestions J.Judge S.cost) e s (Some group) t → ComputesApart J.Judge (groups_of_mut t) p }
 {}

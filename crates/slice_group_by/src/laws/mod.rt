@@ -19,10 +19,10 @@ ghost use Rattle.sgb_search.specs.declared.end.End.TheVariants.{Front, Back};
 ghost use Rattle.sgb_search.specs.Linear.{AsksEachOnce, LinearQuestions};
 ghost use Rattle.sgb_linear_group.specs.declared.linear_group.Linear.{Linear};
 ghost use Rattle.sgb_groups.specs.declared.groups.SliceGroups.{SliceGroups};
-ghost use Rattle.sgb_groups.specs.Gives.{shown, seen, Gives, GivesMut};
+ghost use Rattle.sgb_groups.specs.Gives.{groups_of, groups_of_mut, Gives, GivesMut};
 ghost use Rattle.sgb_loans.specs.Loans.{GroupsMut};
-ghost use Rattle.sgb_linear_str_group.specs.Texts.{shown_text, in_characters, GivesText};
-ghost use Rattle.sgb_linear_str_group.specs.TextsMut.{TextGroupsMut, seen_text, GivesTextMut};
+ghost use Rattle.sgb_linear_str_group.specs.Texts.{text_groups_of, in_characters, GivesText};
+ghost use Rattle.sgb_linear_str_group.specs.TextsMut.{TextGroupsMut, text_groups_of_mut, GivesTextMut};
 ghost use Rattle.sgb_search.specs.Searching.{digits};
 ghost use Rattle.slice_group_by.specs.declared.laws.plans.Plan.{Plan};
 ghost use Rattle.slice_group_by.specs.Plans.{run, IsRight, IsHalvingPlan};
@@ -175,16 +175,16 @@ pub fn groups_still_come<Q: GroupQueue>(_queue: &Q)
 /// about no other: so until nothing remains of n > 0 elements it asks exactly n - 1 questions.
 pub fn each_pair_asked_once<T, J: Judge<T>>(_groups: &LinearGroups<'_, T, J>)
     ensures pairs { (s t : SliceGroups T J Linear) (ends : List End) (out : List (Option (Bor (List T))))
-        → IsChain (Gives (LinearQuestions J.Judge)) s ends out t → AsksEachOnce J.Judge (shown s) (shown t) }
+        → IsChain (Gives (LinearQuestions J.Judge)) s ends out t → AsksEachOnce J.Judge (groups_of s) (groups_of t) }
     ensures whole { (s t : SliceGroups T J Linear) (ends : List End) (out : List (Option (Bor (List T))))
-        → IsChain (Gives (LinearQuestions J.Judge)) s ends out t → (shown t).remainder ≡ []
-        → IsRunOf J.may_ask J.answers (length (shown s).remainder - 1) s.judge t.judge }
+        → IsChain (Gives (LinearQuestions J.Judge)) s ends out t → (groups_of t).remainder ≡ []
+        → IsRunOf J.may_ask J.answers (length (groups_of s).remainder - 1) s.judge t.judge }
 {}
 
 /// The same of linear groups for writing.
 pub fn each_pair_asked_once_mut<T, J: Judge<T>>(_groups: &LinearGroupsMut<'_, T, J>)
     ensures pairs { (s t : GroupsMut T J) (ends : List End) (out : List (Option (MutBor (List T))))
-        → IsChain (GivesMut (LinearQuestions J.Judge)) s ends out t → AsksEachOnce J.Judge (seen s) (seen t) }
+        → IsChain (GivesMut (LinearQuestions J.Judge)) s ends out t → AsksEachOnce J.Judge (groups_of_mut s) (groups_of_mut t) }
     ensures whole { (s t : GroupsMut T J) (ends : List End) (out : List (Option (MutBor (List T))))
         → IsChain (GivesMut (LinearQuestions J.Judge)) s ends out t → t.remainder ≡ []
         → IsRunOf J.may_ask J.answers (length s.remainder - 1) s.judge t.judge }
@@ -199,13 +199,13 @@ pub fn texts_join<J: Judge<char>>(_groups: &LinearStrGroups<'_, J>)
         ≡ map (option_map encodes) (map (option_map (λ group. chars group.now)) out) }
     ensures calls { (s t : LinearStrGroups J) (ends : List End) (out : List (Option (Bor (List ℕ))))
         → IsChain (GivesText J.Judge) s ends out t
-        → Partition ends (map (option_map (λ group. group.now)) out) (shown_text t).text (shown_text s).text }
+        → Partition ends (map (option_map (λ group. group.now)) out) (text_groups_of t).text (text_groups_of s).text }
     ensures part { (e : End) (s t : LinearStrGroups J) (groups : List (Bor (List ℕ)))
         → Yields (GivesText J.Judge e) s groups t
-        → put_at e (concat (from e (map (λ group. group.now) groups))) (shown_text t).text ≡ (shown_text s).text }
+        → put_at e (concat (from e (map (λ group. group.now) groups))) (text_groups_of t).text ≡ (text_groups_of s).text }
     ensures whole { (e : End) (s : LinearStrGroups J) (groups : List (Bor (List ℕ)))
         → Drains (GivesText J.Judge e) s groups
-        → concat (from e (map (λ group. group.now) groups)) ≡ (shown_text s).text }
+        → concat (from e (map (λ group. group.now) groups)) ≡ (text_groups_of s).text }
 {}
 
 /// The same of the bytes of a text for writing. Each group of a list of calls is UTF-8, as it was when it was handed out.
@@ -248,17 +248,17 @@ pub fn text_chains_hand_out<J: Judge<char>>(_groups: &LinearStrGroupsMut<'_, J>)
 pub fn each_char_pair_asked_once<J: Judge<char>>(_groups: &LinearStrGroups<'_, J>)
     ensures pairs { (s t : LinearStrGroups J) (ends : List End) (out : List (Option (Bor (List ℕ))))
         → IsChain (GivesText J.Judge) s ends out t
-        → AsksEachOnce J.Judge (in_characters (shown_text s)) (in_characters (shown_text t)) }
+        → AsksEachOnce J.Judge (in_characters (text_groups_of s)) (in_characters (text_groups_of t)) }
     ensures whole { (s t : LinearStrGroups J) (ends : List End) (out : List (Option (Bor (List ℕ))))
-        → IsChain (GivesText J.Judge) s ends out t → (shown_text t).text ≡ []
-        → IsRunOf J.may_ask J.answers (length (chars (shown_text s).text) - 1) s.judge t.judge }
+        → IsChain (GivesText J.Judge) s ends out t → (text_groups_of t).text ≡ []
+        → IsRunOf J.may_ask J.answers (length (chars (text_groups_of s).text) - 1) s.judge t.judge }
 {}
 
 /// The same of the bytes of a text for writing.
 pub fn each_char_pair_asked_once_mut<J: Judge<char>>(_groups: &LinearStrGroupsMut<'_, J>)
     ensures pairs { (s t : TextGroupsMut J) (ends : List End) (out : List (Option (MutBor (List ℕ))))
         → IsChain (GivesTextMut J.Judge) s ends out t
-        → AsksEachOnce J.Judge (in_characters (seen_text s)) (in_characters (seen_text t)) }
+        → AsksEachOnce J.Judge (in_characters (text_groups_of_mut s)) (in_characters (text_groups_of_mut t)) }
     ensures whole { (s t : TextGroupsMut J) (ends : List End) (out : List (Option (MutBor (List ℕ))))
         → IsChain (GivesTextMut J.Judge) s ends out t → t.text ≡ []
         → IsRunOf J.may_ask J.answers (length (chars s.text) - 1) s.judge t.judge }

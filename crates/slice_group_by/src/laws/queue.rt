@@ -78,7 +78,7 @@ pub trait GroupQueue {
 
     ghost asked_more: { (q r t : Self) (k m : ℕ) → asked q r k → asked r t m → asked q t (k + m) };
 
-    ghost asks: { (e : End) (q : Self) (group : Option Self.Item) (t : Self) → gives e q group t
+    ghost asks_due: { (e : End) (q : Self) (group : Option Self.Item) (t : Self) → gives e q group t
         → AsksWithin asked due exact q t };
 }
 
@@ -86,12 +86,12 @@ pub trait GroupQueue {
 ///
 /// Code that is generic over the queue asks for this in place of `GroupQueue` where it reads the groups' elements.
 pub trait SliceQueue<'a, T: 'a>: GroupQueue<Item = &'a [T], Element = T> {
-    ghost holds: { (group : Bor (List T)) → Self.GroupQueue.shows group ≡ group.now };
+    ghost shows_now: { (group : Bor (List T)) → Self.GroupQueue.shows group ≡ group.now };
 }
 
 /// A queue whose groups are slices for writing: what a group shows is what it holds when it is given.
 pub trait SliceQueueMut<'a, T: 'a>: GroupQueue<Item = &'a mut [T], Element = T> {
-    ghost holds: { (group : MutBor (List T)) → Self.GroupQueue.shows group ≡ group.now };
+    ghost shows_now: { (group : MutBor (List T)) → Self.GroupQueue.shows group ≡ group.now };
 }
 
 #[inline]

@@ -3,7 +3,7 @@ ghost use Rattle.std.specs.Prelude.{◌≡◌, nat_eq};
 ghost use Rattle.slice_group_by.specs.Ranks.{ranks};
 
 use crate::laws::calls_take_pieces;
-use crate::loans::{Ended, settle};
+use crate::loans::{Ended, resolve};
 use sgb_linear_group::linear_group::LinearGroupMut;
 
 fn ranked(slice: &mut [usize]) -> Ended<'_, usize>
@@ -34,5 +34,5 @@ fn ranked(slice: &mut [usize]) -> Ended<'_, usize>
 pub fn rank_groups(slice: &mut [usize])
     ensures { slice.new ≡ ranks nat_eq slice.old }
 {
-    settle(slice, |part| ranked(part));
+    resolve(slice, |part| ranked(part));
 }

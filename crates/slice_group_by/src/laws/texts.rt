@@ -12,26 +12,26 @@ impl<'a, J: Judge<char> + Drop> GroupQueue for LinearStrGroups<'a, J> {
     ghost use Rattle.sgb_search.specs.Split.{neighbours};
     ghost use Rattle.sgb_search.specs.Judges.{IsRunOf};
     ghost use Rattle.sgb_search.proofs.Runs.{run_of_none, run_of_more};
-    ghost use Rattle.sgb_linear_str_group.specs.Texts.{shown_text, IsCallableText, IsSettledText, GivesText};
+    ghost use Rattle.sgb_linear_str_group.specs.Texts.{text_groups_of, IsCallableText, IsSettledText, GivesText};
     ghost use Rattle.sgb_linear_str_group.proofs.Queue as laws;
 
     type Element = char;
 
-    ghost remainder = { λ q. chars (shown_text q).text };
+    ghost remainder = { λ q. chars (text_groups_of q).text };
 
     ghost shows = { λ group. chars group.now };
 
-    ghost is_settled = { λ q. IsSettledText J.Judge (shown_text q) };
+    ghost is_settled = { λ q. IsSettledText J.Judge (text_groups_of q) };
 
     ghost gives = { GivesText J.Judge };
 
     ghost asked = { λ q r n. IsRunOf J.may_ask J.answers n q.judge r.judge };
 
-    ghost due = { λ q. length (neighbours (chars (shown_text q).text)) };
+    ghost due = { λ q. length (neighbours (chars (text_groups_of q).text)) };
 
     ghost exact = { true };
 
-    ghost can_pop = { λ q. IsCallableText J.Judge (shown_text q) };
+    ghost can_pop = { λ q. IsCallableText J.Judge (text_groups_of q) };
 
     #[inline]
     fn pop_front(&mut self) -> Option<&'a str> {
@@ -43,22 +43,22 @@ impl<'a, J: Judge<char> + Drop> GroupQueue for LinearStrGroups<'a, J> {
         self.next_back()
     }
 
-    ghost part = { λ e q r t h. laws.part J.Judge e shown_text (λ group. group.now) q r t
+    ghost part = { λ e q r t h. laws.part J.Judge e text_groups_of (λ group. group.now) q r t
         (laws.call J.Judge e q r t h) };
 
     ghost none = { λ _ _ _ h. h.1 };
 
-    ghost piece = { λ e q r t p h. laws.piece J.Judge e shown_text (λ group. group.now) q r t
+    ghost piece = { λ e q r t p h. laws.piece J.Judge e text_groups_of (λ group. group.now) q r t
         (laws.call J.Judge e q r t h) p };
 
-    ghost keeps = { λ e q r t h. laws.keeps J.Judge e shown_text (λ group. group.now) q r t
+    ghost keeps = { λ e q r t h. laws.keeps J.Judge e text_groups_of (λ group. group.now) q r t
         (laws.call J.Judge e q r t h) };
 
     ghost asked_none = { λ q. run_of_none J.may_ask J.answers q.judge };
 
     ghost asked_more = { λ q r t. run_of_more J.may_ask J.answers q.judge r.judge t.judge };
 
-    ghost asks = { λ e q r t h. laws.asks J.Judge e shown_text (λ group. group.now) q r t
+    ghost asks_due = { λ e q r t h. laws.asks J.Judge e text_groups_of (λ group. group.now) q r t
         (laws.call J.Judge e q r t h) };
 }
 
@@ -72,7 +72,7 @@ impl<'a, J: Judge<char> + Drop> GroupQueue for LinearStrGroupsMut<'a, J> {
     ghost use Rattle.sgb_search.specs.Judges.{IsRunOf};
     ghost use Rattle.sgb_search.proofs.Runs.{run_of_none, run_of_more};
     ghost use Rattle.sgb_linear_str_group.specs.Texts.{IsCallableText, IsSettledText};
-    ghost use Rattle.sgb_linear_str_group.specs.TextsMut.{seen_text, GivesTextMut};
+    ghost use Rattle.sgb_linear_str_group.specs.TextsMut.{text_groups_of_mut, GivesTextMut};
     ghost use Rattle.sgb_linear_str_group.proofs.Queue as laws;
 
     type Element = char;
@@ -81,7 +81,7 @@ impl<'a, J: Judge<char> + Drop> GroupQueue for LinearStrGroupsMut<'a, J> {
 
     ghost shows = { λ group. chars group.now };
 
-    ghost is_settled = { λ q. IsSettledText J.Judge (seen_text q) };
+    ghost is_settled = { λ q. IsSettledText J.Judge (text_groups_of_mut q) };
 
     ghost gives = { GivesTextMut J.Judge };
 
@@ -91,7 +91,7 @@ impl<'a, J: Judge<char> + Drop> GroupQueue for LinearStrGroupsMut<'a, J> {
 
     ghost exact = { true };
 
-    ghost can_pop = { λ q. IsCallableText J.Judge (seen_text q) };
+    ghost can_pop = { λ q. IsCallableText J.Judge (text_groups_of_mut q) };
 
     #[inline]
     fn pop_front(&mut self) -> Option<&'a mut [u8]> {
@@ -103,17 +103,17 @@ impl<'a, J: Judge<char> + Drop> GroupQueue for LinearStrGroupsMut<'a, J> {
         self.next_back()
     }
 
-    ghost part = { λ e q r t h. laws.part J.Judge e seen_text (λ group. group.now) q r t h.0 };
+    ghost part = { λ e q r t h. laws.part J.Judge e text_groups_of_mut (λ group. group.now) q r t h.0 };
 
     ghost none = { λ _ _ _ h. h.1 };
 
-    ghost piece = { λ e q r t p h. laws.piece J.Judge e seen_text (λ group. group.now) q r t h.0 p };
+    ghost piece = { λ e q r t p h. laws.piece J.Judge e text_groups_of_mut (λ group. group.now) q r t h.0 p };
 
-    ghost keeps = { λ e q r t h. laws.keeps J.Judge e seen_text (λ group. group.now) q r t h.0 };
+    ghost keeps = { λ e q r t h. laws.keeps J.Judge e text_groups_of_mut (λ group. group.now) q r t h.0 };
 
     ghost asked_none = { λ q. run_of_none J.may_ask J.answers q.judge };
 
     ghost asked_more = { λ q r t. run_of_more J.may_ask J.answers q.judge r.judge t.judge };
 
-    ghost asks = { λ e q r t h. laws.asks J.Judge e seen_text (λ group. group.now) q r t h.0 };
+    ghost asks_due = { λ e q r t h. laws.asks J.Judge e text_groups_of_mut (λ group. group.now) q r t h.0 };
 }

@@ -5,7 +5,7 @@ ghost use Rattle.sgb_search.specs.Judges.{by_predicate, predicate_judge, by_key,
 ghost use Rattle.sgb_search.specs.Split.{IsGrouped};
 ghost use Rattle.sgb_search.specs.Linear.{IsCallable, IsSettled};
 ghost use Rattle.sgb_search.specs.Searching.{IsCallableApart, ComputesApart, IsSettledApart};
-ghost use Rattle.sgb_groups.specs.Gives.{shown};
+ghost use Rattle.sgb_groups.specs.Gives.{groups_of};
 
 use crate::traits::holders::Elements;
 use sgb_binary_group::binary_group::{BinaryGroup, BinaryGroupBy, BinaryGroupByKey};
@@ -34,11 +34,11 @@ pub trait GroupBy<T>: Elements<T> {
         K: PartialEq + Drop,
         requires { IsCallable (by_key F.FnMut K.eq)
             (record { remainder = Self.items self.now; judge = key_judge func }) }
-        ensures remainder { (shown result).remainder ≡ Self.items self.now }
+        ensures remainder { (groups_of result).remainder ≡ Self.items self.now }
         ensures judge { result.judge ≡ key_judge func }
-        ensures callable { IsCallable (by_key F.FnMut K.eq) (shown result) }
+        ensures callable { IsCallable (by_key F.FnMut K.eq) (groups_of result) }
         ensures settled { (key : T → K) → ComputesKey F.FnMut key func
-            → IsSettled (by_key F.FnMut K.eq) (shown result) (λ x y. K.eq (key x) (key y)) }
+            → IsSettled (by_key F.FnMut K.eq) (groups_of result) (λ x y. K.eq (key x) (key y)) }
     {
         LinearGroupByKey::new(self.as_slice(), func)
     }
@@ -48,11 +48,11 @@ pub trait GroupBy<T>: Elements<T> {
     fn linear_group_by<P: FnMut(&T, &T) -> bool>(&self, predicate: P) -> LinearGroupBy<'_, T, P>
         requires { IsCallable (by_predicate P.FnMut)
             (record { remainder = Self.items self.now; judge = predicate_judge predicate }) }
-        ensures remainder { (shown result).remainder ≡ Self.items self.now }
+        ensures remainder { (groups_of result).remainder ≡ Self.items self.now }
         ensures judge { result.judge ≡ predicate_judge predicate }
-        ensures callable { IsCallable (by_predicate P.FnMut) (shown result) }
+        ensures callable { IsCallable (by_predicate P.FnMut) (groups_of result) }
         ensures settled { (p : T → T → Bool) → ComputesOnPairs P.FnMut p predicate
-            → IsSettled (by_predicate P.FnMut) (shown result) p }
+            → IsSettled (by_predicate P.FnMut) (groups_of result) p }
     {
         LinearGroupBy::new(self.as_slice(), predicate)
     }
@@ -62,10 +62,10 @@ pub trait GroupBy<T>: Elements<T> {
     fn linear_group(&self) -> LinearGroup<'_, T>
     where
         T: PartialEq,
-        ensures remainder { (shown result).remainder ≡ Self.items self.now }
+        ensures remainder { (groups_of result).remainder ≡ Self.items self.now }
         ensures asked { result.judge.asked ≡ 0 }
-        ensures callable { IsCallable (by_equality T.eq) (shown result) }
-        ensures settled { IsSettled (by_equality T.eq) (shown result) T.eq }
+        ensures callable { IsCallable (by_equality T.eq) (groups_of result) }
+        ensures settled { IsSettled (by_equality T.eq) (groups_of result) T.eq }
     {
         LinearGroup::new(self.as_slice())
     }
@@ -78,14 +78,14 @@ pub trait GroupBy<T>: Elements<T> {
         K: PartialEq + Drop,
         requires { IsCallableApart (by_key F.FnMut K.eq)
             (record { remainder = Self.items self.now; judge = key_judge func }) }
-        ensures remainder { (shown result).remainder ≡ Self.items self.now }
+        ensures remainder { (groups_of result).remainder ≡ Self.items self.now }
         ensures judge { result.judge ≡ key_judge func }
-        ensures callable { IsCallableApart (by_key F.FnMut K.eq) (shown result) }
+        ensures callable { IsCallableApart (by_key F.FnMut K.eq) (groups_of result) }
         ensures computes { (key : T → K) → ComputesKey F.FnMut key func
-            → ComputesApart (by_key F.FnMut K.eq) (shown result) (λ x y. K.eq (key x) (key y)) }
+            → ComputesApart (by_key F.FnMut K.eq) (groups_of result) (λ x y. K.eq (key x) (key y)) }
         ensures settled { (key : T → K) → ComputesKey F.FnMut key func
             → IsGrouped (λ x y. K.eq (key x) (key y)) (Self.items self.now)
-            → IsSettledApart (by_key F.FnMut K.eq) (shown result) (λ x y. K.eq (key x) (key y)) }
+            → IsSettledApart (by_key F.FnMut K.eq) (groups_of result) (λ x y. K.eq (key x) (key y)) }
     {
         BinaryGroupByKey::new(self.as_slice(), func)
     }
@@ -95,13 +95,13 @@ pub trait GroupBy<T>: Elements<T> {
     fn binary_group_by<P: FnMut(&T, &T) -> bool>(&self, predicate: P) -> BinaryGroupBy<'_, T, P>
         requires { IsCallableApart (by_predicate P.FnMut)
             (record { remainder = Self.items self.now; judge = predicate_judge predicate }) }
-        ensures remainder { (shown result).remainder ≡ Self.items self.now }
+        ensures remainder { (groups_of result).remainder ≡ Self.items self.now }
         ensures judge { result.judge ≡ predicate_judge predicate }
-        ensures callable { IsCallableApart (by_predicate P.FnMut) (shown result) }
+        ensures callable { IsCallableApart (by_predicate P.FnMut) (groups_of result) }
         ensures computes { (p : T → T → Bool) → ComputesOnPairs P.FnMut p predicate
-            → ComputesApart (by_predicate P.FnMut) (shown result) p }
+            → ComputesApart (by_predicate P.FnMut) (groups_of result) p }
         ensures settled { (p : T → T → Bool) → ComputesOnPairs P.FnMut p predicate → IsGrouped p (Self.items self.now)
-            → IsSettledApart (by_predicate P.FnMut) (shown result) p }
+            → IsSettledApart (by_predicate P.FnMut) (groups_of result) p }
     {
         BinaryGroupBy::new(self.as_slice(), predicate)
     }
@@ -111,11 +111,11 @@ pub trait GroupBy<T>: Elements<T> {
     fn binary_group(&self) -> BinaryGroup<'_, T>
     where
         T: PartialEq,
-        ensures remainder { (shown result).remainder ≡ Self.items self.now }
+        ensures remainder { (groups_of result).remainder ≡ Self.items self.now }
         ensures asked { result.judge.asked ≡ 0 }
-        ensures callable { IsCallableApart (by_equality T.eq) (shown result) }
-        ensures computes { ComputesApart (by_equality T.eq) (shown result) T.eq }
-        ensures settled { IsGrouped T.eq (Self.items self.now) → IsSettledApart (by_equality T.eq) (shown result) T.eq }
+        ensures callable { IsCallableApart (by_equality T.eq) (groups_of result) }
+        ensures computes { ComputesApart (by_equality T.eq) (groups_of result) T.eq }
+        ensures settled { IsGrouped T.eq (Self.items self.now) → IsSettledApart (by_equality T.eq) (groups_of result) T.eq }
     {
         BinaryGroup::new(self.as_slice())
     }
@@ -128,14 +128,14 @@ pub trait GroupBy<T>: Elements<T> {
         K: PartialEq + Drop,
         requires { IsCallableApart (by_key F.FnMut K.eq)
             (record { remainder = Self.items self.now; judge = key_judge func }) }
-        ensures remainder { (shown result).remainder ≡ Self.items self.now }
+        ensures remainder { (groups_of result).remainder ≡ Self.items self.now }
         ensures judge { result.judge ≡ key_judge func }
-        ensures callable { IsCallableApart (by_key F.FnMut K.eq) (shown result) }
+        ensures callable { IsCallableApart (by_key F.FnMut K.eq) (groups_of result) }
         ensures computes { (key : T → K) → ComputesKey F.FnMut key func
-            → ComputesApart (by_key F.FnMut K.eq) (shown result) (λ x y. K.eq (key x) (key y)) }
+            → ComputesApart (by_key F.FnMut K.eq) (groups_of result) (λ x y. K.eq (key x) (key y)) }
         ensures settled { (key : T → K) → ComputesKey F.FnMut key func
             → IsGrouped (λ x y. K.eq (key x) (key y)) (Self.items self.now)
-            → IsSettledApart (by_key F.FnMut K.eq) (shown result) (λ x y. K.eq (key x) (key y)) }
+            → IsSettledApart (by_key F.FnMut K.eq) (groups_of result) (λ x y. K.eq (key x) (key y)) }
     {
         ExponentialGroupByKey::new(self.as_slice(), func)
     }
@@ -147,13 +147,13 @@ pub trait GroupBy<T>: Elements<T> {
         P: FnMut(&T, &T) -> bool,
         requires { IsCallableApart (by_predicate P.FnMut)
             (record { remainder = Self.items self.now; judge = predicate_judge predicate }) }
-        ensures remainder { (shown result).remainder ≡ Self.items self.now }
+        ensures remainder { (groups_of result).remainder ≡ Self.items self.now }
         ensures judge { result.judge ≡ predicate_judge predicate }
-        ensures callable { IsCallableApart (by_predicate P.FnMut) (shown result) }
+        ensures callable { IsCallableApart (by_predicate P.FnMut) (groups_of result) }
         ensures computes { (p : T → T → Bool) → ComputesOnPairs P.FnMut p predicate
-            → ComputesApart (by_predicate P.FnMut) (shown result) p }
+            → ComputesApart (by_predicate P.FnMut) (groups_of result) p }
         ensures settled { (p : T → T → Bool) → ComputesOnPairs P.FnMut p predicate → IsGrouped p (Self.items self.now)
-            → IsSettledApart (by_predicate P.FnMut) (shown result) p }
+            → IsSettledApart (by_predicate P.FnMut) (groups_of result) p }
     {
         ExponentialGroupBy::new(self.as_slice(), predicate)
     }
@@ -163,11 +163,11 @@ pub trait GroupBy<T>: Elements<T> {
     fn exponential_group(&self) -> ExponentialGroup<'_, T>
     where
         T: PartialEq,
-        ensures remainder { (shown result).remainder ≡ Self.items self.now }
+        ensures remainder { (groups_of result).remainder ≡ Self.items self.now }
         ensures asked { result.judge.asked ≡ 0 }
-        ensures callable { IsCallableApart (by_equality T.eq) (shown result) }
-        ensures computes { ComputesApart (by_equality T.eq) (shown result) T.eq }
-        ensures settled { IsGrouped T.eq (Self.items self.now) → IsSettledApart (by_equality T.eq) (shown result) T.eq }
+        ensures callable { IsCallableApart (by_equality T.eq) (groups_of result) }
+        ensures computes { ComputesApart (by_equality T.eq) (groups_of result) T.eq }
+        ensures settled { IsGrouped T.eq (Self.items self.now) → IsSettledApart (by_equality T.eq) (groups_of result) T.eq }
     {
         ExponentialGroup::new(self.as_slice())
     }

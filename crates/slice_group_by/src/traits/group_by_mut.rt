@@ -5,7 +5,7 @@ ghost use Rattle.sgb_search.specs.Judges.{by_predicate, predicate_judge, by_key,
 ghost use Rattle.sgb_search.specs.Split.{IsGrouped};
 ghost use Rattle.sgb_search.specs.Linear.{IsCallable, IsSettled};
 ghost use Rattle.sgb_search.specs.Searching.{IsCallableApart, ComputesApart, IsSettledApart};
-ghost use Rattle.sgb_groups.specs.Gives.{seen};
+ghost use Rattle.sgb_groups.specs.Gives.{groups_of_mut};
 ghost use Rattle.sgb_loans.specs.Loans.{NothingOut};
 
 use crate::traits::holders::AsMutSlice;
@@ -38,9 +38,9 @@ pub trait GroupByMut<T>: AsMutSlice<T> {
             (record { remainder = Self.elements self.old; judge = key_judge func }) }
         ensures remainder { result.remainder ≡ Self.elements self.entry.now }
         ensures judge { result.judge ≡ key_judge func }
-        ensures callable { IsCallable (by_key F.FnMut K.eq) (seen result) }
+        ensures callable { IsCallable (by_key F.FnMut K.eq) (groups_of_mut result) }
         ensures settled { (key : T → K) → ComputesKey F.FnMut key func
-            → IsSettled (by_key F.FnMut K.eq) (seen result) (λ x y. K.eq (key x) (key y)) }
+            → IsSettled (by_key F.FnMut K.eq) (groups_of_mut result) (λ x y. K.eq (key x) (key y)) }
         ensures loans { NothingOut result.loans.root result.loans }
     {
         LinearGroupByKeyMut::new(self.as_mut_slice(), func)
@@ -55,9 +55,9 @@ pub trait GroupByMut<T>: AsMutSlice<T> {
             (record { remainder = Self.elements self.old; judge = predicate_judge predicate }) }
         ensures remainder { result.remainder ≡ Self.elements self.entry.now }
         ensures judge { result.judge ≡ predicate_judge predicate }
-        ensures callable { IsCallable (by_predicate P.FnMut) (seen result) }
+        ensures callable { IsCallable (by_predicate P.FnMut) (groups_of_mut result) }
         ensures settled { (p : T → T → Bool) → ComputesOnPairs P.FnMut p predicate
-            → IsSettled (by_predicate P.FnMut) (seen result) p }
+            → IsSettled (by_predicate P.FnMut) (groups_of_mut result) p }
         ensures loans { NothingOut result.loans.root result.loans }
     {
         LinearGroupByMut::new(self.as_mut_slice(), predicate)
@@ -70,8 +70,8 @@ pub trait GroupByMut<T>: AsMutSlice<T> {
         T: PartialEq,
         ensures remainder { result.remainder ≡ Self.elements self.entry.now }
         ensures asked { result.judge.asked ≡ 0 }
-        ensures callable { IsCallable (by_equality T.eq) (seen result) }
-        ensures settled { IsSettled (by_equality T.eq) (seen result) T.eq }
+        ensures callable { IsCallable (by_equality T.eq) (groups_of_mut result) }
+        ensures settled { IsSettled (by_equality T.eq) (groups_of_mut result) T.eq }
         ensures loans { NothingOut result.loans.root result.loans }
     {
         LinearGroupMut::new(self.as_mut_slice())
@@ -87,12 +87,12 @@ pub trait GroupByMut<T>: AsMutSlice<T> {
             (record { remainder = Self.elements self.old; judge = key_judge func }) }
         ensures remainder { result.remainder ≡ Self.elements self.entry.now }
         ensures judge { result.judge ≡ key_judge func }
-        ensures callable { IsCallableApart (by_key F.FnMut K.eq) (seen result) }
+        ensures callable { IsCallableApart (by_key F.FnMut K.eq) (groups_of_mut result) }
         ensures computes { (key : T → K) → ComputesKey F.FnMut key func
-            → ComputesApart (by_key F.FnMut K.eq) (seen result) (λ x y. K.eq (key x) (key y)) }
+            → ComputesApart (by_key F.FnMut K.eq) (groups_of_mut result) (λ x y. K.eq (key x) (key y)) }
         ensures settled { (key : T → K) → ComputesKey F.FnMut key func
             → IsGrouped (λ x y. K.eq (key x) (key y)) (Self.elements self.entry.now)
-            → IsSettledApart (by_key F.FnMut K.eq) (seen result) (λ x y. K.eq (key x) (key y)) }
+            → IsSettledApart (by_key F.FnMut K.eq) (groups_of_mut result) (λ x y. K.eq (key x) (key y)) }
         ensures loans { NothingOut result.loans.root result.loans }
     {
         BinaryGroupByKeyMut::new(self.as_mut_slice(), func)
@@ -107,11 +107,11 @@ pub trait GroupByMut<T>: AsMutSlice<T> {
             (record { remainder = Self.elements self.old; judge = predicate_judge predicate }) }
         ensures remainder { result.remainder ≡ Self.elements self.entry.now }
         ensures judge { result.judge ≡ predicate_judge predicate }
-        ensures callable { IsCallableApart (by_predicate P.FnMut) (seen result) }
+        ensures callable { IsCallableApart (by_predicate P.FnMut) (groups_of_mut result) }
         ensures computes { (p : T → T → Bool) → ComputesOnPairs P.FnMut p predicate
-            → ComputesApart (by_predicate P.FnMut) (seen result) p }
+            → ComputesApart (by_predicate P.FnMut) (groups_of_mut result) p }
         ensures settled { (p : T → T → Bool) → ComputesOnPairs P.FnMut p predicate
-            → IsGrouped p (Self.elements self.entry.now) → IsSettledApart (by_predicate P.FnMut) (seen result) p }
+            → IsGrouped p (Self.elements self.entry.now) → IsSettledApart (by_predicate P.FnMut) (groups_of_mut result) p }
         ensures loans { NothingOut result.loans.root result.loans }
     {
         BinaryGroupByMut::new(self.as_mut_slice(), predicate)
@@ -124,10 +124,10 @@ pub trait GroupByMut<T>: AsMutSlice<T> {
         T: PartialEq,
         ensures remainder { result.remainder ≡ Self.elements self.entry.now }
         ensures asked { result.judge.asked ≡ 0 }
-        ensures callable { IsCallableApart (by_equality T.eq) (seen result) }
-        ensures computes { ComputesApart (by_equality T.eq) (seen result) T.eq }
+        ensures callable { IsCallableApart (by_equality T.eq) (groups_of_mut result) }
+        ensures computes { ComputesApart (by_equality T.eq) (groups_of_mut result) T.eq }
         ensures settled { IsGrouped T.eq (Self.elements self.entry.now)
-            → IsSettledApart (by_equality T.eq) (seen result) T.eq }
+            → IsSettledApart (by_equality T.eq) (groups_of_mut result) T.eq }
         ensures loans { NothingOut result.loans.root result.loans }
     {
         BinaryGroupMut::new(self.as_mut_slice())
@@ -146,12 +146,12 @@ pub trait GroupByMut<T>: AsMutSlice<T> {
             (record { remainder = Self.elements self.old; judge = key_judge func }) }
         ensures remainder { result.remainder ≡ Self.elements self.entry.now }
         ensures judge { result.judge ≡ key_judge func }
-        ensures callable { IsCallableApart (by_key F.FnMut K.eq) (seen result) }
+        ensures callable { IsCallableApart (by_key F.FnMut K.eq) (groups_of_mut result) }
         ensures computes { (key : T → K) → ComputesKey F.FnMut key func
-            → ComputesApart (by_key F.FnMut K.eq) (seen result) (λ x y. K.eq (key x) (key y)) }
+            → ComputesApart (by_key F.FnMut K.eq) (groups_of_mut result) (λ x y. K.eq (key x) (key y)) }
         ensures settled { (key : T → K) → ComputesKey F.FnMut key func
             → IsGrouped (λ x y. K.eq (key x) (key y)) (Self.elements self.entry.now)
-            → IsSettledApart (by_key F.FnMut K.eq) (seen result) (λ x y. K.eq (key x) (key y)) }
+            → IsSettledApart (by_key F.FnMut K.eq) (groups_of_mut result) (λ x y. K.eq (key x) (key y)) }
         ensures loans { NothingOut result.loans.root result.loans }
     {
         ExponentialGroupByKeyMut::new(self.as_mut_slice(), func)
@@ -166,11 +166,11 @@ pub trait GroupByMut<T>: AsMutSlice<T> {
             (record { remainder = Self.elements self.old; judge = predicate_judge predicate }) }
         ensures remainder { result.remainder ≡ Self.elements self.entry.now }
         ensures judge { result.judge ≡ predicate_judge predicate }
-        ensures callable { IsCallableApart (by_predicate P.FnMut) (seen result) }
+        ensures callable { IsCallableApart (by_predicate P.FnMut) (groups_of_mut result) }
         ensures computes { (p : T → T → Bool) → ComputesOnPairs P.FnMut p predicate
-            → ComputesApart (by_predicate P.FnMut) (seen result) p }
+            → ComputesApart (by_predicate P.FnMut) (groups_of_mut result) p }
         ensures settled { (p : T → T → Bool) → ComputesOnPairs P.FnMut p predicate
-            → IsGrouped p (Self.elements self.entry.now) → IsSettledApart (by_predicate P.FnMut) (seen result) p }
+            → IsGrouped p (Self.elements self.entry.now) → IsSettledApart (by_predicate P.FnMut) (groups_of_mut result) p }
         ensures loans { NothingOut result.loans.root result.loans }
     {
         ExponentialGroupByMut::new(self.as_mut_slice(), predicate)
@@ -183,10 +183,10 @@ pub trait GroupByMut<T>: AsMutSlice<T> {
         T: PartialEq,
         ensures remainder { result.remainder ≡ Self.elements self.entry.now }
         ensures asked { result.judge.asked ≡ 0 }
-        ensures callable { IsCallableApart (by_equality T.eq) (seen result) }
-        ensures computes { ComputesApart (by_equality T.eq) (seen result) T.eq }
+        ensures callable { IsCallableApart (by_equality T.eq) (groups_of_mut result) }
+        ensures computes { ComputesApart (by_equality T.eq) (groups_of_mut result) T.eq }
         ensures settled { IsGrouped T.eq (Self.elements self.entry.now)
-            → IsSettledApart (by_equality T.eq) (seen result) T.eq }
+            → IsSettledApart (by_equality T.eq) (groups_of_mut result) T.eq }
         ensures loans { NothingOut result.loans.root result.loans }
     {
         ExponentialGroupMut::new(self.as_mut_slice())

@@ -2,8 +2,8 @@
 ghost use Rattle.std.specs.Prelude.{◌≡◌, ℕ, Bool, List, nat_eq};
 ghost use Rattle.std.specs.Str.{IsUtf8};
 ghost use Rattle.sgb_search.specs.Judges.{by_char_predicate, char_predicate_judge, ComputesOnChars, by_char_key, char_key_judge, ComputesCharKey, by_equality};
-ghost use Rattle.sgb_linear_str_group.specs.Texts.{shown_text, IsCallableText, IsSettledText};
-ghost use Rattle.sgb_linear_str_group.specs.TextsMut.{seen_text};
+ghost use Rattle.sgb_linear_str_group.specs.Texts.{text_groups_of, IsCallableText, IsSettledText};
+ghost use Rattle.sgb_linear_str_group.specs.TextsMut.{text_groups_of_mut};
 ghost use Rattle.sgb_loans.specs.Loans.{NothingOut};
 
 use crate::traits::holders::AsMutSlice;
@@ -32,11 +32,11 @@ pub trait StrGroupBy: AsStr {
         K: PartialEq + Drop,
         requires { IsCallableText (by_char_key F.FnMut K.eq)
             (record { text = Self.text self.now; judge = char_key_judge func }) }
-        ensures text { (shown_text result).text ≡ Self.text self.now }
+        ensures text { (text_groups_of result).text ≡ Self.text self.now }
         ensures judge { result.judge ≡ char_key_judge func }
-        ensures callable { IsCallableText (by_char_key F.FnMut K.eq) (shown_text result) }
+        ensures callable { IsCallableText (by_char_key F.FnMut K.eq) (text_groups_of result) }
         ensures settled { (key : ℕ → K) → ComputesCharKey F.FnMut key func
-            → IsSettledText (by_char_key F.FnMut K.eq) (shown_text result) (λ x y. K.eq (key x) (key y)) }
+            → IsSettledText (by_char_key F.FnMut K.eq) (text_groups_of result) (λ x y. K.eq (key x) (key y)) }
     {
         LinearStrGroupByKey::new(self.as_str(), func)
     }
@@ -48,11 +48,11 @@ pub trait StrGroupBy: AsStr {
         P: FnMut(char, char) -> bool,
         requires { IsCallableText (by_char_predicate P.FnMut)
             (record { text = Self.text self.now; judge = char_predicate_judge predicate }) }
-        ensures text { (shown_text result).text ≡ Self.text self.now }
+        ensures text { (text_groups_of result).text ≡ Self.text self.now }
         ensures judge { result.judge ≡ char_predicate_judge predicate }
-        ensures callable { IsCallableText (by_char_predicate P.FnMut) (shown_text result) }
+        ensures callable { IsCallableText (by_char_predicate P.FnMut) (text_groups_of result) }
         ensures settled { (p : ℕ → ℕ → Bool) → ComputesOnChars P.FnMut p predicate
-            → IsSettledText (by_char_predicate P.FnMut) (shown_text result) p }
+            → IsSettledText (by_char_predicate P.FnMut) (text_groups_of result) p }
     {
         LinearStrGroupBy::new(self.as_str(), predicate)
     }
@@ -60,10 +60,10 @@ pub trait StrGroupBy: AsStr {
     /// Groups of equal characters.
     #[inline]
     fn linear_group(&self) -> LinearStrGroup<'_>
-        ensures text { (shown_text result).text ≡ Self.text self.now }
+        ensures text { (text_groups_of result).text ≡ Self.text self.now }
         ensures asked { result.judge.asked ≡ 0 }
-        ensures callable { IsCallableText (by_equality nat_eq) (shown_text result) }
-        ensures settled { IsSettledText (by_equality nat_eq) (shown_text result) nat_eq }
+        ensures callable { IsCallableText (by_equality nat_eq) (text_groups_of result) }
+        ensures settled { IsSettledText (by_equality nat_eq) (text_groups_of result) nat_eq }
     {
         LinearStrGroup::new(self.as_str())
     }
@@ -98,9 +98,9 @@ pub trait StrGroupByMut: AsMutSlice<u8> {
             (record { text = Self.elements self.old; judge = char_key_judge func }) }
         ensures text { result.text ≡ Self.elements self.entry.now }
         ensures judge { result.judge ≡ char_key_judge func }
-        ensures callable { IsCallableText (by_char_key F.FnMut K.eq) (seen_text result) }
+        ensures callable { IsCallableText (by_char_key F.FnMut K.eq) (text_groups_of_mut result) }
         ensures settled { (key : ℕ → K) → ComputesCharKey F.FnMut key func
-            → IsSettledText (by_char_key F.FnMut K.eq) (seen_text result) (λ x y. K.eq (key x) (key y)) }
+            → IsSettledText (by_char_key F.FnMut K.eq) (text_groups_of_mut result) (λ x y. K.eq (key x) (key y)) }
         ensures loans { NothingOut result.loans.root result.loans }
     {
         LinearStrGroupByKeyMut::new(self.as_mut_slice(), func)
@@ -116,9 +116,9 @@ pub trait StrGroupByMut: AsMutSlice<u8> {
             (record { text = Self.elements self.old; judge = char_predicate_judge predicate }) }
         ensures text { result.text ≡ Self.elements self.entry.now }
         ensures judge { result.judge ≡ char_predicate_judge predicate }
-        ensures callable { IsCallableText (by_char_predicate P.FnMut) (seen_text result) }
+        ensures callable { IsCallableText (by_char_predicate P.FnMut) (text_groups_of_mut result) }
         ensures settled { (p : ℕ → ℕ → Bool) → ComputesOnChars P.FnMut p predicate
-            → IsSettledText (by_char_predicate P.FnMut) (seen_text result) p }
+            → IsSettledText (by_char_predicate P.FnMut) (text_groups_of_mut result) p }
         ensures loans { NothingOut result.loans.root result.loans }
     {
         LinearStrGroupByMut::new(self.as_mut_slice(), predicate)
@@ -130,8 +130,8 @@ pub trait StrGroupByMut: AsMutSlice<u8> {
         requires { IsUtf8 (Self.elements self.old) }
         ensures text { result.text ≡ Self.elements self.entry.now }
         ensures asked { result.judge.asked ≡ 0 }
-        ensures callable { IsCallableText (by_equality nat_eq) (seen_text result) }
-        ensures settled { IsSettledText (by_equality nat_eq) (seen_text result) nat_eq }
+        ensures callable { IsCallableText (by_equality nat_eq) (text_groups_of_mut result) }
+        ensures settled { IsSettledText (by_equality nat_eq) (text_groups_of_mut result) nat_eq }
         ensures loans { NothingOut result.loans.root result.loans }
     {
         LinearStrGroupMut::new(self.as_mut_slice())

@@ -14,8 +14,8 @@ loop-beyond-init g c =
     rw c.as_str-rest.ensures
     (one_scanned g.J.Judge _ _ _ _ _ c.utf8.text (rw c.chars-characters.ensures.rest at outermost.0) outermost.1 c.requires, refl)
 
-pub next_at-requires-in-loop-beyond : goal.next_at-requires-in-loop-beyond
-next_at-requires-in-loop-beyond g c = let i = c.loop-beyond.invariant in rw i.1 i.0.rest_utf8
+pub next_character-requires-in-loop-beyond : goal.next_character-requires-in-loop-beyond
+next_character-requires-in-loop-beyond g c = let i = c.loop-beyond.invariant in rw i.1 i.0.rest_utf8
 
 pub ask-together-requires : goal.ask-together-requires
 ask-together-requires g c =
@@ -60,8 +60,8 @@ returns g c =
     let same = c.loop-beyond.invariant.1 in
     let at_group = λ (group : List ℕ). IsTextAt g.J.Judge c.args.end.now
     (record { text = c.args.text.now; judge = c.args.judge.now }) group
-    (record { text = c.loop-beyond.rest.now; judge = c.match-next_at.judge }) in
-    let found : at_group i.group = elim c.match-next_at.branch [
+    (record { text = c.loop-beyond.rest.now; judge = c.match-next_character.judge }) in
+    let found : at_group i.group = elim c.match-next_character.branch [
       | in_default w ↦ rw w.judge-is (found_all g.J.Judge _ _ _ _ _ _ i (sym same ∙ w.in_default.ensures))
       | in-Some+then-not-together w ↦
           let next = w.in-Some in

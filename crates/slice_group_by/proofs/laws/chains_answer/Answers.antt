@@ -18,4 +18,4 @@ returns-clause-settled g c p q t ends out chain h = (chain_answers _ _ _ _ p g.m
 
 pub returns-clause-questions : goal.returns-clause-questions
 returns-clause-questions g c q t ends out =
-    chain_asks _ _ _ _ g.met.Q.GroupQueue.asked_none g.met.Q.GroupQueue.asked_more g.met.Q.GroupQueue.asks q ends out t
+    chain_asks _ _ _ _ g.met.Q.GroupQueue.asked_none g.met.Q.GroupQueue.asked_more g.met.Q.GroupQueue.asks_due q ends out t

@@ -1,16 +1,16 @@
 use Rattle.std.proofs.Common.{ap, ◌∙◌}
 use Rattle.std.specs.Str.{chars}
 use Rattle.std.proofs.lemmas.Str.{chars-nil}
-use Rattle.sgb_linear_str_group.specs.Texts.{shown_text, in_characters, GivesText}
+use Rattle.sgb_linear_str_group.specs.Texts.{text_groups_of, in_characters, GivesText}
 use Rattle.slice_group_by.proofs.PairsAsked.{chain_asks_once, whole_asks}
 use Rattle.slice_group_by.proofs.TextParts.{reading_once}
 use Rattle.slice_group_by.proofs.laws.each_char_pair_asked_once.Goals as goal
 
 pub returns-clause-pairs : goal.returns-clause-pairs
-returns-clause-pairs g c = chain_asks_once g.J.Judge (GivesText g.J.Judge) (λ s. in_characters (shown_text s)) (reading_once g.J.Judge)
+returns-clause-pairs g c = chain_asks_once g.J.Judge (GivesText g.J.Judge) (λ s. in_characters (text_groups_of s)) (reading_once g.J.Judge)
 
 pub returns-clause-whole : goal.returns-clause-whole
 returns-clause-whole g c s t ends out h z =
-    whole_asks g.J.Judge (in_characters (shown_text s)) (in_characters (shown_text t))
-    (chain_asks_once g.J.Judge (GivesText g.J.Judge) (λ s. in_characters (shown_text s)) (reading_once g.J.Judge) s t ends out h)
+    whole_asks g.J.Judge (in_characters (text_groups_of s)) (in_characters (text_groups_of t))
+    (chain_asks_once g.J.Judge (GivesText g.J.Judge) (λ s. in_characters (text_groups_of s)) (reading_once g.J.Judge) s t ends out h)
     (ap chars z ∙ chars-nil)

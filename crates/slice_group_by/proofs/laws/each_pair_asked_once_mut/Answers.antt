@@ -1,12 +1,12 @@
-use Rattle.sgb_groups.specs.Gives.{seen, GivesMut}
+use Rattle.sgb_groups.specs.Gives.{groups_of_mut, GivesMut}
 use Rattle.sgb_search.specs.Linear.{LinearQuestions}
 use Rattle.slice_group_by.proofs.PairsAsked.{chain_asks_once, whole_asks, writing_asks_once}
 use Rattle.slice_group_by.proofs.laws.each_pair_asked_once_mut.Goals as goal
 
 pub returns-clause-pairs : goal.returns-clause-pairs
-returns-clause-pairs g c = chain_asks_once g.J.Judge (GivesMut (LinearQuestions g.J.Judge)) seen (writing_asks_once g.J.Judge)
+returns-clause-pairs g c = chain_asks_once g.J.Judge (GivesMut (LinearQuestions g.J.Judge)) groups_of_mut (writing_asks_once g.J.Judge)
 
 pub returns-clause-whole : goal.returns-clause-whole
 returns-clause-whole g c s t es os h z =
-    whole_asks g.J.Judge (seen s) (seen t)
-    (chain_asks_once g.J.Judge (GivesMut (LinearQuestions g.J.Judge)) seen (writing_asks_once g.J.Judge) s t es os h) z
+    whole_asks g.J.Judge (groups_of_mut s) (groups_of_mut t)
+    (chain_asks_once g.J.Judge (GivesMut (LinearQuestions g.J.Judge)) groups_of_mut (writing_asks_once g.J.Judge) s t es os h) z

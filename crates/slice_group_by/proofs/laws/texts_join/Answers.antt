@@ -1,4 +1,4 @@
-use Rattle.sgb_linear_str_group.specs.Texts.{shown_text, GivesText}
+use Rattle.sgb_linear_str_group.specs.Texts.{text_groups_of, GivesText}
 use Rattle.slice_group_by.proofs.TextParts.{text_part, utf8_reads, encoded}
 use Rattle.slice_group_by.proofs.Chains.{chain_parts}
 use Rattle.slice_group_by.proofs.Seen.{yields_parts, drains_parts}
@@ -9,10 +9,10 @@ returns-clause-encodings g c s t ends out chain = encoded (λ x. x.now) out (utf
 
 pub returns-clause-calls : goal.returns-clause-calls
 returns-clause-calls g c s t ends out =
-    chain_parts (GivesText g.J.Judge) (λ s. (shown_text s).text) (λ x. x.now) (text_part g.J.Judge) s ends out t
+    chain_parts (GivesText g.J.Judge) (λ s. (text_groups_of s).text) (λ x. x.now) (text_part g.J.Judge) s ends out t
 
 pub returns-clause-part : goal.returns-clause-part
-returns-clause-part g c = yields_parts (GivesText g.J.Judge) (λ s. (shown_text s).text) (λ x. x.now) (text_part g.J.Judge)
+returns-clause-part g c = yields_parts (GivesText g.J.Judge) (λ s. (text_groups_of s).text) (λ x. x.now) (text_part g.J.Judge)
 
 pub returns-clause-whole : goal.returns-clause-whole
-returns-clause-whole g c = drains_parts (GivesText g.J.Judge) (λ s. (shown_text s).text) (λ x. x.now) (text_part g.J.Judge)
+returns-clause-whole g c = drains_parts (GivesText g.J.Judge) (λ s. (text_groups_of s).text) (λ x. x.now) (text_part g.J.Judge)

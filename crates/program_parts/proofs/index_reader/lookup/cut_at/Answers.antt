@@ -9,7 +9,7 @@ use Rattle.slice_group_by.specs.Searching.{digits}
 use Rattle.slice_group_by.specs.Split.{split, first}
 use Rattle.slice_group_by.specs.End.{End}
 use Rattle.slice_group_by.specs.End.TheVariants.{Front}
-use Rattle.slice_group_by.specs.Gives.{shown}
+use Rattle.slice_group_by.specs.Gives.{groups_of}
 use Rattle.slice_group_by.specs.Calls.{Groups, IsGroupAt}
 use Rattle.program_parts.specs.declared.index_reader.entries.Entry.{Entry}
 use Rattle.program_parts.specs.index_reader.Keys.{lower}
@@ -88,7 +88,7 @@ module _ (c : goal.After-comparisons-2-1) where
 
   joined : c.args.index.now ≡ lower c.args.limit c.args.index.now ++ c.remainder.result.now
   joined =
-      let cut = rest _ _ (shown c.new-groups.result) (shown c.next.new.self) c.next.result _ taken c.next.ensures.steps in
+      let cut = rest _ _ (groups_of c.new-groups.result) (groups_of c.next.new.self) c.next.result _ taken c.next.ensures.steps in
       sym c.new-groups.ensures.remainder ∙ cut ∙ ap (λ ys. lower c.args.limit c.args.index.now ++ ys) (sym c.remainder.ensures)
 
 pub returns-clause-lower : goal.returns-clause-lower

@@ -3,4 +3,4 @@ use Rattle.std.proofs.lemmas.Grind.{common_steps}
 use Rattle.sgb_groups.proofs.groups_mut.SliceGroupsMutDoubleEndedIterator.next_back.Goals as goal
 
 pub returns : goal.returns
-returns g c = record { steps = c.take.ensures.gives; goes = grind (arith, common_steps) }
+returns g c = record { steps = c.next_at.ensures.gives; goes = grind (arith, common_steps) }

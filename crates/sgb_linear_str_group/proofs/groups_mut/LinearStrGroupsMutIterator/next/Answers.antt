@@ -3,4 +3,4 @@ use Rattle.std.proofs.lemmas.Grind.{common_steps}
 use Rattle.sgb_linear_str_group.proofs.groups_mut.LinearStrGroupsMutIterator.next.Goals as goal
 
 pub returns : goal.returns
-returns g c = record { steps = c.take.ensures.gives; goes = grind (arith, common_steps) }
+returns g c = record { steps = c.next_at.ensures.gives; goes = grind (arith, common_steps) }

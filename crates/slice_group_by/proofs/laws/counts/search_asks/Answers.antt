@@ -1,7 +1,7 @@
 use Rattle.std.proofs.Common.{◌≤◌, None, Some, length, refl, subst, ap, arith}
 use Rattle.std.proofs.Math.Nat.{mul-le-mul_left}
 use Rattle.sgb_search.proofs.Ends.{length-from}
-use Rattle.sgb_groups.specs.Gives.{shown}
+use Rattle.sgb_groups.specs.Gives.{groups_of}
 use Rattle.slice_group_by.proofs.Counting.{counts_most}
 use Rattle.slice_group_by.proofs.laws.counts.search_asks.Goals as goal
 
@@ -9,7 +9,7 @@ pub returns-clause-asks : goal.returns-clause-asks
 returns-clause-asks g c e s t group h = (
   length h.asked.questions,
   (h.asked.questions, h.asked.run, refl),
-  subst (λ n. length h.asked.questions ≤ g.S.GroupSearch.cost.call n (length group.now)) (length-from e (shown s).remainder)
+  subst (λ n. length h.asked.questions ≤ g.S.GroupSearch.cost.call n (length group.now)) (length-from e (groups_of s).remainder)
       h.asked.most.call,
 )
 

@@ -35,4 +35,4 @@ returns-clause-left g c p h = (chain_answers _ _ _ _ p g.met.Q.GroupQueue.piece 
 
 pub returns-clause-questions : goal.returns-clause-questions
 returns-clause-questions g c =
-    chain_asks _ _ _ _ g.met.Q.GroupQueue.asked_none g.met.Q.GroupQueue.asked_more g.met.Q.GroupQueue.asks _ _ _ _ (whole g c)
+    chain_asks _ _ _ _ g.met.Q.GroupQueue.asked_none g.met.Q.GroupQueue.asked_more g.met.Q.GroupQueue.asks_due _ _ _ _ (whole g c)

@@ -1,7 +1,7 @@
 use Rattle.std.proofs.Common.{length, ◌≡◌, ◌≤◌, ◌+◌, ◌++◌, nat_eq, []}
 use Rattle.sgb_search.specs.Split.{split}
 use Rattle.sgb_search.specs.Linear.{IsSettled}
-use Rattle.sgb_groups.specs.Gives.{seen}
+use Rattle.sgb_groups.specs.Gives.{groups_of_mut}
 use Rattle.sgb_search.specs.Judges.{by_equality}
 use Rattle.slice_group_by.specs.Ranks.{ranks}
 use Rattle.slice_group_by.proofs.Numbered.{numbered}
@@ -9,7 +9,7 @@ use Rattle.slice_group_by.proofs.laws.ranks.ranked.Given as goal
 
 abbrev pub invariant-loop-group : goal.invariant-loop-group
 invariant-loop-group l = record {
-  settled : IsSettled (by_equality nat_eq) (seen l.groups) nat_eq;
+  settled : IsSettled (by_equality nat_eq) (groups_of_mut l.groups) nat_eq;
   root : l.groups.loans.root ≡ l.initial.groups.loans.root;
   cuts : l.groups.loans.cuts ≡ [];
   after : l.groups.loans.after ≡ [];

@@ -2,14 +2,14 @@ use Rattle.std.proofs.Common.{ℕ, List, Some, ap, ◌∙◌, arith}
 use Rattle.std.proofs.lemmas.Grind.{common_steps}
 use Rattle.std.specs.Borrow.{MutBor}
 use Rattle.sgb_linear_str_group.specs.Texts.{TextGroups}
-use Rattle.sgb_linear_str_group.specs.TextsMut.{seen_text}
+use Rattle.sgb_linear_str_group.specs.TextsMut.{text_groups_of_mut}
 use Rattle.sgb_linear_str_group.proofs.Cuts.{callable_whole, cut_alike}
 use Rattle.sgb_linear_str_group.proofs.Queue.{keeps}
-use Rattle.sgb_linear_str_group.proofs.groups_mut.LinearStrGroupsMut.take.Goals as goal
+use Rattle.sgb_linear_str_group.proofs.groups_mut.LinearStrGroupsMut.next_at.Goals as goal
 
 pub split_group-requires : goal.split_group-requires
 split_group-requires g c =
-    callable_whole g.J.Judge _ _ _ (ap seen_text c.self.view_is) _ _ c.text_of.ensures
+    callable_whole g.J.Judge _ _ _ (ap text_groups_of_mut c.self.view_is) _ _ c.text_of.ensures
     (ap (λ (b : MutBor (List ℕ)). b.now) c.take-all.ensures.value) c.requires
 
 pub returns-clause-gives : goal.returns-clause-gives

@@ -3,7 +3,7 @@ use Rattle.std.proofs.lemmas.Grind.{common_steps}
 use Rattle.std.specs.Borrow.{MutBor}
 use Rattle.sgb_groups.proofs.CutsMut.{callable_taken}
 use Rattle.sgb_groups.proofs.Parts.{range_all}
-use Rattle.sgb_groups.proofs.groups_mut.SliceGroupsMut.take.Goals as goal
+use Rattle.sgb_groups.proofs.groups_mut.SliceGroupsMut.next_at.Goals as goal
 
 pub group_len-len-requires-clause-callable : goal.group_len-len-requires-clause-callable
 group_len-len-requires-clause-callable g c =

@@ -2,8 +2,8 @@ use Rattle.std.proofs.Common.{List, ℕ, Some}
 use Rattle.sgb_linear_str_group.proofs.Cuts.{front_cut, back_cut}
 use Rattle.sgb_linear_str_group.proofs.Queue.{keeps}
 use Rattle.sgb_linear_str_group.specs.Texts.{TextGroups}
-use Rattle.sgb_linear_str_group.proofs.groups.LinearStrGroups.take.Goals as goal
-use Rattle.sgb_linear_str_group.proofs.groups.LinearStrGroups.take.Goals.{in-Front, in-Back}
+use Rattle.sgb_linear_str_group.proofs.groups.LinearStrGroups.next_at.Goals as goal
+use Rattle.sgb_linear_str_group.proofs.groups.LinearStrGroups.next_at.Goals.{in-Front, in-Back}
 
 pub returns-clause-gives : goal.returns-clause-gives
 returns-clause-gives g c =

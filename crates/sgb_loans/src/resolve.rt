@@ -5,8 +5,8 @@ ghost use Rattle.sgb_loans.specs.declared.loans.Ended.{Ended as Token};
 
 use crate::loans::Ended;
 
-// What `settle_and_return` says, proved by hand: the slice is lent again, and comes back as what the token says.
-fn resolved<T, R, F: FnOnce(&mut [T]) -> (Ended<'_, T>, R)>(slice: &mut [T], f: F) -> R
+// What `resolve_and_return` says, proved by hand: the slice is lent again, and comes back as what the token says.
+fn lend<T, R, F: FnOnce(&mut [T]) -> (Ended<'_, T>, R)>(slice: &mut [T], f: F) -> R
     requires callable { (p : MutBor (List T)) → p.now ≡ slice.old → F.pre f p }
     requires names { (p : MutBor (List T)) (l : Token T) (r : R) → p.now ≡ slice.old → F.post f p (l, r)
         → l.name ≡ p.ghost_name }
@@ -23,10 +23,10 @@ fn resolved<T, R, F: FnOnce(&mut [T]) -> (Ended<'_, T>, R)>(slice: &mut [T], f: 
 ///
 /// ```
 /// pub fn clear_long_groups(slice: &mut [u8]) -> usize {
-///     settle_and_return(slice, |part| long_cleared(part)) // it answers a token, and how many groups it cleared
+///     resolve_and_return(slice, |part| long_cleared(part)) // it answers a token, and how many groups it cleared
 /// }
 /// ```
-pub fn settle_and_return<T, R, F: FnOnce(&mut [T]) -> (Ended<'_, T>, R)>(slice: &mut [T], f: F) -> R
+pub fn resolve_and_return<T, R, F: FnOnce(&mut [T]) -> (Ended<'_, T>, R)>(slice: &mut [T], f: F) -> R
     requires callable { (p : MutBor (List T)) → p.now ≡ slice.old → F.pre f p }
     requires names { (p : MutBor (List T)) (l : Token T) (r : R) → p.now ≡ slice.old → F.post f p (l, r)
         → l.name ≡ p.ghost_name }
@@ -34,7 +34,7 @@ pub fn settle_and_return<T, R, F: FnOnce(&mut [T]) -> (Ended<'_, T>, R)>(slice: 
         × (slice.new ≡ l.value) }
     ensures len { length slice.new ≡ length slice.old }
 {
-    resolved(slice, f)
+    lend(slice, f)
 }
 
 /// Lends `f` the slice. The slice is then what the token says that `f` answers, which has to be a token of what `f` was
@@ -42,16 +42,16 @@ pub fn settle_and_return<T, R, F: FnOnce(&mut [T]) -> (Ended<'_, T>, R)>(slice: 
 ///
 /// ```
 /// pub fn rank_groups(slice: &mut [usize]) {
-///     settle(slice, |part| ranked(part)); // `ranked` answers a token whose value is the ranks of the slice
+///     resolve(slice, |part| ranked(part)); // `ranked` answers a token whose value is the ranks of the slice
 /// }
 /// ```
-pub fn settle<T, F: FnOnce(&mut [T]) -> Ended<'_, T>>(slice: &mut [T], f: F)
+pub fn resolve<T, F: FnOnce(&mut [T]) -> Ended<'_, T>>(slice: &mut [T], f: F)
     requires callable { (p : MutBor (List T)) → p.now ≡ slice.old → F.pre f p }
     requires names { (p : MutBor (List T)) (l : Token T) → p.now ≡ slice.old → F.post f p l → l.name ≡ p.ghost_name }
     ensures ends { (p : MutBor (List T)) × (l : Token T) × (p.now ≡ slice.old) × F.post f p l × (slice.new ≡ l.value) }
     ensures len { length slice.new ≡ length slice.old }
 {
-    settle_and_return(
+    resolve_and_return(
         slice,
         |part: &mut [T]|
             requires { F.pre f part }

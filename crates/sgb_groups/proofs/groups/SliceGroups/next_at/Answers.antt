@@ -1,7 +1,7 @@
 use Rattle.std.proofs.Common.{Some, List, subst, arith}
 use Rattle.sgb_search.specs.Judges.{MayAskAll}
 use Rattle.sgb_groups.proofs.Cuts.{part_is, front_cut, back_cut}
-use Rattle.sgb_groups.proofs.groups.SliceGroups.take.Goals as goal
+use Rattle.sgb_groups.proofs.groups.SliceGroups.next_at.Goals as goal
 
 pub group_len-len-requires-clause-callable : goal.group_len-len-requires-clause-callable
 group_len-len-requires-clause-callable g c =

@@ -47,14 +47,14 @@ use Rattle.sgb_loans.specs.declared.loans.Ended.{Ended}
 use Rattle.sgb_loans.specs.Loans.{ended_as}
 use Rattle.sgb_loans.proofs.loans.Ended.TheLaws as ended_laws
 use Rattle.sgb_loans.specs.contracts.loans.Ended as end
-use Rattle.sgb_loans.specs.contracts.settle.resolved as f
-use Rattle.sgb_loans.specs.contracts.settle.resolved.F-FnOnce as Called
-use Rattle.sgb_loans.specs.contracts.settle.resolved.Key.{name as #self}
-use Rattle.sgb_loans.proofs.settle.resolved.Statement.{statement}
-use Rattle.sgb_loans.proofs.settle.resolved.Code as code
+use Rattle.sgb_loans.specs.contracts.resolve.lend as f
+use Rattle.sgb_loans.specs.contracts.resolve.lend.F-FnOnce as Called
+use Rattle.sgb_loans.specs.contracts.resolve.lend.Key.{name as #self}
+use Rattle.sgb_loans.proofs.resolve.lend.Statement.{statement}
+use Rattle.sgb_loans.proofs.resolve.lend.Code as code
 
-pub resolved_spec : {M : Type 1} → statement M
-resolved_spec 𝓤 𝓛 𝓜 𝓡 wired T B F LT LB LF g d d' met _ =
+pub lend_spec : {M : Type 1} → statement M
+lend_spec 𝓤 𝓛 𝓜 𝓡 wired T B F LT LB LF g d d' met _ =
     let H = 𝓛.H in let 𝓣 = tables 𝓤 H 𝓜 𝓡 𝓡.env in let R : RattleType = param 0 T in let Q : RattleType = param 1 B in
     let X : RattleType = param 2 F in let LR = param_laws 0 T LT in let LQ = param_laws 1 B LB in
     let En = f.ended T B F g d d' in let c = f.clauses T B F g d d' 𝓛 𝓜.mem 𝓡.returns in let E = Called.ended T B F in

@@ -8,7 +8,7 @@ use Rattle.sgb_search.specs.Split.{put_at}
 use Rattle.sgb_search.specs.declared.end.End.TheVariants.{Front}
 use Rattle.std.proofs.lemmas.List.{nil_from_length}
 use Rattle.std.proofs.lemmas.Str.{IsUtf8-past_char}
-use Rattle.sgb_linear_str_group.proofs.scan.next_at.Goals as goal
+use Rattle.sgb_linear_str_group.proofs.scan.next_character.Goals as goal
 
 -- what `next` of `Chars` leaves of UTF-8 is UTF-8
 left_utf8 : (s t : Chars) (r : Option ℕ) → IsUtf8 (chars_rest s) → chars_steps s r t
