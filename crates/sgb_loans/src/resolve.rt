@@ -26,7 +26,10 @@ fn lend<T, R, F: FnOnce(&mut [T]) -> (Ended<'_, T>, R)>(slice: &mut [T], f: F) -
 ///     resolve_and_return(slice, |part| long_cleared(part)) // it answers a token, and how many groups it cleared
 /// }
 /// ```
-pub fn resolve_and_return<T, R, F: FnOnce(&mut [T]) -> (Ended<'_, T>, R)>(slice: &mut [T], f: F) -> R
+pub fn resolve_and_return<T, R, F: FnOnce(&mut [T]) -> (Ended<'_, T>, R)>(
+    slice: &mut [T],
+    f: F,
+) -> R
     requires callable { (p : MutBor (List T)) → p.now ≡ slice.old → F.pre f p }
     requires names { (p : MutBor (List T)) (l : Token T) (r : R) → p.now ≡ slice.old → F.post f p (l, r)
         → l.name ≡ p.ghost_name }

@@ -23,17 +23,7 @@ pub use join::MergeJoin;
 pub use laws::plans::{Plan, refute};
 pub use laws::queue::{End, GroupQueue, SliceQueue, SliceQueueMut, walk};
 pub use laws::ranks::rank_groups;
-pub use sgb_linear_str_group::by_equality::{LinearStrGroup, LinearStrGroupMut};
-pub use sgb_linear_str_group::by_key::{LinearStrGroupByKey, LinearStrGroupByKeyMut};
-pub use sgb_linear_str_group::by_predicate::{LinearStrGroupBy, LinearStrGroupByMut};
-pub use traits::holders::{AsMutSlice, Elements};
-pub use traits::group_by::GroupBy;
-pub use traits::group_by_mut::GroupByMut;
-pub use traits::str_group_by::{StrGroupBy, StrGroupByMut};
-pub use sgb_search::search::{
-    exponential_search, exponential_search_by, exponential_search_by_key,
-    exponential_search_by_key_ref, exponential_search_by_ref,
-};
+pub use laws::sorted::is_sorted_for_groups;
 pub use sgb_binary_group::binary_group::{
     BinaryGroup, BinaryGroupBy, BinaryGroupByKey, BinaryGroupByKeyMut, BinaryGroupByMut,
     BinaryGroupMut,
@@ -46,4 +36,14 @@ pub use sgb_linear_group::linear_group::{
     LinearGroup, LinearGroupBy, LinearGroupByKey, LinearGroupByKeyMut, LinearGroupByMut,
     LinearGroupMut,
 };
-pub use laws::sorted::is_sorted_for_groups;
+pub use sgb_linear_str_group::by_equality::{LinearStrGroup, LinearStrGroupMut};
+pub use sgb_linear_str_group::by_key::{LinearStrGroupByKey, LinearStrGroupByKeyMut};
+pub use sgb_linear_str_group::by_predicate::{LinearStrGroupBy, LinearStrGroupByMut};
+pub use sgb_search::search::{
+    exponential_search, exponential_search_by, exponential_search_by_key,
+    exponential_search_by_key_ref, exponential_search_by_ref,
+};
+pub use traits::group_by::GroupBy;
+pub use traits::group_by_mut::GroupByMut;
+pub use traits::holders::{AsMutSlice, Elements};
+pub use traits::str_group_by::{StrGroupBy, StrGroupByMut};

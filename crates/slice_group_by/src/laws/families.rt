@@ -17,10 +17,8 @@ ghost use Rattle.sgb_search.specs.declared.end.End.{End};
 ghost use Rattle.slice_group_by.specs.Walk.{IsChain};
 
 use crate::laws::queue::GroupQueue;
+use sgb_groups::searching::{GroupSearch, SearchGroups, SearchGroupsMut};
 use sgb_search::judge::Judge;
-use sgb_groups::searching::SearchGroups;
-use sgb_groups::searching::SearchGroupsMut;
-use sgb_groups::searching::GroupSearch;
 use std::slice::ChunkBy;
 
 /// The families agree: any two queues of groups that are settled for one test, of equal remainders, give groups of equal elements to

@@ -39,16 +39,14 @@ pub mod slices;
 pub mod sorted;
 pub mod texts;
 
+pub use crate::join::{
+    joins_may_go_on, pairs_ascend, pairs_match, partners_are_unique, sees_pairs,
+};
 pub use counts::{
     Judged, calls_ask, comparisons_count, key_calls_count, linear_counts, mapped_calls_ask,
     questions_count, search_asks, text_counts,
 };
-pub use families::{
-    chunk_by_agrees, families_agree, groups_end_locally, groups_end_locally_mut,
-};
-pub use crate::join::{
-    joins_may_go_on, pairs_ascend, pairs_match, partners_are_unique, sees_pairs,
-};
+pub use families::{chunk_by_agrees, families_agree, groups_end_locally, groups_end_locally_mut};
 pub use pieces::{
     equal_pieces_are_copies, partitioned_pieces, pieces_add_up, pieces_begin_as_dedup,
     pieces_by_key,
@@ -56,7 +54,9 @@ pub use pieces::{
 pub use plans::{Plan, refute};
 use queue::GroupQueue;
 pub use ranks::rank_groups;
-pub use sorted::{is_sorted_for_groups, sorted_by_key_ascends, sorts_ascend};
+use sgb_groups::group_end::GroupEnd;
+use sgb_groups::groups_mut::SliceGroupsMut;
+use sgb_linear_group::linear_group::{LinearGroups, LinearGroupsMut};
 use sgb_linear_str_group::groups::LinearStrGroups;
 use sgb_linear_str_group::groups_mut::LinearStrGroupsMut;
 use sgb_search::judge::Judge;
@@ -68,10 +68,7 @@ pub use sgb_search::laws::{
     computes_on_elements, computes_on_pairs, descending_is_grouped, digits_is_least,
     equality_judges, first_group_agrees, gap_parts, one_split, parts_are_grouped, question_count,
 };
-use sgb_groups::group_end::GroupEnd;
-use sgb_linear_group::linear_group::LinearGroups;
-use sgb_groups::groups_mut::SliceGroupsMut;
-use sgb_linear_group::linear_group::LinearGroupsMut;
+pub use sorted::{is_sorted_for_groups, sorted_by_key_ascends, sorts_ascend};
 
 /// One call on a queue that is settled for a test: it gives the outermost piece of the split of what remained, or `None`
 /// where there is no piece; the other pieces are the split of what remains; and the queue is settled again.

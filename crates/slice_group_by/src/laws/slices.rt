@@ -2,10 +2,10 @@
 ghost use Rattle.std.specs.Prelude.{refl};
 
 use crate::laws::queue::{GroupQueue, SliceQueue, SliceQueueMut};
-use sgb_search::judge::Judge;
 use sgb_groups::group_end::GroupEnd;
 use sgb_groups::groups::SliceGroups;
 use sgb_groups::groups_mut::SliceGroupsMut;
+use sgb_search::judge::Judge;
 
 impl<'a, T, J: Judge<T> + Drop, C: GroupEnd> GroupQueue for SliceGroups<'a, T, J, C> {
     type Item = &'a [T];

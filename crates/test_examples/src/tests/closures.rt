@@ -1,8 +1,8 @@
 //! Walks by closures, and closures of each kind.
-use slice_group_by::{End, GroupBy};
 use example_walks::closures::{
     ascending, below, by_tens, counted, equal_bytes, groups_by, groups_by_key,
 };
+use slice_group_by::{End, GroupBy};
 
 #[derive(PartialEq, Drop)]
 struct Point {

@@ -1,8 +1,8 @@
 //! Outer groups, numbers and lengths of groups of equal elements.
-use slice_group_by::End;
 use example_walks::equal_groups::{
     count_groups, equal_groups, first_group, last_group, outer_groups, run_lengths,
 };
+use slice_group_by::End;
 
 #[test]
 fn answers_as_a_queue(rt: HostRuntime) {

@@ -1,10 +1,10 @@
 //! Users' functions over the families of groups.
-use slice_group_by::End;
-use std::slice::from_mut;
 use example_walks::families::{
     after_first, count_sorted, first_len, grouped_at_small_cases, sort_and_count, walk_by_first,
     walk_by_tens, walk_families, walk_families_mut, walk_two_families,
 };
+use slice_group_by::End;
+use std::slice::from_mut;
 
 #[test]
 fn definitions_at_small_cases() {

@@ -1,8 +1,8 @@
 //! Groups in loops and through adapters.
-use slice_group_by::End;
 use example_walks::loops::{
     count_ascending, count_from_the_back, count_groups, longest, nth_length, walk_through,
 };
+use slice_group_by::End;
 
 #[test]
 fn counts(rt: HostRuntime) {

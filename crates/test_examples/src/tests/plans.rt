@@ -1,8 +1,8 @@
 //! A plan that halves, followed at each length, and what refutes it.
+use example_walks::plans::halving_plan;
 use slice_group_by::laws::Plan::{Answer, Ask};
 use slice_group_by::laws::{Plan, refute};
 use std::alloc::AllocError;
-use example_walks::plans::halving_plan;
 
 // What the plan answers where the first group has `len` elements, and after how many questions; of a plan that asks at most
 // 9 questions.

@@ -1,6 +1,6 @@
 //! The first group of any queue.
-use slice_group_by::{ExponentialGroupMut, LinearGroupBy};
 use example_counts::queues::{first_of_queue, first_of_queue_mut};
+use slice_group_by::{ExponentialGroupMut, LinearGroupBy};
 
 #[test]
 fn of_any_type(rt: HostRuntime) {

@@ -1,6 +1,8 @@
 //! Walks and runs of texts.
+use example_walks::texts::{
+    ascending, count_runs, equal_runs, first_run, groups_by, groups_by_key,
+};
 use slice_group_by::End;
-use example_walks::texts::{ascending, count_runs, equal_runs, first_run, groups_by, groups_by_key};
 
 #[test]
 fn users_of_texts(rt: HostRuntime) {

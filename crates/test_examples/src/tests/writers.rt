@@ -1,5 +1,7 @@
 //! Slices written through their groups.
-use example_walks::writers::{clear_all, clear_ends, clear_long_groups, fill_with_first, reverse_groups};
+use example_walks::writers::{
+    clear_all, clear_ends, clear_long_groups, fill_with_first, reverse_groups,
+};
 
 #[test]
 fn writers(rt: HostRuntime) {
