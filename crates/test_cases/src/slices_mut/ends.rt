@@ -26,9 +26,13 @@ fn group_outlives_the_iterator(rt: HostRuntime) {
         let mut groups = BinaryGroupMut::new(&mut slice);
         groups.next()
     };
-    match group {
-        Some([first, 1]) => *first = 7,
-        _ => assert!(rt; false, "no group of two"),
+    let Some(group) = group else {
+        assert!(rt; false);
+        return;
+    };
+    assert_eq!(rt; &*group, [1, 1].as_slice());
+    if let Some(first) = group.first_mut() {
+        *first = 7;
     }
     assert_eq!(rt; slice, [7, 1, 2, 2]);
 }
