@@ -1,0 +1,4 @@
+pub mod EitherOrBoth
+pub mod Merge
+pub mod Asking
+pub mod Examples
