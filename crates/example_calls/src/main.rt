@@ -1,9 +1,10 @@
-//! Small programs over groups, each proved with no proof file, which `docs/CALLING.md` shows. Each line that is printed belongs
+//! Small programs over groups, each proved with no proof file, which the README and `docs/CALLING.md` show. Each line that is printed belongs
 //! to one module.
 #![tactic(auto)]
 
 mod bytes;
 mod closures;
+mod first_page;
 mod inputs;
 mod loops;
 mod rest;
@@ -81,5 +82,13 @@ fn main(rt: HostRuntime) -> io::Result<()> {
     bytes::capitalize(&mut words);
     let mut crossed = *b"aab";
     let was_text = (bytes::cross_out(&mut crossed), bytes::cross_out(&mut [255]));
-    println!(rt; "bytes: {repeats:?} {words:?} {crossed:?} {was_text:?}")
+    println!(rt; "bytes: {repeats:?} {words:?} {crossed:?} {was_text:?}")?;
+
+    let mut ends = [1, 1, 2, 3, 3];
+    first_page::fill_ends(&mut ends);
+    println!(rt;
+        "first page: {:?} {ends:?} {}",
+        first_page::outer_runs(&[1, 2, 3, 2, 3].as_slice()),
+        first_page::between_ends(&"aaaabbbbb饰饰cccc")
+    )
 }

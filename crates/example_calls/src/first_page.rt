@@ -1,0 +1,25 @@
+//! The examples of the README.
+use slice_group_by::{GroupBy, LinearGroupMut, StrGroupBy};
+
+/// The last ascending run, and the first of the others.
+pub fn outer_runs<'a>(slice: &'a &[i32]) -> (Option<&'a [i32]>, Option<&'a [i32]>) {
+    let mut runs = slice.linear_group_by(|a, b| a < b);
+    (runs.next_back(), runs.next()) // of [1, 2, 3, 2, 3]: Some([2, 3]), Some([1, 2, 3])
+}
+
+/// Fills the first group and the last, which are out at once.
+pub fn fill_ends(slice: &mut [i32]) {
+    let mut groups = LinearGroupMut::new(slice);
+    if let (Some(first), Some(last)) = (groups.next(), groups.next_back()) {
+        first.fill(7);
+        last.fill(9);
+    } // [1, 1, 2, 3, 3] ends as [7, 7, 2, 9, 9]
+}
+
+/// What stands between the first run of equal characters and the last.
+pub fn between_ends<'a>(text: &'a &str) -> &'a str {
+    let mut runs = text.linear_group_by(|a, b| a == b);
+    runs.next();
+    runs.next_back();
+    runs.as_str() // of "aaaabbbbb饰饰cccc": "bbbbb饰饰"
+}
