@@ -2,4 +2,5 @@
 #![tactic(auto)]
 
 pub mod alone;
+pub mod names;
 pub mod parts;

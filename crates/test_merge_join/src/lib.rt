@@ -7,3 +7,5 @@ mod kinds;
 mod names;
 #[cfg(test)]
 mod parts;
+#[cfg(test)]
+mod users;

@@ -25,10 +25,14 @@ fn a_comparator_that_changes_its_answers(rt: HostRuntime) {
     let mut calls = 0u32;
     let mut lefts = 0usize;
     let mut rights = 0usize;
-    let parts = MergeJoinBy::new(&[1u32, 2, 3, 4, 5], &[1u32, 2, 3, 4, 5], |x: &u32, y: &u32| {
-        calls = calls.wrapping_add(1);
-        if calls % 3 == 0 { y.cmp(x) } else { x.cmp(y) }
-    });
+    let parts = MergeJoinBy::new(
+        &[1u32, 2, 3, 4, 5],
+        &[1u32, 2, 3, 4, 5],
+        |x: &u32, y: &u32| {
+            calls = calls.wrapping_add(1);
+            if calls % 3 == 0 { y.cmp(x) } else { x.cmp(y) }
+        },
+    );
     for part in parts {
         match part {
             Left(group) => lefts = lefts.saturating_add(group.len()),
