@@ -1,6 +1,7 @@
-//! Users of joins by a comparator: how many parts there are, and what has no partner.
+//! Users of joins by a comparator: how many parts there are, how many elements are equal, and what has no partner.
 #![tactic(auto)]
 
 pub mod alone;
+pub mod matches;
 pub mod names;
 pub mod parts;

@@ -2,6 +2,7 @@
 ghost use Rattle.std.specs.Prelude.{◌≡◌, IfOk, string_bytes};
 
 use example_joins::alone::count_alone;
+use example_joins::matches::count_matches;
 use example_joins::names::{Person, Visit, count_visits};
 use std::alloc::{AllocError, Global};
 
@@ -50,4 +51,5 @@ fn of_owned_names(rt: HostRuntime) {
 #[test]
 fn of_numbers(rt: HostRuntime) {
     assert!(rt; count_alone(&[1, 1, 2, 4, 4, 5], &[2, 3, 5]) == 4);
+    assert!(rt; count_matches(&[1, 2, 2, 5], &[2, 2, 2, 3, 5]) == 7);
 }
