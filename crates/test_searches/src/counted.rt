@@ -1,0 +1,104 @@
+//! How often `==` and `cmp` of the elements themselves are called, which no contract can say.
+ghost use Rattle.std.specs.Prelude.{nat_eq};
+ghost use Rattle.std.proofs.Common.{rules};
+ghost use Rattle.std.specs.Cmp.{partial_order_from_own_ties};
+ghost use Rattle.std.specs.Cmp.Rules.{comparing};
+ghost use Rattle.std.specs.Ordering.{on, nat_cmp, as_partial_cmp};
+
+use slice_group_by::{LinearGroup, exponential_search};
+use std::array;
+use std::cell::Cell;
+use std::cmp::Ordering;
+use test_calls::len_of;
+
+// A number whose `==` and `cmp` count their calls.
+#[derive(Drop)]
+pub(super) struct Counted<'a> {
+    number: u32,
+    calls: &'a Cell<usize>,
+}
+
+impl<'a> PartialEq for Counted<'a> {
+    ghost eq = { on (λ x. x.number) nat_eq };
+
+    ghost laws = { Prim.search (comparing, rules) };
+
+    fn eq(&self, other: &Self) -> bool {
+        self.calls.set(self.calls.get().wrapping_add(1));
+        self.number == other.number
+    }
+}
+
+impl<'a> Eq for Counted<'a> {
+    ghost laws = { Prim.search (comparing, rules) };
+}
+
+impl<'a> Ord for Counted<'a> {
+    ghost cmp = { on (λ x. x.number) nat_cmp };
+
+    ghost total = { Prim.search (comparing, rules) };
+
+    ghost matches_partial_cmp = { Prim.search (comparing, rules) };
+
+    ghost matches_eq = { Prim.search (comparing, rules) };
+
+    fn cmp(&self, other: &Self) -> Ordering {
+        self.calls.set(self.calls.get().wrapping_add(1));
+        self.number.cmp(&other.number)
+    }
+}
+
+impl<'a> PartialOrd for Counted<'a> {
+    ghost partial_cmp = { as_partial_cmp (on (λ x. x.number) nat_cmp) };
+
+    ghost laws = { partial_order_from_own_ties (Prim.search (comparing, rules)) (Prim.search (comparing, rules)) };
+
+    fn partial_cmp(&self, other: &Self) -> Option<Ordering> {
+        Some(self.cmp(other))
+    }
+}
+
+fn number<'a>(number: u32, calls: &'a Cell<usize>) -> Counted<'a> {
+    Counted { number, calls }
+}
+
+#[test]
+fn compares_once_a_question(rt: HostRuntime) {
+    let calls = Cell::new(0usize);
+    let slice = [
+        number(1, &calls),
+        number(1, &calls),
+        number(2, &calls),
+        number(3, &calls),
+        number(3, &calls),
+    ];
+    let mut groups = LinearGroup::new(&slice);
+    let made = calls.get();
+    let first = (len_of(groups.next()), calls.replace(0));
+    let last = (len_of(groups.next_back()), calls.replace(0));
+    let rest = (len_of(groups.last()), calls.get());
+    assert!(rt; (made, first, last, rest) == (0, (2, 2), (2, 2), (1, 0)));
+}
+
+// So many zeros, and ones after them.
+pub(super) fn numbers(zeros: usize, calls: &Cell<usize>) -> [Counted<'_>; 1001] {
+    array::from_fn(|place| number(if place < zeros { 0 } else { 1 }, calls))
+}
+
+#[test]
+fn compares_a_thousand(rt: HostRuntime) {
+    let calls = Cell::new(0usize);
+    let slice = numbers(1000, &calls);
+    assert!(rt; len_of(LinearGroup::new(&slice).next()) == 1000 && calls.replace(0) == 1000);
+    let slice = numbers(1, &calls);
+    assert!(rt; len_of(LinearGroup::new(&slice).next_back()) == 1000 && calls.replace(0) == 1000);
+    assert!(rt; len_of(LinearGroup::new(&slice).last()) == 1000 && calls.replace(0) == 1000);
+}
+
+#[test]
+fn searches_with_few_comparisons(rt: HostRuntime) {
+    let calls = Cell::new(0usize);
+    let slice = numbers(1000, &calls);
+    assert_eq!(rt; exponential_search(&slice, &number(1, &calls)), Ok(1000));
+    assert!(rt; calls.get() <= 21);
+}

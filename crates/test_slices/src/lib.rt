@@ -1,0 +1,23 @@
+//! Cases of the groups of slices, all families, for reading: case by case, and each method once.
+#![tactic(auto)]
+
+#[cfg(test)]
+mod aliases;
+#[cfg(test)]
+mod alike;
+#[cfg(test)]
+mod by_name;
+#[cfg(test)]
+mod families;
+#[cfg(test)]
+mod guarded;
+#[cfg(test)]
+mod linear_by;
+#[cfg(test)]
+mod methods;
+#[cfg(test)]
+mod owners;
+#[cfg(test)]
+mod threads;
+#[cfg(test)]
+mod walks;
