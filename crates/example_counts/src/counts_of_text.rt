@@ -3,7 +3,7 @@ ghost use Rattle.std.specs.Prelude.{◌≡◌, ◌-◌, length};
 ghost use Rattle.std.specs.Str.{chars};
 
 use slice_group_by::LinearStrGroupBy;
-use slice_group_by::laws::{calls_ask, text_counts};
+use slice_group_by::laws::{calls_ask, characters_fit, linear_counts};
 
 /// How many questions a walk over the groups of equal characters asks: one less than the text has characters, and none of
 /// an empty text.
@@ -16,7 +16,8 @@ pub fn questions_of_text(text: &str) -> usize
         a == b
     });
     calls_ask(&groups);
-    text_counts(&groups);
+    linear_counts(&groups);
+    characters_fit();
     while let Some(_) = groups.next() {}
     count
 }

@@ -1,11 +1,12 @@
 //! A slice of keys and counts that ascends by the key, with a total kept for each key.
 ghost use Rattle.std.specs.Prelude.{◌≡◌, ◌≤◌, [], map, nat_eq};
+ghost use Rattle.slice_group_by.specs.Calls.{IsCallableBy};
+ghost use Rattle.slice_group_by.specs.Split.{AreApart, split, concat};
 ghost use Rattle.std.specs.Ordering.{nat_cmp};
 ghost use Rattle.slice_group_by.specs.Judges.{by_key};
-ghost use Rattle.slice_group_by.specs.Searching.{IsCallableApart, IsSettledApart};
+ghost use Rattle.slice_group_by.specs.Searching.{IsSettledApart};
 ghost use Rattle.slice_group_by.specs.Gives.{groups_of_mut};
 ghost use Rattle.slice_group_by.specs.Search.{NeverDescends};
-ghost use Rattle.slice_group_by.specs.Split.{split, concat};
 ghost use Rattle.example_counts.specs.Keys.{same_key};
 ghost use Rattle.example_counts.specs.Totals.{total, kept};
 
@@ -25,7 +26,7 @@ fn total_of(group: &[Entry]) -> u32
 fn totals_kept<'a, F: FnMut(&Entry) -> u32>(
     mut groups: ExponentialGroupByKeyMut<'a, Entry, F, u32>,
 ) -> Ended<'a, Entry>
-    requires callable { IsCallableApart (by_key F.FnMut nat_eq) (groups_of_mut groups) }
+    requires callable { IsCallableBy AreApart (by_key F.FnMut nat_eq) (groups_of_mut groups) }
     requires settled { IsSettledApart (by_key F.FnMut nat_eq) (groups_of_mut groups) same_key }
     requires fits { total groups.remainder ≤ 4294967295 }
     requires before { groups.loans.before ≡ [] }

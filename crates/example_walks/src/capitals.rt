@@ -1,9 +1,11 @@
 //! A text whose groups of letters are made upper case in place, through groups for writing.
 ghost use Rattle.std.specs.Prelude.{◌≡◌, []};
+ghost use Rattle.slice_group_by.specs.Texts.{in_characters, IsSettledText};
+ghost use Rattle.slice_group_by.specs.Calls.{IsCallableBy};
+ghost use Rattle.slice_group_by.specs.Split.{AreNeighbours};
 ghost use Rattle.std.specs.Str.{IsUtf8, str_to_ascii_uppercase};
 ghost use Rattle.std.specs.Char.{is_ascii_alphabetic};
 ghost use Rattle.slice_group_by.specs.Judges.{by_char_key};
-ghost use Rattle.slice_group_by.specs.Texts.{IsCallableText, IsSettledText};
 ghost use Rattle.slice_group_by.specs.TextsMut.{text_groups_of_mut};
 
 use slice_group_by::LinearStrGroupByKeyMut;
@@ -14,7 +16,8 @@ use slice_group_by::loans::{Ended, resolve};
 fn groups_capitalized<'a, F: FnMut(char) -> bool>(
     mut groups: LinearStrGroupByKeyMut<'a, F, bool>,
 ) -> Ended<'a, u8>
-    requires callable { IsCallableText (by_char_key F.FnMut ⟦<bool as PartialEq>⟧.eq) (text_groups_of_mut groups) }
+    requires callable { IsCallableBy AreNeighbours (by_char_key F.FnMut ⟦<bool as PartialEq>⟧.eq)
+        (in_characters (text_groups_of_mut groups)) }
     requires letters { IsSettledText (by_char_key F.FnMut ⟦<bool as PartialEq>⟧.eq) (text_groups_of_mut groups)
         (λ a b. ⟦<bool as PartialEq>⟧.eq (is_ascii_alphabetic a) (is_ascii_alphabetic b)) }
     requires before { groups.loans.before ≡ [] }

@@ -6,8 +6,8 @@ use Rattle.std.specs.Borrow.{Bor}
 use Rattle.sgb_search.specs.declared.end.End.{End}
 use Rattle.sgb_search.specs.declared.end.End.TheVariants.{Front, Back}
 use Rattle.sgb_search.specs.Calls.{CallAt, IsGroupAt, between}
-use Rattle.sgb_search.proofs.Between.{between_places, places_between}
-use Rattle.sgb_search.proofs.Ranges.{length-range}
+use Rattle.sgb_search.proofs.Lists.Between.{between_places, places_between}
+use Rattle.sgb_search.proofs.Lists.Ranges.{length-range}
 use Rattle.sgb_groups.specs.declared.groups.SliceGroups.{SliceGroups}
 use Rattle.sgb_groups.specs.Gives.{groups_of, Gives, lies_within}
 use Rattle.sgb_groups.proofs.Parts.{range_split}

@@ -4,9 +4,9 @@ use Rattle.std.specs.Prelude.{Some, None, ◌⊎◌, reverse, slice_get, slice_r
 use Rattle.std.proofs.lemmas.List.{length-reverse}
 use Rattle.std.proofs.lemmas.Option.{slice_get_cases}
 use Rattle.sgb_search.specs.Searching.{IsBetween}
-use Rattle.sgb_search.proofs.Apart.{get_reverse}
-use Rattle.sgb_search.proofs.Grouped.{get_range}
-use Rattle.sgb_search.proofs.Ranges.{length-range}
+use Rattle.sgb_search.proofs.Lists.Apart.{get_reverse}
+use Rattle.sgb_search.proofs.Splits.Grouped.{get_range}
+use Rattle.sgb_search.proofs.Lists.Ranges.{length-range}
 
 module _ {T : Type 0} (xs : List T) where
   -- a place of the list has an element

@@ -4,9 +4,9 @@ use Rattle.std.proofs.lemmas.List.{get_or-take, get_or-drop, take-append-drop, t
 use Rattle.std.proofs.Math.Seq.{take-length}
 use Rattle.std.specs.Prelude.{slice_range, reverse}
 use Rattle.sgb_search.specs.Split.{neighbours, AreNeighbours}
-use Rattle.sgb_search.proofs.Pairs.{PairAt, length-neighbours}
-use Rattle.sgb_search.proofs.Ranges.{length-range}
-use Rattle.sgb_search.proofs.Scanning.{front_pair, back_pair, are_neighbours, back_pairs}
+use Rattle.sgb_search.proofs.Lists.Pairs.{PairAt, length-neighbours}
+use Rattle.sgb_search.proofs.Lists.Ranges.{length-range}
+use Rattle.sgb_search.proofs.Linear.Scanning.{front_pair, back_pair, are_neighbours, back_pairs}
 
 module _ {T : Type 0} (xs : List T) where
   -- an element of the list is one of the part, at its place there

@@ -2,8 +2,7 @@
 use Rattle.std.specs.Prelude.{◌≡◌, ℕ, Bool, List, [], length, Option, MatchOption, nat_le}
 use Rattle.std.specs.Option.{option_copied_mut}
 use Rattle.std.specs.Borrow.{Bor, MutBor}
-use Rattle.sgb_search.specs.declared.judge.Judge.{Ghosts}
-use Rattle.sgb_search.specs.Calls.{Groups, between, IsCallableBy, CallAt, IsGroupAt}
+use Rattle.sgb_search.specs.Calls.{Groups, between, CallAt, IsGroupAt}
 use Rattle.sgb_search.specs.declared.end.End.{End}
 use Rattle.sgb_loans.specs.Loans.{GroupsMut, HandsOut}
 use Rattle.sgb_groups.specs.declared.groups.SliceGroups.{SliceGroups}
@@ -21,16 +20,13 @@ groups_of s = record { remainder = between (lies_within s.slice.now) s.slice.now
 abbrev pub groups_of_mut : {T J : Type 0} → GroupsMut T J → Groups T J
 groups_of_mut s = record { remainder = s.remainder; judge = s.judge }
 
--- a call may be made, as for reading
-abbrev pub IsCallableByMut : {T J : Type 0} → (List T → T × T → Type 0) → Ghosts J T → GroupsMut T J → Type 0
-IsCallableByMut allowed g s = IsCallableBy allowed g (groups_of_mut s)
-
 -- asks: what a call asks, as of linear, binary or exponential groups
 
 -- what a call at the end e gives for reading: what `CallAt` says of what the two show, and where it gives `None` nothing at all changes
 abbrev pub Gives : {T J C : Type 0} → (End → List T → ℕ → J → J → Type 0)
     → End → SliceGroups T J C → Option (Bor (List T)) → SliceGroups T J C → Type 0
-Gives asks e s group t = MatchOption group (((groups_of s).remainder ≡ []) × (t ≡ s)) (λ x. IsGroupAt asks e (groups_of s) x.now (groups_of t))
+Gives asks e s group t = MatchOption group (((groups_of s).remainder ≡ []) × (t ≡ s))
+    (λ x. IsGroupAt asks e (groups_of s) x.now (groups_of t))
 
 -- what a call at the end e gives for writing: the same, and the group is out then; or nothing, and then nothing changes
 abbrev pub GivesMut : {T J : Type 0} → (End → List T → ℕ → J → J → Type 0)

@@ -1,5 +1,6 @@
 //! The groups of a slice for writing, over any judge and any way to find where a group ends.
 ghost use Rattle.std.specs.Prelude.{◌∷◌, ◌++◌, drop, ◌≡◌, ◌<◌, ◌+◌, [], length, Option, nat_eq, IfSome, if◌then◌else◌};
+ghost use Rattle.sgb_search.specs.Calls.{IsCallableBy};
 ghost use Rattle.std.specs.Iterator.{UpTo};
 ghost use Rattle.std.specs.Iterator.SizeHint.{IsWithinCount};
 ghost use Rattle.sgb_search.specs.declared.end.End.TheVariants.{Front, Back};
@@ -145,9 +146,9 @@ impl<'a, T, J: Drop, C> SliceGroupsMut<'a, T, J, C> {
 impl<'a, T, J: Judge<T> + Drop, C: GroupEnd> Iterator for SliceGroupsMut<'a, T, J, C> {
     type Item = &'a mut [T];
 
-    ghost use Rattle.sgb_groups.specs.Gives.{IsCallableByMut, GivesMut};
+    ghost use Rattle.sgb_groups.specs.Gives.{GivesMut, groups_of_mut};
 
-    ghost can_next = { IsCallableByMut (C.allowed T) J.Judge };
+    ghost can_next = { λ s. IsCallableBy (C.allowed T) J.Judge (groups_of_mut s) };
 
     ghost next_gives = { GivesMut (C.asks T J J.Judge) Front };
 
@@ -173,9 +174,9 @@ impl<'a, T, J: Judge<T> + Drop, C: GroupEnd> Iterator for SliceGroupsMut<'a, T, 
 }
 
 impl<'a, T, J: Judge<T> + Drop, C: GroupEnd> DoubleEndedIterator for SliceGroupsMut<'a, T, J, C> {
-    ghost use Rattle.sgb_groups.specs.Gives.{IsCallableByMut, GivesMut};
+    ghost use Rattle.sgb_groups.specs.Gives.{GivesMut, groups_of_mut};
 
-    ghost can_next_back = { IsCallableByMut (C.allowed T) J.Judge };
+    ghost can_next_back = { λ s. IsCallableBy (C.allowed T) J.Judge (groups_of_mut s) };
 
     ghost next_back_gives = { GivesMut (C.asks T J J.Judge) Back };
 
@@ -190,7 +191,7 @@ impl<'a, T, J: Judge<T> + Drop, C: GroupEnd> FusedIterator for SliceGroupsMut<'a
 
 impl<'a, T, J: Judge<T> + Drop, C: GroupEnd> SliceGroupsMut<'a, T, J, C> {
     ghost use Rattle.sgb_loans.specs.Loans.{GroupsMut};
-    ghost use Rattle.sgb_groups.specs.Gives.{IsCallableByMut, GivesMut};
+    ghost use Rattle.sgb_groups.specs.Gives.{GivesMut, groups_of_mut};
 
     /// The last group of the remainder, or `None` where nothing remains: what `next_back` gives, by its questions. The
     /// iterator is given up. `Iterator::last` walks all groups from the front.
@@ -199,7 +200,7 @@ impl<'a, T, J: Judge<T> + Drop, C: GroupEnd> SliceGroupsMut<'a, T, J, C> {
     /// `next_back`, take note of the group, and `finish`.
     #[inline]
     pub fn last(mut self) -> Option<&'a mut [T]>
-        requires { IsCallableByMut (C.allowed T) J.Judge self }
+        requires { IsCallableBy (C.allowed T) J.Judge (groups_of_mut self) }
         ensures { (t : GroupsMut T J) × GivesMut (C.asks T J J.Judge) Back self.entry result t }
     {
         self.next_back()
@@ -208,9 +209,9 @@ impl<'a, T, J: Judge<T> + Drop, C: GroupEnd> SliceGroupsMut<'a, T, J, C> {
     // The group at the end. Each caller names its end, and gets a copy for that end alone.
     #[inline(always)]
     fn next_at(&mut self, end: &End) -> Option<&'a mut [T]>
-        requires { IsCallableByMut (C.allowed T) J.Judge self.old }
+        requires { IsCallableBy (C.allowed T) J.Judge (groups_of_mut self.old) }
         ensures gives { GivesMut (C.asks T J J.Judge) end.now self.old result self.new }
-        ensures callable { IsCallableByMut (C.allowed T) J.Judge self.new }
+        ensures callable { IsCallableBy (C.allowed T) J.Judge (groups_of_mut self.new) }
     {
         if self.slice.len() == 0 {
             return None;

@@ -1,8 +1,8 @@
 //! The binary and the exponential way to find a group: a search among the places beside the outermost element, at either end of a
 //! slice.
 ghost use Rattle.std.specs.Prelude.{◌≡◌, ◌+◌, ◌-◌, ◌<◌, ◌≤◌, Bool, length};
-ghost use Rattle.sgb_search.specs.Searching.{MayAskApart, SearchCost, SearchRun, MayCompareBetween, IsPlaceSearch, MayAskAt, AnsweredAt, as_ordering};
-
+ghost use Rattle.sgb_search.specs.Judges.{MayAskAll};
+ghost use Rattle.sgb_search.specs.Searching.{SearchCost, SearchRun, IsPlaceSearch, MayAskAt, AnsweredAt, as_ordering, IsBetween};
 use crate::group_end::GroupEnd;
 use crate::groups::SliceGroups;
 use crate::groups_mut::SliceGroupsMut;
@@ -42,8 +42,8 @@ pub trait GroupSearch {
         high: usize,
     ) -> Result<usize, usize>
         requires order { low ≤ high }
-        requires callable { MayCompareBetween (λ s i. P.may_compare s places.now i)
-            (λ s i o t. P.compares s places.now i o t) low high asker.old }
+        requires callable { MayAskAll (λ s i. P.may_compare s places.now i)
+            (λ s i o t. P.compares s places.now i o t) (IsBetween low high) asker.old }
         ensures { IsPlaceSearch (λ s i. P.may_compare s places.now i) (λ s i o t. P.compares s places.now i o t)
             cost low high asker.old result asker.new };
 }
@@ -58,7 +58,7 @@ impl<S: GroupSearch> GroupEnd for Search<S> {
     ghost use Rattle.std.specs.Prelude.{false};
     ghost use Rattle.sgb_search.specs.Split.{AreApart, IsGrouped};
     ghost use Rattle.sgb_search.specs.Searching.{SearchQuestions, IsSettledApart};
-    ghost use Rattle.sgb_search.proofs.SearchQueue as laws;
+    ghost use Rattle.sgb_search.proofs.Searches.SearchQueue as laws;
 
     ghost allowed = { λ T. AreApart };
 

@@ -1,8 +1,10 @@
 //! Linear groups, found by a scan along the neighbouring pairs.
 ghost use Rattle.std.specs.Prelude.{ℕ, ◌+◌, ◌<◌, ◌≤◌, length, slice_range};
+ghost use Rattle.sgb_search.specs.Calls.{IsCallableBy};
 ghost use Rattle.sgb_search.specs.declared.end.End.TheVariants.{Front, Back};
 ghost use Rattle.sgb_search.specs.Judges.{IsRun};
-ghost use Rattle.sgb_search.specs.Linear.{questions, MayAskAlong};
+ghost use Rattle.sgb_search.specs.Linear.{questions};
+ghost use Rattle.sgb_search.specs.Split.{AreNeighbours};
 
 use sgb_groups::debug::{DebugNames, Names};
 use sgb_groups::group_end::GroupEnd;
@@ -97,7 +99,7 @@ impl GroupEnd for Linear {
     ghost use Rattle.std.specs.Prelude.{true, ⊤};
     ghost use Rattle.sgb_search.specs.Split.{AreNeighbours, neighbours};
     ghost use Rattle.sgb_search.specs.Linear.{LinearQuestions, IsSettled};
-    ghost use Rattle.sgb_search.proofs.LinearQueue as laws;
+    ghost use Rattle.sgb_search.proofs.Linear.LinearQueue as laws;
 
     ghost allowed = { λ T. AreNeighbours };
 
@@ -139,7 +141,8 @@ impl GroupEnd for Linear {
 fn first_len<T, J: Judge<T>>(slice: &[T], low: usize, high: usize, judge: &mut J) -> usize
     requires nonempty { low < high }
     requires inside { high ≤ length slice.now }
-    requires callable { MayAskAlong J.Judge (slice_range slice.now low high) judge.old }
+    requires callable { IsCallableBy AreNeighbours J.Judge
+        (record { remainder = slice_range slice.now low high; judge = judge.old }) }
     ensures nonempty { 0 < result }
     ensures within { low + result ≤ high }
     ensures asked { IsRun J.may_ask J.answers judge.old (questions Front (slice_range slice.now low high) result) judge.new }
@@ -162,7 +165,8 @@ fn first_len<T, J: Judge<T>>(slice: &[T], low: usize, high: usize, judge: &mut J
 fn last_len<T, J: Judge<T>>(slice: &[T], low: usize, high: usize, judge: &mut J) -> usize
     requires nonempty { low < high }
     requires inside { high ≤ length slice.now }
-    requires callable { MayAskAlong J.Judge (slice_range slice.now low high) judge.old }
+    requires callable { IsCallableBy AreNeighbours J.Judge
+        (record { remainder = slice_range slice.now low high; judge = judge.old }) }
     ensures nonempty { 0 < result }
     ensures within { low + result ≤ high }
     ensures asked { IsRun J.may_ask J.answers judge.old (questions Back (slice_range slice.now low high) result) judge.new }

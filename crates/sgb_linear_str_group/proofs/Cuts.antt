@@ -1,14 +1,14 @@
 -- A text that is cut in two between characters, and the remainder of an iterator that is cut so.
 use Rattle.std.proofs.Common.{◌≡◌, ℕ, ◌+◌, ◌-◌, List, ◌++◌, length, take, drop, sym, ap, ◌∙◌, subst, arith, length-append}
+use Rattle.sgb_search.specs.Calls.{IsCallableBy}
 use Rattle.std.specs.Str.{chars, IsUtf8, IsCharBoundary}
 use Rattle.std.proofs.lemmas.Str.{IsCharBoundary-at_seam}
 use Rattle.std.proofs.Math.Seq.{take-append_seam, drop-append_seam}
 use Rattle.sgb_search.specs.declared.judge.Judge.{Ghosts}
-use Rattle.sgb_search.specs.Linear.{MayAskAlong}
 use Rattle.sgb_search.specs.declared.end.End.{End}
-use Rattle.sgb_search.specs.Split.{put_at}
+use Rattle.sgb_search.specs.Split.{put_at, AreNeighbours}
 use Rattle.sgb_search.specs.declared.end.End.TheVariants.{Front, Back}
-use Rattle.sgb_linear_str_group.specs.Texts.{TextGroups, text_between, IsCallableText, IsTextAt}
+use Rattle.sgb_linear_str_group.specs.Texts.{TextGroups, text_between, IsTextAt, in_characters}
 use Rattle.sgb_linear_str_group.proofs.Places.{text_after, text_before}
 
 -- a text that is cut in two: the seam lies between characters, with the one part before it and the other after it
@@ -51,8 +51,9 @@ module _ {J : Type 0} (g : Ghosts J ℕ) (xs : List ℕ) (j : J) (s : TextGroups
   is_whole : record { text = r; judge = j } ≡ s
   is_whole = ap (λ l. record { text = l; judge = j }) (read ∙ same) ∙ view
 
-  pub callable_whole : IsCallableText g s → MayAskAlong g (chars r) j
-  callable_whole may = subst (λ (v : TextGroups J). IsCallableText g v) (sym is_whole) may
+  pub callable_whole : IsCallableBy AreNeighbours g (in_characters s)
+      → IsCallableBy AreNeighbours g (record { remainder = chars r; judge = j })
+  callable_whole may = subst (λ (v : TextGroups J). IsCallableBy AreNeighbours g (in_characters v)) (sym is_whole) may
 
 -- the remainder r of a reading iterator is the part of xs between low and high, and is cut in a group and a rest
 module _ {J : Type 0} (g : Ghosts J ℕ) (xs : List ℕ) (low high : ℕ) (r : List ℕ) (same : r ≡ text_between xs low high)

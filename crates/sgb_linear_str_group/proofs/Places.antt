@@ -8,7 +8,7 @@ use Rattle.std.proofs.lemmas.Bool.{leb-false}
 use Rattle.std.proofs.lemmas.Bool.Decides.{nat_tests}
 use Rattle.std.proofs.lemmas.List.{get_or_past, get_or-drop, get_or-take, length-take-le}
 use Rattle.std.proofs.lemmas.Str.{IsCharBoundary-start, IsCharBoundary-end}
-use Rattle.sgb_search.proofs.Between.{ArePlaces, between_ends, are_places, is_range, ends_at, part_before, part_after}
+use Rattle.sgb_search.proofs.Lists.Between.{ArePlaces, between_ends, are_places, is_range, ends_at, part_before, part_after}
 use Rattle.sgb_linear_str_group.specs.Texts.{lies_between_characters, text_between}
 
 pub boundary_test : (text : List ℕ) (place : ℕ) → Decides (lies_between_characters text place) (IsCharBoundary text place)

@@ -1,20 +1,19 @@
 -- The laws of calls on a text: those of the list of its characters.
 use Rattle.std.proofs.Common.{◌≡◌, ℕ, Bool, true, List, length, Option, None, Some, refl, ap, ◌∙◌, subst, arith}
-use Rattle.std.specs.Prelude.{option_map, option_copied}
+use Rattle.std.specs.Prelude.{option_map, option_copied, IfSome}
 use Rattle.std.specs.Borrow.{Bor}
-use Rattle.std.specs.Str.{chars}
+use Rattle.std.specs.Str.{chars, IsUtf8}
 use Rattle.std.proofs.lemmas.Str.{chars-nil}
 use Rattle.sgb_search.specs.declared.end.End.{End}
 use Rattle.sgb_search.specs.declared.judge.Judge.{Ghosts}
 use Rattle.sgb_search.specs.Judges.{IsRunOf, AsksWithin}
-use Rattle.sgb_search.specs.Split.{neighbours, TakesPart, TakesPiece}
-use Rattle.sgb_search.specs.Calls.{CallAt}
-use Rattle.sgb_search.specs.Linear.{LinearQuestions, AsksEachOnce}
-use Rattle.sgb_search.proofs.LinearPairs.{asks_once}
-use Rattle.sgb_search.proofs.Calls as calls
-use Rattle.sgb_search.proofs.LinearQueue as list
+use Rattle.sgb_search.specs.Split.{neighbours, TakesPart, TakesPiece, AreNeighbours}
+use Rattle.sgb_search.specs.Calls.{CallAt, IsCallableBy}
+use Rattle.sgb_search.specs.Linear.{LinearQuestions}
+use Rattle.sgb_search.proofs.Questions.Calls as calls
+use Rattle.sgb_search.proofs.Linear.LinearQueue as list
 use Rattle.sgb_linear_str_group.specs.declared.groups.LinearStrGroups.{LinearStrGroups}
-use Rattle.sgb_linear_str_group.specs.Texts.{TextGroups, text_groups_of, in_characters, IsCallableText, IsSettledText, TextCallAt, GivesText}
+use Rattle.sgb_linear_str_group.specs.Texts.{TextGroups, text_groups_of, in_characters, IsSettledText, TextCallAt, GivesText}
 
 module _ {J : Type 0} (g : Ghosts J ℕ) (e : End) where
   -- a call on a text is one on the list of its characters
@@ -29,9 +28,6 @@ module _ {J : Type 0} (g : Ghosts J ℕ) (e : End) where
   call s None t h = (h.0, ap text_groups_of h.1)
   call s (Some x) t h = h
 
-  pub text_once : (s t : TextGroups J) (r : Option (List ℕ)) → TextCallAt g e s r t → AsksEachOnce g (in_characters s) (in_characters t)
-  text_once s t r h = asks_once g e (in_characters s) (option_map chars r) (in_characters t) (on_characters s t r h)
-
   -- a queue whose states show such texts, and whose items show such bytes
   module _ {Q I : Type 0} (seen : Q → TextGroups J) (bytes : I → List ℕ) (s : Q) (r : Option I) (t : Q)
       (h : TextCallAt g e (seen s) (option_map bytes r) (seen t)) where
@@ -39,30 +35,34 @@ module _ {J : Type 0} (g : Ghosts J ℕ) (e : End) where
     mapped None = refl
     mapped (Some x) = refl
 
-    here : CallAt (LinearQuestions g) e (in_characters (seen s)) (option_map chars (option_map bytes r)) (in_characters (seen t))
-    here = on_characters (seen s) (seen t) (option_map bytes r) h
+    pub by_characters : CallAt (LinearQuestions g) e (in_characters (seen s)) (option_map (λ x. chars (bytes x)) r) (in_characters (seen t))
+    by_characters = subst (λ o. CallAt (LinearQuestions g) e (in_characters (seen s)) o (in_characters (seen t))) (mapped r)
+        (on_characters (seen s) (seen t) (option_map bytes r) h)
 
     pub part : TakesPart e (chars (seen s).text) (option_map (λ x. chars (bytes x)) r) (chars (seen t).text)
-    part = subst (λ o. TakesPart e (chars (seen s).text) o (chars (seen t).text)) (mapped r)
-        (calls.part (LinearQuestions g) e (in_characters (seen s)) _ (in_characters (seen t)) here)
+    part = calls.part (LinearQuestions g) e (in_characters (seen s)) _ (in_characters (seen t)) by_characters
 
     pub piece : (p : ℕ → ℕ → Bool) → IsSettledText g (seen s) p
         → TakesPiece p e (chars (seen s).text) (option_map (λ x. chars (bytes x)) r) (chars (seen t).text) × IsSettledText g (seen t) p
-    piece p m = subst (λ o. TakesPiece p e (chars (seen s).text) o (chars (seen t).text) × IsSettledText g (seen t) p) (mapped r)
-        (list.piece g e (in_characters (seen s)) _ (in_characters (seen t)) p here m)
+    piece p m = list.piece g e (in_characters (seen s)) _ (in_characters (seen t)) p by_characters m
 
     -- what may be asked before a call may be asked after it
-    pub keeps : IsCallableText g (seen s) → IsCallableText g (seen t)
-    keeps = list.keeps g e (in_characters (seen s)) _ (in_characters (seen t)) here
+    pub keeps : IsCallableBy AreNeighbours g (in_characters (seen s)) → IsCallableBy AreNeighbours g (in_characters (seen t))
+    keeps = list.keeps g e (in_characters (seen s)) _ (in_characters (seen t)) by_characters
 
     -- n questions were asked, and the pairs of characters that remain are due
     pub asks : AsksWithin (λ s t n. IsRunOf g.may_ask g.answers n (seen s).judge (seen t).judge)
         (λ s. length (neighbours (chars (seen s).text))) true s t
     asks = calls.asks_seen _ _ _ (λ q. in_characters (seen q)) s t
-        (list.asks g e (in_characters (seen s)) (option_map chars (option_map bytes r)) (in_characters (seen t)) here)
+        (list.asks g e (in_characters (seen s)) (option_map (λ x. chars (bytes x)) r) (in_characters (seen t)) by_characters)
 
   -- and by bytes
   pub bytes_part : {Q I : Type 0} (seen : Q → TextGroups J) (bytes : I → List ℕ) (s : Q) (r : Option I) (t : Q)
       → TextCallAt g e (seen s) (option_map bytes r) (seen t) → TakesPart e (seen s).text (option_map bytes r) (seen t).text
   bytes_part seen bytes s None t h = (h.0, ap (λ u. u.text) h.1 ∙ h.0)
   bytes_part seen bytes s (Some x) t h = (λ e. omega (arith, h.nonempty, ap length e), h.cut)
+
+  pub group_utf8 : {Q I : Type 0} (seen : Q → TextGroups J) (bytes : I → List ℕ) (s : Q) (r : Option I) (t : Q)
+      → TextCallAt g e (seen s) (option_map bytes r) (seen t) → IfSome r (λ x. IsUtf8 (bytes x))
+  group_utf8 seen bytes s None t h = tt
+  group_utf8 seen bytes s (Some x) t h = h.group_utf8

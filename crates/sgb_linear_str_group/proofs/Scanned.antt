@@ -1,10 +1,9 @@
 -- A scan of a text's characters from an end, question by question.
-use Rattle.std.proofs.Common.{◌≡◌, ℕ, ◌+◌, ◌<◌, true, false, List, [], ◌∷◌, ◌++◌, length, take, drop}
-use Rattle.std.proofs.Common.{refl, sym, ap, ◌∙◌, subst, arith, append_assoc, length-append}
+use Rattle.std.proofs.Common.{◌≡◌, ℕ, ◌+◌, ◌<◌, true, false, List, [], ◌∷◌, ◌++◌, length, take, drop, refl, sym, ap, ◌∙◌, subst, arith, append_assoc, length-append}
+use Rattle.sgb_search.specs.Calls.{IsCallableBy}
 use Rattle.std.specs.Str.{chars, IsUtf8}
 use Rattle.std.specs.Char.{encode_utf8}
-use Rattle.std.proofs.lemmas.Str.{chars-nil, chars-append, chars_past_char, IsUtf8-append, IsUtf8-take, IsUtf8-drop}
-use Rattle.std.proofs.lemmas.Str.{IsCharBoundary-at_seam, IsCharBoundary-from_take}
+use Rattle.std.proofs.lemmas.Str.{chars-nil, chars-append, chars_past_char, IsUtf8-append, IsUtf8-take, IsUtf8-drop, IsCharBoundary-at_seam, IsCharBoundary-from_take}
 use Rattle.std.proofs.Math.Seq.{take-append_seam, drop-append_seam}
 use Rattle.std.proofs.lemmas.List.{append-nil}
 use Rattle.sgb_search.specs.declared.end.End.{End}
@@ -12,11 +11,11 @@ use Rattle.sgb_search.specs.declared.end.End.TheVariants.{Front, Back}
 use Rattle.sgb_search.specs.declared.judge.Judge.{Ghosts}
 use Rattle.sgb_search.specs.Judges.{IsRun}
 use Rattle.sgb_search.specs.Split.{from, put_at, neighbours, AreNeighbours}
-use Rattle.sgb_search.specs.Linear.{questions, MayAskAlong}
-use Rattle.sgb_search.proofs.Ends.{length-from}
-use Rattle.sgb_search.proofs.Runs.{may_now, may_next}
-use Rattle.sgb_search.proofs.Pairs.{PairAt, pair_between, at_reverse, one_of_at, length-neighbours}
-use Rattle.sgb_search.proofs.Scanning.{Accepted, accepted_none, accepted_more, refused_next, accepted_all}
+use Rattle.sgb_search.specs.Linear.{questions}
+use Rattle.sgb_search.proofs.Lists.Ends.{length-from}
+use Rattle.sgb_search.proofs.Questions.Runs.{may_now, may_next}
+use Rattle.sgb_search.proofs.Lists.Pairs.{PairAt, pair_between, at_reverse, one_of_at, length-neighbours}
+use Rattle.sgb_search.proofs.Linear.Scanning.{Accepted, accepted_none, accepted_more, refused_next, accepted_all}
 use Rattle.sgb_linear_str_group.specs.Texts.{IsTextAt}
 
 module _ {X : Type 0} where
@@ -98,12 +97,12 @@ module _ {J : Type 0} (g : Ghosts J ℕ) (e : End) (text : List ℕ) (j : J) whe
     pub rest_utf8 : IsUtf8 rest
     pub seen : List ℕ
     pub characters : chars group ≡ put_at e seen (innermost ∷ [])
-    pub callable : MayAskAlong g (chars text) k
+    pub callable : IsCallableBy AreNeighbours g (record { remainder = chars text; judge = k })
     pub accepted : Accepted g.may_ask g.answers (from e (neighbours (chars text))) j (length seen) k
 
   -- the outermost character alone
   pub one_scanned : (c : ℕ) (rest : List ℕ) → IsUtf8 text → text ≡ put_at e (encode_utf8 c) rest → IsUtf8 rest
-      → MayAskAlong g (chars text) j → Scanned rest c j
+      → IsCallableBy AreNeighbours g (record { remainder = chars text; judge = j }) → Scanned rest c j
   one_scanned c rest u cut v callable = record {
     group = encode_utf8 c;
     cut = cut;

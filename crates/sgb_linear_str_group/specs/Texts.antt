@@ -7,7 +7,7 @@ use Rattle.sgb_search.specs.declared.judge.Judge.{Ghosts}
 use Rattle.sgb_search.specs.declared.end.End.{End}
 use Rattle.sgb_search.specs.Split.{put_at}
 use Rattle.sgb_search.specs.Calls.{IsGroupAt, Groups, between}
-use Rattle.sgb_search.specs.Linear.{IsCallable, IsSettled, LinearQuestions}
+use Rattle.sgb_search.specs.Linear.{IsSettled, LinearQuestions}
 use Rattle.sgb_linear_str_group.specs.declared.groups.LinearStrGroups.{LinearStrGroups}
 
 -- the bytes that it has not handed out yet, and its judge
@@ -38,10 +38,6 @@ abbrev pub text_groups_to_come : {J : Type 0} → TextGroups J → Count
 text_groups_to_come s = at_most (length s.text)
 
 module _ {J : Type 0} (g : Ghosts J ℕ) where
-  -- the judge may be asked about the neighbouring characters that remain, now and after any such questions
-  abbrev pub IsCallableText : TextGroups J → Type 0
-  IsCallableText s = IsCallable g (in_characters s)
-
   -- each answer to questions about the neighbouring characters that remain is what p says
   abbrev pub IsSettledText : TextGroups J → (ℕ → ℕ → Bool) → Type 0
   IsSettledText s p = IsSettled g (in_characters s) p
@@ -60,4 +56,5 @@ module _ {J : Type 0} (g : Ghosts J ℕ) where
 
   -- what a call at the end gives for reading: the same of what it shows, and where it gives `None` nothing at all changes
   abbrev pub GivesText : End → LinearStrGroups J → Option (Bor (List ℕ)) → LinearStrGroups J → Type 0
-  GivesText e s group t = MatchOption group (((text_groups_of s).text ≡ []) × (t ≡ s)) (λ x. IsTextAt e (text_groups_of s) x.now (text_groups_of t))
+  GivesText e s group t = MatchOption group (((text_groups_of s).text ≡ []) × (t ≡ s))
+      (λ x. IsTextAt e (text_groups_of s) x.now (text_groups_of t))

@@ -1,8 +1,10 @@
 //! Linear groups of equal characters of a text: for reading and, as bytes, for writing.
 ghost use Rattle.std.specs.Prelude.{◌≡◌, nat_eq};
+ghost use Rattle.sgb_search.specs.Calls.{IsCallableBy};
+ghost use Rattle.sgb_search.specs.Split.{AreNeighbours};
 ghost use Rattle.std.specs.Str.{IsUtf8};
 ghost use Rattle.sgb_search.specs.Judges.{by_equality};
-ghost use Rattle.sgb_linear_str_group.specs.Texts.{text_groups_of, IsCallableText, IsSettledText};
+ghost use Rattle.sgb_linear_str_group.specs.Texts.{text_groups_of, IsSettledText, in_characters};
 ghost use Rattle.sgb_linear_str_group.specs.TextsMut.{text_groups_of_mut};
 ghost use Rattle.sgb_loans.specs.Loans.{NothingOut};
 
@@ -37,7 +39,7 @@ impl<'a> LinearStrGroups<'a, EqualityJudge> {
     pub fn new(string: &'a str) -> Self
         ensures text { (text_groups_of result).text ≡ string.now }
         ensures asked { result.judge.asked ≡ 0 }
-        ensures callable { IsCallableText (by_equality nat_eq) (text_groups_of result) }
+        ensures callable { IsCallableBy AreNeighbours (by_equality nat_eq) (in_characters (text_groups_of result)) }
         ensures settled { IsSettledText (by_equality nat_eq) (text_groups_of result) nat_eq }
     {
         LinearStrGroups::with_judge(string, EqualityJudge::new())
@@ -54,7 +56,7 @@ impl<'a> LinearStrGroupsMut<'a, EqualityJudge> {
         requires { IsUtf8 bytes.old }
         ensures text { result.text ≡ bytes.old }
         ensures asked { result.judge.asked ≡ 0 }
-        ensures callable { IsCallableText (by_equality nat_eq) (text_groups_of_mut result) }
+        ensures callable { IsCallableBy AreNeighbours (by_equality nat_eq) (in_characters (text_groups_of_mut result)) }
         ensures settled { IsSettledText (by_equality nat_eq) (text_groups_of_mut result) nat_eq }
         ensures loans { NothingOut bytes.entry.ghost_name result.loans }
     {

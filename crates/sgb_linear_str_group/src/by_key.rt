@@ -1,8 +1,10 @@
 //! Linear groups of a text by a key: for reading and, as bytes, for writing.
 ghost use Rattle.std.specs.Prelude.{◌≡◌, ℕ};
+ghost use Rattle.sgb_search.specs.Calls.{IsCallableBy};
+ghost use Rattle.sgb_search.specs.Split.{AreNeighbours};
 ghost use Rattle.std.specs.Str.{IsUtf8};
 ghost use Rattle.sgb_search.specs.Judges.{by_char_key, char_key_judge, ComputesCharKey};
-ghost use Rattle.sgb_linear_str_group.specs.Texts.{text_groups_of, IsCallableText, IsSettledText};
+ghost use Rattle.sgb_linear_str_group.specs.Texts.{text_groups_of, IsSettledText, in_characters};
 ghost use Rattle.sgb_linear_str_group.specs.TextsMut.{text_groups_of_mut};
 ghost use Rattle.sgb_loans.specs.Loans.{NothingOut};
 
@@ -45,11 +47,12 @@ impl<'a, K: PartialEq + Drop, F: FnMut(char) -> K> LinearStrGroups<'a, CharKeyJu
     /// The result is settled for equality of the keys that the function computes.
     #[inline]
     pub fn new(string: &'a str, func: F) -> Self
-        requires { IsCallableText (by_char_key F.FnMut K.eq)
-            (record { text = string.now; judge = char_key_judge func }) }
+        requires { IsCallableBy AreNeighbours (by_char_key F.FnMut K.eq)
+            (in_characters (record { text = string.now; judge = char_key_judge func })) }
         ensures text { (text_groups_of result).text ≡ string.now }
         ensures judge { result.judge ≡ char_key_judge func }
-        ensures callable { IsCallableText (by_char_key F.FnMut K.eq) (text_groups_of result) }
+        ensures callable { IsCallableBy AreNeighbours (by_char_key F.FnMut K.eq)
+            (in_characters (text_groups_of result)) }
         ensures settled { (key : ℕ → K) → ComputesCharKey F.FnMut key func
             → IsSettledText (by_char_key F.FnMut K.eq) (text_groups_of result) (λ x y. K.eq (key x) (key y)) }
     {
@@ -66,11 +69,12 @@ impl<'a, K: PartialEq + Drop, F: FnMut(char) -> K> LinearStrGroupsMut<'a, CharKe
     #[inline]
     pub fn new(bytes: &'a mut [u8], func: F) -> Self
         requires utf8 { IsUtf8 bytes.old }
-        requires callable { IsCallableText (by_char_key F.FnMut K.eq)
-            (record { text = bytes.old; judge = char_key_judge func }) }
+        requires callable { IsCallableBy AreNeighbours (by_char_key F.FnMut K.eq)
+            (in_characters (record { text = bytes.old; judge = char_key_judge func })) }
         ensures text { result.text ≡ bytes.old }
         ensures judge { result.judge ≡ char_key_judge func }
-        ensures callable { IsCallableText (by_char_key F.FnMut K.eq) (text_groups_of_mut result) }
+        ensures callable { IsCallableBy AreNeighbours (by_char_key F.FnMut K.eq)
+            (in_characters (text_groups_of_mut result)) }
         ensures settled { (key : ℕ → K) → ComputesCharKey F.FnMut key func
             → IsSettledText (by_char_key F.FnMut K.eq) (text_groups_of_mut result) (λ x y. K.eq (key x) (key y)) }
         ensures loans { NothingOut bytes.entry.ghost_name result.loans }

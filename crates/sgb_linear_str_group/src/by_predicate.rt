@@ -1,8 +1,10 @@
 //! Linear groups of a text by a predicate: for reading and, as bytes, for writing.
 ghost use Rattle.std.specs.Prelude.{◌≡◌, ℕ, Bool};
+ghost use Rattle.sgb_search.specs.Calls.{IsCallableBy};
+ghost use Rattle.sgb_search.specs.Split.{AreNeighbours};
 ghost use Rattle.std.specs.Str.{IsUtf8};
 ghost use Rattle.sgb_search.specs.Judges.{by_char_predicate, char_predicate_judge, ComputesOnChars};
-ghost use Rattle.sgb_linear_str_group.specs.Texts.{text_groups_of, IsCallableText, IsSettledText};
+ghost use Rattle.sgb_linear_str_group.specs.Texts.{text_groups_of, IsSettledText, in_characters};
 ghost use Rattle.sgb_linear_str_group.specs.TextsMut.{text_groups_of_mut};
 ghost use Rattle.sgb_loans.specs.Loans.{NothingOut};
 
@@ -44,11 +46,12 @@ impl<'a, P: FnMut(char, char) -> bool> LinearStrGroups<'a, CharPredicateJudge<P>
     /// The result is settled for each test that the predicate computes.
     #[inline]
     pub fn new(string: &'a str, predicate: P) -> Self
-        requires { IsCallableText (by_char_predicate P.FnMut)
-            (record { text = string.now; judge = char_predicate_judge predicate }) }
+        requires { IsCallableBy AreNeighbours (by_char_predicate P.FnMut)
+            (in_characters (record { text = string.now; judge = char_predicate_judge predicate })) }
         ensures text { (text_groups_of result).text ≡ string.now }
         ensures judge { result.judge ≡ char_predicate_judge predicate }
-        ensures callable { IsCallableText (by_char_predicate P.FnMut) (text_groups_of result) }
+        ensures callable { IsCallableBy AreNeighbours (by_char_predicate P.FnMut)
+            (in_characters (text_groups_of result)) }
         ensures settled { (p : ℕ → ℕ → Bool) → ComputesOnChars P.FnMut p predicate
             → IsSettledText (by_char_predicate P.FnMut) (text_groups_of result) p }
     {
@@ -65,11 +68,12 @@ impl<'a, P: FnMut(char, char) -> bool> LinearStrGroupsMut<'a, CharPredicateJudge
     #[inline]
     pub fn new(bytes: &'a mut [u8], predicate: P) -> Self
         requires utf8 { IsUtf8 bytes.old }
-        requires callable { IsCallableText (by_char_predicate P.FnMut)
-            (record { text = bytes.old; judge = char_predicate_judge predicate }) }
+        requires callable { IsCallableBy AreNeighbours (by_char_predicate P.FnMut)
+            (in_characters (record { text = bytes.old; judge = char_predicate_judge predicate })) }
         ensures text { result.text ≡ bytes.old }
         ensures judge { result.judge ≡ char_predicate_judge predicate }
-        ensures callable { IsCallableText (by_char_predicate P.FnMut) (text_groups_of_mut result) }
+        ensures callable { IsCallableBy AreNeighbours (by_char_predicate P.FnMut)
+            (in_characters (text_groups_of_mut result)) }
         ensures settled { (p : ℕ → ℕ → Bool) → ComputesOnChars P.FnMut p predicate
             → IsSettledText (by_char_predicate P.FnMut) (text_groups_of_mut result) p }
         ensures loans { NothingOut bytes.entry.ghost_name result.loans }

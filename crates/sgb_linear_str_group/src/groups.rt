@@ -1,11 +1,12 @@
 //! Linear groups of a text for reading, over any judge of characters.
 ghost use Rattle.std.specs.Prelude.{◌≡◌, ◌<◌, ◌+◌, ◌^◌, length, nat_eq, IfSome, IsTrue, ◌↔◌};
+ghost use Rattle.sgb_search.specs.Calls.{IsCallableBy};
+ghost use Rattle.sgb_search.specs.Split.{AreNeighbours};
 ghost use Rattle.std.specs.Str.{IsCharBoundary};
 ghost use Rattle.std.specs.Iterator.{UpTo};
 ghost use Rattle.std.specs.Iterator.SizeHint.{IsWithinCount};
 ghost use Rattle.sgb_search.specs.declared.end.End.TheVariants.{Front, Back};
-ghost use Rattle.sgb_linear_str_group.specs.Texts.{text_between, text_groups_of, text_groups_to_come};
-
+ghost use Rattle.sgb_linear_str_group.specs.Texts.{text_between, text_groups_of, text_groups_to_come, in_characters};
 use crate::scan::split_group;
 use sgb_search::end::End;
 use sgb_search::judge::Judge;
@@ -100,9 +101,9 @@ impl<'a, J> LinearStrGroups<'a, J> {
 impl<'a, J: Judge<char> + Drop> Iterator for LinearStrGroups<'a, J> {
     type Item = &'a str;
 
-    ghost use Rattle.sgb_linear_str_group.specs.Texts.{IsCallableText, GivesText};
+    ghost use Rattle.sgb_linear_str_group.specs.Texts.{GivesText};
 
-    ghost can_next = { λ s. IsCallableText J.Judge (text_groups_of s) };
+    ghost can_next = { λ s. IsCallableBy AreNeighbours J.Judge (in_characters (text_groups_of s)) };
 
     ghost next_gives = { GivesText J.Judge Front };
 
@@ -126,9 +127,9 @@ impl<'a, J: Judge<char> + Drop> Iterator for LinearStrGroups<'a, J> {
 }
 
 impl<'a, J: Judge<char> + Drop> DoubleEndedIterator for LinearStrGroups<'a, J> {
-    ghost use Rattle.sgb_linear_str_group.specs.Texts.{IsCallableText, GivesText};
+    ghost use Rattle.sgb_linear_str_group.specs.Texts.{GivesText};
 
-    ghost can_next_back = { λ s. IsCallableText J.Judge (text_groups_of s) };
+    ghost can_next_back = { λ s. IsCallableBy AreNeighbours J.Judge (in_characters (text_groups_of s)) };
 
     ghost next_back_gives = { GivesText J.Judge Back };
 
@@ -142,7 +143,7 @@ impl<'a, J: Judge<char> + Drop> DoubleEndedIterator for LinearStrGroups<'a, J> {
 impl<'a, J: Judge<char> + Drop> FusedIterator for LinearStrGroups<'a, J> {}
 
 impl<'a, J: Judge<char> + Drop> LinearStrGroups<'a, J> {
-    ghost use Rattle.sgb_linear_str_group.specs.Texts.{IsCallableText, GivesText};
+    ghost use Rattle.sgb_linear_str_group.specs.Texts.{GivesText};
 
     /// The last group of the remainder, or `None` where nothing remains: what `next_back` gives. The iterator is given up.
     ///
@@ -151,7 +152,7 @@ impl<'a, J: Judge<char> + Drop> LinearStrGroups<'a, J> {
     /// the last group alone.
     #[inline]
     pub fn last(mut self) -> Option<&'a str>
-        requires { IsCallableText J.Judge (text_groups_of self) }
+        requires { IsCallableBy AreNeighbours J.Judge (in_characters (text_groups_of self)) }
         ensures { (t : LinearStrGroups J) × GivesText J.Judge Back self.entry result t }
     {
         self.next_back()
@@ -160,9 +161,9 @@ impl<'a, J: Judge<char> + Drop> LinearStrGroups<'a, J> {
     // The group at the end. Each caller names its end, and gets a copy for that end alone.
     #[inline(always)]
     fn next_at(&mut self, end: &End) -> Option<&'a str>
-        requires { IsCallableText J.Judge (text_groups_of self.old) }
+        requires { IsCallableBy AreNeighbours J.Judge (in_characters (text_groups_of self.old)) }
         ensures gives { GivesText J.Judge end.now self.old result self.new }
-        ensures callable { IsCallableText J.Judge (text_groups_of self.new) }
+        ensures callable { IsCallableBy AreNeighbours J.Judge (in_characters (text_groups_of self.new)) }
     {
         let rest = part(end, self.string, self.low, self.high);
         let (group, left) = split_group(end, rest, &mut self.judge)?;

@@ -1,13 +1,13 @@
 //! Linear groups of a text's bytes for writing, over any judge of characters.
 ghost use Rattle.std.specs.Prelude.{◌≡◌, ℕ, ◌<◌, ◌≤◌, Bool, List, [], ◌∷◌, ◌++◌, drop, length, nat_eq, IfSome};
+ghost use Rattle.sgb_search.specs.Calls.{IsCallableBy};
 ghost use Rattle.std.specs.Iterator.{UpTo};
 ghost use Rattle.std.specs.Iterator.SizeHint.{IsWithinCount};
 ghost use Rattle.std.specs.Str.{chars, IsUtf8};
 ghost use Rattle.sgb_search.specs.declared.end.End.TheVariants.{Front, Back};
-ghost use Rattle.sgb_search.specs.Linear.{MayAskAlong};
-ghost use Rattle.sgb_search.specs.Split.{put_at};
+ghost use Rattle.sgb_search.specs.Split.{put_at, AreNeighbours};
 ghost use Rattle.sgb_loans.specs.Loans.{NothingOut};
-ghost use Rattle.sgb_linear_str_group.specs.Texts.{IsTextAt};
+ghost use Rattle.sgb_linear_str_group.specs.Texts.{IsTextAt, in_characters};
 ghost use Rattle.sgb_linear_str_group.specs.TextsMut.{TextGroupsMut, text_groups_mut_to_come};
 
 use crate::scan::split_group;
@@ -143,10 +143,9 @@ impl<'a, J: Drop> LinearStrGroupsMut<'a, J> {
 impl<'a, J: Judge<char> + Drop> Iterator for LinearStrGroupsMut<'a, J> {
     type Item = &'a mut [u8];
 
-    ghost use Rattle.sgb_linear_str_group.specs.Texts.{IsCallableText};
     ghost use Rattle.sgb_linear_str_group.specs.TextsMut.{text_groups_of_mut, GivesTextMut};
 
-    ghost can_next = { λ s. IsCallableText J.Judge (text_groups_of_mut s) };
+    ghost can_next = { λ s. IsCallableBy AreNeighbours J.Judge (in_characters (text_groups_of_mut s)) };
 
     ghost next_gives = { GivesTextMut J.Judge Front };
 
@@ -171,10 +170,9 @@ impl<'a, J: Judge<char> + Drop> Iterator for LinearStrGroupsMut<'a, J> {
 }
 
 impl<'a, J: Judge<char> + Drop> DoubleEndedIterator for LinearStrGroupsMut<'a, J> {
-    ghost use Rattle.sgb_linear_str_group.specs.Texts.{IsCallableText};
     ghost use Rattle.sgb_linear_str_group.specs.TextsMut.{text_groups_of_mut, GivesTextMut};
 
-    ghost can_next_back = { λ s. IsCallableText J.Judge (text_groups_of_mut s) };
+    ghost can_next_back = { λ s. IsCallableBy AreNeighbours J.Judge (in_characters (text_groups_of_mut s)) };
 
     ghost next_back_gives = { GivesTextMut J.Judge Back };
 
@@ -189,7 +187,6 @@ impl<'a, J: Judge<char> + Drop> DoubleEndedIterator for LinearStrGroupsMut<'a, J
 impl<'a, J: Judge<char> + Drop> FusedIterator for LinearStrGroupsMut<'a, J> {}
 
 impl<'a, J: Judge<char> + Drop> LinearStrGroupsMut<'a, J> {
-    ghost use Rattle.sgb_linear_str_group.specs.Texts.{IsCallableText};
     ghost use Rattle.sgb_linear_str_group.specs.TextsMut.{text_groups_of_mut, GivesTextMut};
 
     /// The bytes of the last group of the remainder, or `None` where nothing remains: what `next_back` gives, by its
@@ -200,7 +197,7 @@ impl<'a, J: Judge<char> + Drop> LinearStrGroupsMut<'a, J> {
     /// `next_back`, take note of the group, and `finish`.
     #[inline]
     pub fn last(mut self) -> Option<&'a mut [u8]>
-        requires { IsCallableText J.Judge (text_groups_of_mut self) }
+        requires { IsCallableBy AreNeighbours J.Judge (in_characters (text_groups_of_mut self)) }
         ensures { (t : TextGroupsMut J) × GivesTextMut J.Judge Back self.entry result t }
     {
         self.next_back()
@@ -209,9 +206,9 @@ impl<'a, J: Judge<char> + Drop> LinearStrGroupsMut<'a, J> {
     // The group at the end. Each caller names its end, and gets a copy for that end alone.
     #[inline(always)]
     fn next_at(&mut self, end: &End) -> Option<&'a mut [u8]>
-        requires { IsCallableText J.Judge (text_groups_of_mut self.old) }
+        requires { IsCallableBy AreNeighbours J.Judge (in_characters (text_groups_of_mut self.old)) }
         ensures gives { GivesTextMut J.Judge end.now self.old result self.new }
-        ensures callable { IsCallableText J.Judge (text_groups_of_mut self.new) }
+        ensures callable { IsCallableBy AreNeighbours J.Judge (in_characters (text_groups_of_mut self.new)) }
     {
         if self.bytes.len() == 0 {
             return None;

@@ -1,10 +1,10 @@
 //! The scan that finds a group of characters.
 ghost use Rattle.std.specs.Prelude.{◌≡◌, ◌<◌, [], ◌++◌, length, take, MatchOption};
+ghost use Rattle.sgb_search.specs.Calls.{IsCallableBy};
 ghost use Rattle.std.specs.Str.{chars, IsUtf8, IsCharBoundary};
 ghost use Rattle.std.specs.Str.Iter.{chars_rest};
 ghost use Rattle.std.specs.Char.{encode_utf8, IsScalar};
-ghost use Rattle.sgb_search.specs.Linear.{MayAskAlong};
-ghost use Rattle.sgb_search.specs.Split.{put_at};
+ghost use Rattle.sgb_search.specs.Split.{put_at, AreNeighbours};
 ghost use Rattle.sgb_linear_str_group.specs.Texts.{IsTextAt};
 
 use sgb_search::end::End;
@@ -18,7 +18,7 @@ pub(crate) fn split_group<'a, J: Judge<char>>(
     text: &'a str,
     judge: &mut J,
 ) -> Option<(&'a str, &'a str)>
-    requires { MayAskAlong J.Judge (chars text.now) judge.old }
+    requires { IsCallableBy AreNeighbours J.Judge (record { remainder = chars text.now; judge = judge.old }) }
     ensures { MatchOption result ((text.now ≡ []) × (judge.new ≡ judge.old))
         (λ x. IsTextAt J.Judge end.now (record { text = text.now; judge = judge.old }) x.0.now
         (record { text = x.1.now; judge = judge.new })) }

@@ -4,7 +4,6 @@ use Rattle.std.specs.Prelude.{◌≡◌, ℕ, ◌+◌, ◌≤◌, Bool, true, Li
 use Rattle.std.specs.List.{AllByRecursion}
 use Rattle.std.specs.Borrow.{Bor}
 use Rattle.std.specs.Fn.{Takes, TakesAt, TakesAtTwo, Called, CalledAt, CalledAtTwo, AlwaysReturns, Mut}
-use Rattle.sgb_search.specs.Split.{on_pairs}
 use Rattle.sgb_search.specs.declared.judge.Judge.{Ghosts}
 use Rattle.sgb_search.specs.declared.judge.PredicateJudge.{PredicateJudge}
 use Rattle.sgb_search.specs.declared.judge.KeyJudge.{KeyJudge}
@@ -51,30 +50,21 @@ by_predicate g = record {
 abbrev pub predicate_judge : {P : Type 0} → P → PredicateJudge P
 predicate_judge predicate = record { predicate = predicate }
 
--- in every state that its answers can lead to, the predicate may be called on each allowed pair
-abbrev pub MayCallOnPairs : {P T : Type 0} → Mut P (Bor T × (Bor T × Unit {0})) Bool → (T × T → Type 0) → P → Type 0
-MayCallOnPairs g allowed f = MayAskAll (λ p q. TakesAtTwo g p q.0 q.1) (λ p q b p'. CalledAtTwo g p q.0 q.1 b p') allowed f
-
--- and there it answers what p says
-abbrev pub AnswersOnPairs : {P T : Type 0} → Mut P (Bor T × (Bor T × Unit {0})) Bool → (T × T → Type 0) → (T → T → Bool) → P → Type 0
-AnswersOnPairs g allowed p f =
-    AnswersBy (λ s q. TakesAtTwo g s q.0 q.1) (λ s q b t. CalledAtTwo g s q.0 q.1 b t) allowed (on_pairs p) f
-
 -- takes f x: the key function may be called at x; calls f x k f': that call may give k, and leaves f'
 module _ {F T K : Type 0} (takes : F → T → Type 0) (calls : F → T → K → F → Type 0) where
   -- the two calls for the keys may be made, the second wherever the first leads
   abbrev pub MayCompareKeys : F → T × T → Type 0
   MayCompareKeys f q = takes f q.0 × ((k : K) (f' : F) → calls f q.0 k f' → takes f' q.1)
 
--- a call for the key of the left element, then one for that of the right, and b is what eq says of the keys
-pub record ComparesKeys {F T K : Type 0} (calls : F → T → K → F → Type 0) (eq : K → K → Bool) (f : F) (left right : T) (b : Bool)
+-- a call for the key of the first element, then one for that of the second, and b is what eq says of the keys
+pub record ComparesKeys {F T K : Type 0} (calls : F → T → K → F → Type 0) (eq : K → K → Bool) (f : F) (first second : T) (b : Bool)
     (f' : F) : Type 0 where
-  pub between : F
-  pub left_key : K
-  pub right_key : K
-  pub first : calls f left left_key between
-  pub second : calls between right right_key f'
-  pub compared : b ≡ eq left_key right_key
+  pub state_between : F
+  pub first_key : K
+  pub second_key : K
+  pub first_call : calls f first first_key state_between
+  pub second_call : calls state_between second second_key f'
+  pub compared : b ≡ eq first_key second_key
 
 -- by key: two calls, and the keys compared
 abbrev pub by_key : {F K T : Type 0} → Mut F (Bor T × Unit {0}) K → (K → K → Bool) → Ghosts (KeyJudge F K) T

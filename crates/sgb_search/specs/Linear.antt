@@ -2,10 +2,10 @@
 --     questions e xs g     what a linear call at the end e asks that takes g > 0 elements, with the answers
 use Rattle.std.specs.Prelude.{ℕ, ◌-◌, Bool, true, false, List, ◌++◌, map, take, drop, IsPermutation}
 use Rattle.sgb_search.specs.declared.end.End.{End}
-use Rattle.sgb_search.specs.Split.{from, neighbours, AreNeighbours, on_pairs}
+use Rattle.sgb_search.specs.Split.{from, neighbours, AreNeighbours}
 use Rattle.sgb_search.specs.declared.judge.Judge.{Ghosts}
-use Rattle.sgb_search.specs.Judges.{IsRun, MayAskAll, AnswersBy}
-use Rattle.sgb_search.specs.Calls.{Groups}
+use Rattle.sgb_search.specs.Judges.{IsRun}
+use Rattle.sgb_search.specs.Calls.{Groups, ComputesBy}
 
 module _ {A : Type 0} where
   -- the pairs, each with the same answer
@@ -22,21 +22,9 @@ module _ {A : Type 0} where
   questions e xs g = questions_along (from e (neighbours xs)) g
 
 module _ {T J : Type 0} (g : Ghosts J T) where
-  -- the judge may be asked about each neighbouring pair of the list, now and after any such questions
-  abbrev pub MayAskAlong : List T → J → Type 0
-  MayAskAlong xs j = MayAskAll g.may_ask g.answers (AreNeighbours xs) j
-
-  -- each answer to questions about neighbouring pairs of the list, in any order, is what p says; whether they may be asked it leaves open
-  abbrev pub AnswersAlong : List T → (T → T → Bool) → J → Type 0
-  AnswersAlong xs p j = AnswersBy g.may_ask g.answers (AreNeighbours xs) (on_pairs p) j
-
-  -- the judge may be asked about the neighbouring pairs that remain, now and after any such questions
-  abbrev pub IsCallable : Groups T J → Type 0
-  IsCallable s = MayAskAlong s.remainder s.judge
-
-  -- each answer to questions about the neighbouring pairs that remain is what p says
+  -- each answer to questions about the neighbouring pairs that remain, in any order, is what p says
   abbrev pub IsSettled : Groups T J → (T → T → Bool) → Type 0
-  IsSettled s p = AnswersAlong s.remainder p s.judge
+  IsSettled = ComputesBy AreNeighbours g
 
   -- what a linear call asks: exactly the questions up to the end of the n elements that it takes
   abbrev pub LinearQuestions : End → List T → ℕ → J → J → Type 0

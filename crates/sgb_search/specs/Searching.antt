@@ -7,9 +7,9 @@ use Rattle.std.specs.declared.cmp.Ordering.{Ordering}
 use Rattle.std.specs.declared.cmp.Ordering.TheVariants.{Less, Equal, Greater}
 use Rattle.sgb_search.specs.declared.end.End.{End}
 use Rattle.sgb_search.specs.declared.judge.Judge.{Ghosts}
-use Rattle.sgb_search.specs.Judges.{IsRun, MayAskAll, AnswersBy}
-use Rattle.sgb_search.specs.Split.{from, on_pairs, AreApart, IsGrouped}
-use Rattle.sgb_search.specs.Calls.{Groups}
+use Rattle.sgb_search.specs.Judges.{IsRun}
+use Rattle.sgb_search.specs.Split.{from, AreApart, IsGrouped}
+use Rattle.sgb_search.specs.Calls.{Groups, ComputesBy}
 
 -- the number of binary digits of an m that has at most `most` of them: none for 0, and else one more than those of m / 2
 abbrev pub digits_within : ℕ → ℕ → ℕ
@@ -95,25 +95,9 @@ module _ {T : Type 0} (xs : List T) where
     pub beyond : (x y : T) → slice_get xs 0 ≡ Some x → slice_get xs g ≡ Some y → p x y ≡ false
 
 module _ {T J : Type 0} (g : Ghosts J T) where
-  -- the judge may be asked about every two different places of the list, in both orders, now and after any such questions
-  abbrev pub MayAskApart : List T → J → Type 0
-  MayAskApart xs j = MayAskAll g.may_ask g.answers (AreApart xs) j
-
-  -- each answer to such questions is what p says; whether they may be asked it leaves open
-  abbrev pub AnswersApart : List T → (T → T → Bool) → J → Type 0
-  AnswersApart xs p j = AnswersBy g.may_ask g.answers (AreApart xs) (on_pairs p) j
-
-  -- the judge may be asked about every two different places of what remains, in both orders, now and after any such questions
-  abbrev pub IsCallableApart : Groups T J → Type 0
-  IsCallableApart s = MayAskApart s.remainder s.judge
-
-  -- each answer to such questions is what p says
-  abbrev pub ComputesApart : Groups T J → (T → T → Bool) → Type 0
-  ComputesApart s p = AnswersApart s.remainder p s.judge
-
-  -- and what remains is grouped for p
+  -- each answer to questions about two different places of what remains is what p says, and what remains is grouped for p
   pub record IsSettledApart (s : Groups T J) (p : T → T → Bool) : Type 0 where
-    pub computes : ComputesApart s p
+    pub computes : ComputesBy AreApart g s p
     pub grouped : IsGrouped p s.remainder
 
   -- the questions of a search for the end of the n elements that the call takes, which read from the call's end
@@ -159,10 +143,6 @@ module _ (qs : List (ℕ × Ordering)) where
 
 -- may s i: in the state s the place i may be compared; gives s i o t: the answer may be o, and then the state is t
 module _ {S : Type 0} (may : S → ℕ → Type 0) (gives : S → ℕ → Ordering → S → Type 0) where
-  -- each place between may be compared, now and after any such questions
-  abbrev pub MayCompareBetween : ℕ → ℕ → S → Type 0
-  MayCompareBetween low high s = MayAskAll may gives (IsBetween low high) s
-
   -- a search of the places from low up to high that gives r: its questions, each about one of them, their number, and what r tells
   pub record IsPlaceSearch (cost : SearchCost) (low high : ℕ) (s : S) (r : Result ℕ ℕ) (t : S) : Type 0 where
     pub questions : List (ℕ × Ordering)

@@ -1,8 +1,8 @@
 //! Halving and galloping over places, in either direction.
 ghost use Rattle.std.specs.Prelude.{ℕ, ◌≤◌};
+ghost use Rattle.sgb_search.specs.Judges.{MayAskAll};
 ghost use Rattle.std.specs.declared.cmp.Ordering.{Ordering};
-ghost use Rattle.sgb_search.specs.Searching.{binary, exponential, MayCompareBetween, IsPlaceSearch, IsBracket};
-
+ghost use Rattle.sgb_search.specs.Searching.{binary, exponential, IsPlaceSearch, IsBracket, IsBetween};
 use std::cmp::Ordering;
 
 /// Places that can each be compared with what is sought, by a question to an asker, which the question may change.
@@ -31,8 +31,8 @@ pub fn halve<A, P: Places<A>>(
     high: usize,
 ) -> Result<usize, usize>
     requires order { low ≤ high }
-    requires callable { MayCompareBetween (λ s i. P.may_compare s places.now i)
-        (λ s i o t. P.compares s places.now i o t) low high asker.old }
+    requires callable { MayAskAll (λ s i. P.may_compare s places.now i)
+        (λ s i o t. P.compares s places.now i o t) (IsBetween low high) asker.old }
     ensures { IsPlaceSearch (λ s i. P.may_compare s places.now i) (λ s i o t. P.compares s places.now i o t)
         binary low high asker.old result asker.new }
 {
@@ -62,8 +62,8 @@ pub fn halve<A, P: Places<A>>(
 #[inline]
 fn bracket<A, P: Places<A>>(asker: &mut A, places: &P, low: usize, high: usize) -> (usize, usize)
     requires order { low ≤ high }
-    requires callable { MayCompareBetween (λ s i. P.may_compare s places.now i)
-        (λ s i o t. P.compares s places.now i o t) low high asker.old }
+    requires callable { MayAskAll (λ s i. P.may_compare s places.now i)
+        (λ s i o t. P.compares s places.now i o t) (IsBetween low high) asker.old }
     ensures { IsBracket (λ s i. P.may_compare s places.now i) (λ s i o t. P.compares s places.now i o t)
         low high asker.old result.0 result.1 asker.new }
 {
@@ -94,8 +94,8 @@ pub fn gallop<A, P: Places<A>>(
     high: usize,
 ) -> Result<usize, usize>
     requires order { low ≤ high }
-    requires callable { MayCompareBetween (λ s i. P.may_compare s places.now i)
-        (λ s i o t. P.compares s places.now i o t) low high asker.old }
+    requires callable { MayAskAll (λ s i. P.may_compare s places.now i)
+        (λ s i o t. P.compares s places.now i o t) (IsBetween low high) asker.old }
     ensures { IsPlaceSearch (λ s i. P.may_compare s places.now i) (λ s i o t. P.compares s places.now i o t)
         exponential low high asker.old result asker.new }
 {

@@ -14,13 +14,13 @@ pub trait Judge<T> {
     // The state before, the pair, an answer that may come, and the state after.
     ghost answers: { Self → T × T → Bool → Self → Type 0 };
 
-    /// Whether `left` and `right` belong together: one question.
-    fn ask(&mut self, left: &T, right: &T) -> bool
-        requires { may_ask self.old (left.now, right.now) }
-        ensures { answers self.old (left.now, right.now) result self.new };
+    /// Whether `first` and `second` belong together: one question.
+    fn ask(&mut self, first: &T, second: &T) -> bool
+        requires { may_ask self.old (first.now, second.now) }
+        ensures { answers self.old (first.now, second.now) result self.new };
 }
 
-/// Asks a predicate: one call a question, on the left element and the right one.
+/// Asks a predicate: one call a question, on the first element of it and the second.
 #[derive(Drop)]
 pub struct PredicateJudge<P> {
     pub predicate: P,
@@ -34,12 +34,12 @@ impl<T, P: FnMut(&T, &T) -> bool> Judge<T> for PredicateJudge<P> {
     ghost answers = { (by_predicate P.FnMut).answers };
 
     #[inline]
-    fn ask(&mut self, left: &T, right: &T) -> bool {
-        (self.predicate)(left, right)
+    fn ask(&mut self, first: &T, second: &T) -> bool {
+        (self.predicate)(first, second)
     }
 }
 
-/// Asks for the keys: a call of the key function on the left element, then one on the right, then `==` of the two keys. How
+/// Asks for the keys: a call of the key function on the first element of a question, then one on the second, then `==` of the two keys. How
 /// often the keys are compared, and which way round, no contract can say: it is read in the body of `ask`.
 #[derive(Drop)]
 pub struct KeyJudge<F, K> {
@@ -70,14 +70,14 @@ impl<T, K: PartialEq + Drop, F: FnMut(&T) -> K> Judge<T> for KeyJudge<F, K> {
     ghost answers = { (by_key F.FnMut K.eq).answers };
 
     #[inline]
-    fn ask(&mut self, left: &T, right: &T) -> bool {
-        let left_key = (self.func)(left);
-        let right_key = (self.func)(right);
-        left_key == right_key
+    fn ask(&mut self, first: &T, second: &T) -> bool {
+        let first_key = (self.func)(first);
+        let second_key = (self.func)(second);
+        first_key == second_key
     }
 }
 
-/// Asks a predicate of two characters, by value: one call a question, on the left character and the right one.
+/// Asks a predicate of two characters, by value: one call a question, on its first character and the second.
 #[derive(Drop)]
 pub struct CharPredicateJudge<P> {
     pub predicate: P,
@@ -91,12 +91,12 @@ impl<P: FnMut(char, char) -> bool> Judge<char> for CharPredicateJudge<P> {
     ghost answers = { (by_char_predicate P.FnMut).answers };
 
     #[inline]
-    fn ask(&mut self, left: &char, right: &char) -> bool {
-        (self.predicate)(*left, *right)
+    fn ask(&mut self, first: &char, second: &char) -> bool {
+        (self.predicate)(*first, *second)
     }
 }
 
-/// Asks for the keys of characters, by value: a call of the key function on the left character, then one on the right, then
+/// Asks for the keys of characters, by value: a call of the key function on the first one of a question, then one on the second, then
 /// `==` of the two keys, which is read in the body of `ask` as well.
 #[derive(Drop)]
 pub struct CharKeyJudge<F, K> {
@@ -127,10 +127,10 @@ impl<K: PartialEq + Drop, F: FnMut(char) -> K> Judge<char> for CharKeyJudge<F, K
     ghost answers = { (by_char_key F.FnMut K.eq).answers };
 
     #[inline]
-    fn ask(&mut self, left: &char, right: &char) -> bool {
-        let left_key = (self.func)(*left);
-        let right_key = (self.func)(*right);
-        left_key == right_key
+    fn ask(&mut self, first: &char, second: &char) -> bool {
+        let first_key = (self.func)(*first);
+        let second_key = (self.func)(*second);
+        first_key == second_key
     }
 }
 
@@ -162,9 +162,9 @@ impl<T: PartialEq> Judge<T> for EqualityJudge {
     ghost answers = { (by_equality T.eq).answers };
 
     #[inline]
-    fn ask(&mut self, left: &T, right: &T) -> bool {
+    fn ask(&mut self, first: &T, second: &T) -> bool {
         *self = EqualityJudge::one_more(self);
-        left == right
+        first == second
     }
 }
 

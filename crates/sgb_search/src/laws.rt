@@ -1,16 +1,17 @@
 //! Laws of the definitions. Each is a function that does nothing: its contract is the law, and a caller cites it.
 ghost use Rattle.std.specs.Prelude.{◌≡◌, ℕ, ◌+◌, ◌-◌, ◌^◌, ◌<◌, ◌≤◌, ◌++◌, Bool, List, Some, length, map, take, drop, nat_lt};
+ghost use Rattle.sgb_search.specs.Calls.{ComputesBy, IsCallableBy};
 ghost use Rattle.std.specs.Fn.{ComputesKey, TakesAt, TakesAtTwo, Called, CalledAtTwo};
 ghost use Rattle.std.specs.List.{AllByRecursion, Contains, slice_get};
 ghost use Rattle.std.specs.Ordering.{flip_args};
 ghost use Rattle.std.specs.declared.cmp.Ordering.{Ordering};
 ghost use Rattle.std.specs.declared.cmp.Ordering.TheVariants.{Less, Greater};
 ghost use Rattle.sgb_search.specs.declared.end.End.{End};
-ghost use Rattle.sgb_search.specs.Searching.{digits, MayAskApart, AnswersApart};
+ghost use Rattle.sgb_search.specs.Searching.{digits};
 ghost use Rattle.sgb_search.specs.Split.{AreApart, neighbours, AreNeighbours, IsGrouped, IsSplit, concat, first, split, refused_pairs};
 ghost use Rattle.sgb_search.specs.Search.{MayCall, Computes, IsGap, IsLessEqualGreater, NeverDescends};
-ghost use Rattle.sgb_search.specs.Linear.{questions, MayAskAlong, AnswersAlong};
-ghost use Rattle.sgb_search.specs.Judges.{IsRunOf, by_predicate, predicate_judge, MayCallOnPairs, AnswersOnPairs, CalledAtChar, by_key, key_judge, by_char_predicate, char_predicate_judge, by_char_key, char_key_judge, by_equality};
+ghost use Rattle.sgb_search.specs.Linear.{questions};
+ghost use Rattle.sgb_search.specs.Judges.{IsRunOf, by_predicate, predicate_judge, CalledAtChar, by_key, key_judge, by_char_predicate, char_predicate_judge, by_char_key, char_key_judge, by_equality};
 ghost use Rattle.sgb_search.specs.declared.judge.EqualityJudge.{EqualityJudge};
 
 /// Each list has exactly one split for a test, whose pieces joined are the list. It has one piece more than the test refuses
@@ -33,34 +34,35 @@ pub fn question_count<T>()
 /// A predicate that may always be called may be asked about the neighbouring pairs of every slice.
 pub fn always_callable<T, P: FnMut(&T, &T) -> bool>()
     ensures { (xs : List T) (predicate : P) → P.IsAlwaysCallable predicate
-        → MayAskAlong (by_predicate P.FnMut) xs (predicate_judge predicate) }
+        → IsCallableBy AreNeighbours (by_predicate P.FnMut)
+        (record { remainder = xs; judge = predicate_judge predicate }) }
 {}
 
 /// A key function that may always be called may be asked about the neighbouring pairs of every slice.
 pub fn always_callable_key<T, F: FnMut(&T) -> K, K: PartialEq + Drop>()
     ensures { (xs : List T) (func : F) → F.IsAlwaysCallable func
-        → MayAskAlong (by_key F.FnMut K.eq) xs (key_judge func) }
+        → IsCallableBy AreNeighbours (by_key F.FnMut K.eq) (record { remainder = xs; judge = key_judge func }) }
 {}
 
 /// A predicate that may always be called may be asked about every two different places of every slice, in both orders.
 pub fn always_callable_apart<T, P: FnMut(&T, &T) -> bool>()
     ensures { (xs : List T) (predicate : P) → P.IsAlwaysCallable predicate
-        → MayAskApart (by_predicate P.FnMut) xs (predicate_judge predicate) }
+        → IsCallableBy AreApart (by_predicate P.FnMut) (record { remainder = xs; judge = predicate_judge predicate }) }
 {}
 
 /// A key function that may always be called may be asked about every two different places of every slice, in both orders.
 pub fn always_callable_key_apart<T, F: FnMut(&T) -> K, K: PartialEq + Drop>()
     ensures { (xs : List T) (func : F) → F.IsAlwaysCallable func
-        → MayAskApart (by_key F.FnMut K.eq) xs (key_judge func) }
+        → IsCallableBy AreApart (by_key F.FnMut K.eq) (record { remainder = xs; judge = key_judge func }) }
 {}
 
 /// A key function that may be called on each element of a slice, which is what the searches ask of theirs, may be asked about
 /// its neighbouring pairs, and about every two different places, in both orders; and it may be called on each element of a part.
 pub fn callable_on_elements<T, F: FnMut(&T) -> K, K: PartialEq + Drop>()
     ensures along { (xs : List T) (func : F) → MayCall F.FnMut xs func
-        → MayAskAlong (by_key F.FnMut K.eq) xs (key_judge func) }
+        → IsCallableBy AreNeighbours (by_key F.FnMut K.eq) (record { remainder = xs; judge = key_judge func }) }
     ensures apart { (xs : List T) (func : F) → MayCall F.FnMut xs func
-        → MayAskApart (by_key F.FnMut K.eq) xs (key_judge func) }
+        → IsCallableBy AreApart (by_key F.FnMut K.eq) (record { remainder = xs; judge = key_judge func }) }
     ensures part { (before part after : List T) (func : F) → MayCall F.FnMut (before ++ (part ++ after)) func
         → MayCall F.FnMut part func }
 {}
@@ -69,9 +71,11 @@ pub fn callable_on_elements<T, F: FnMut(&T) -> K, K: PartialEq + Drop>()
 /// neighbouring pairs and of every two different places; and it computes the key of each element of a part.
 pub fn computes_on_elements<T, F: FnMut(&T) -> K, K: PartialEq + Drop>()
     ensures along { (xs : List T) (key : T → K) (func : F) → Computes F.FnMut xs key func
-        → AnswersAlong (by_key F.FnMut K.eq) xs (λ x y. K.eq (key x) (key y)) (key_judge func) }
+        → ComputesBy AreNeighbours (by_key F.FnMut K.eq)
+        (record { remainder = xs; judge = key_judge func }) (λ x y. K.eq (key x) (key y)) }
     ensures apart { (xs : List T) (key : T → K) (func : F) → Computes F.FnMut xs key func
-        → AnswersApart (by_key F.FnMut K.eq) xs (λ x y. K.eq (key x) (key y)) (key_judge func) }
+        → ComputesBy AreApart (by_key F.FnMut K.eq)
+        (record { remainder = xs; judge = key_judge func }) (λ x y. K.eq (key x) (key y)) }
     ensures part { (before part after : List T) (key : T → K) (func : F)
         → Computes F.FnMut (before ++ (part ++ after)) key func → Computes F.FnMut part key func }
 {}
@@ -82,51 +86,47 @@ pub fn callable_now<T, F: Fn(&T) -> K, K>(_f: &F)
     ensures { (xs : List T) (f : F) → ((x : T) → Contains xs x → TakesAt F.FnMut f x) → MayCall F.FnMut xs f }
 {}
 
-/// The same of a predicate, on each neighbouring pair, and on every two different places in both orders.
+/// A predicate that is an `Fn` stays as it is when it is called: where it may be called now on each neighbouring pair, the left
+/// element first, or on every two different places, in both orders, its judge may be asked about them.
 pub fn callable_now_on_pairs<T, P: Fn(&T, &T) -> bool>(_p: &P)
     ensures along { (xs : List T) (p : P) → ((q : T × T) → AreNeighbours xs q → TakesAtTwo P.FnMut p q.0 q.1)
-        → MayCallOnPairs P.FnMut (AreNeighbours xs) p }
+        → IsCallableBy AreNeighbours (by_predicate P.FnMut) (record { remainder = xs; judge = predicate_judge p }) }
     ensures apart { (xs : List T) (p : P) → ((q : T × T) → AreApart xs q → TakesAtTwo P.FnMut p q.0 q.1)
-        → MayCallOnPairs P.FnMut (AreApart xs) p }
+        → IsCallableBy AreApart (by_predicate P.FnMut) (record { remainder = xs; judge = predicate_judge p }) }
 {}
 
-/// A predicate that may be called on each neighbouring pair of a slice, the left element first, or on every two different places,
-/// in both orders, may be asked about them. So may one that may be called on them in each of its states.
+/// A predicate that may be called in each of its states on each neighbouring pair of a slice, the left element first, or on every
+/// two different places, in both orders: its judge may be asked about them.
 pub fn callable_on_pairs<T, P: FnMut(&T, &T) -> bool>()
-    ensures along { (xs : List T) (predicate : P) → MayCallOnPairs P.FnMut (AreNeighbours xs) predicate
-        → MayAskAlong (by_predicate P.FnMut) xs (predicate_judge predicate) }
-    ensures apart { (xs : List T) (predicate : P) → MayCallOnPairs P.FnMut (AreApart xs) predicate
-        → MayAskApart (by_predicate P.FnMut) xs (predicate_judge predicate) }
-    ensures always_along { (xs : List T) → ((p : P) (q : T × T) → AreNeighbours xs q → TakesAtTwo P.FnMut p q.0 q.1)
-        → (predicate : P) → MayCallOnPairs P.FnMut (AreNeighbours xs) predicate }
-    ensures always_apart { (xs : List T) → ((p : P) (q : T × T) → AreApart xs q → TakesAtTwo P.FnMut p q.0 q.1)
-        → (predicate : P) → MayCallOnPairs P.FnMut (AreApart xs) predicate }
+    ensures along { (xs : List T) → ((p : P) (q : T × T) → AreNeighbours xs q → TakesAtTwo P.FnMut p q.0 q.1)
+        → (predicate : P) → IsCallableBy AreNeighbours (by_predicate P.FnMut)
+        (record { remainder = xs; judge = predicate_judge predicate }) }
+    ensures apart { (xs : List T) → ((p : P) (q : T × T) → AreApart xs q → TakesAtTwo P.FnMut p q.0 q.1)
+        → (predicate : P) → IsCallableBy AreApart (by_predicate P.FnMut)
+        (record { remainder = xs; judge = predicate_judge predicate }) }
 {}
 
-/// A predicate that computes a test on each neighbouring pair of a slice, the left element first, or on every two different
-/// places, in both orders, whatever it answers elsewhere: the judge by predicate answers the test there. So does one whose every
-/// call on such a pair answers it, in each of its states.
+/// A predicate whose every call on a neighbouring pair of a slice, the left element first, or on every two different places, in
+/// both orders, answers a test, in each of its states, whatever it answers elsewhere: its judge answers the test there.
 pub fn computes_on_pairs<T, P: FnMut(&T, &T) -> bool>()
-    ensures along { (xs : List T) (p : T → T → Bool) (predicate : P)
-        → AnswersOnPairs P.FnMut (AreNeighbours xs) p predicate
-        → AnswersAlong (by_predicate P.FnMut) xs p (predicate_judge predicate) }
-    ensures apart { (xs : List T) (p : T → T → Bool) (predicate : P)
-        → AnswersOnPairs P.FnMut (AreApart xs) p predicate
-        → AnswersApart (by_predicate P.FnMut) xs p (predicate_judge predicate) }
-    ensures always_along { (xs : List T) (p : T → T → Bool)
+    ensures along { (xs : List T) (p : T → T → Bool)
         → ((f h : P) (q : T × T) (b : Bool) → AreNeighbours xs q → CalledAtTwo P.FnMut f q.0 q.1 b h → b ≡ p q.0 q.1)
-        → (predicate : P) → AnswersOnPairs P.FnMut (AreNeighbours xs) p predicate }
-    ensures always_apart { (xs : List T) (p : T → T → Bool)
+        → (predicate : P) → ComputesBy AreNeighbours (by_predicate P.FnMut)
+        (record { remainder = xs; judge = predicate_judge predicate }) p }
+    ensures apart { (xs : List T) (p : T → T → Bool)
         → ((f h : P) (q : T × T) (b : Bool) → AreApart xs q → CalledAtTwo P.FnMut f q.0 q.1 b h → b ≡ p q.0 q.1)
-        → (predicate : P) → AnswersOnPairs P.FnMut (AreApart xs) p predicate }
+        → (predicate : P) → ComputesBy AreApart (by_predicate P.FnMut)
+        (record { remainder = xs; judge = predicate_judge predicate }) p }
 {}
 
 /// A predicate of characters whose every call on neighbouring characters of a text answers a test, in each of its states,
 /// whatever it answers elsewhere: its judge answers the test there.
 pub fn computes_on_char_pairs<P: FnMut(char, char) -> bool>()
     ensures { (cs : List ℕ) (p : ℕ → ℕ → Bool)
-        → ((f h : P) (q : ℕ × ℕ) (b : Bool) → AreNeighbours cs q → Called P.FnMut f (q.0, (q.1, tt)) b h → b ≡ p q.0 q.1)
-        → (predicate : P) → AnswersAlong (by_char_predicate P.FnMut) cs p (char_predicate_judge predicate) }
+        → ((f h : P) (q : ℕ × ℕ) (b : Bool) → AreNeighbours cs q → Called P.FnMut f (q.0, (q.1, tt)) b h
+        → b ≡ p q.0 q.1)
+        → (predicate : P) → ComputesBy AreNeighbours (by_char_predicate P.FnMut)
+        (record { remainder = cs; judge = char_predicate_judge predicate }) p }
 {}
 
 /// A key function of characters whose every call on a character of a text gives its key, in each of its states, whatever it
@@ -134,27 +134,34 @@ pub fn computes_on_char_pairs<P: FnMut(char, char) -> bool>()
 pub fn computes_on_chars<F: FnMut(char) -> K, K: PartialEq + Drop>()
     ensures { (cs : List ℕ) (key : ℕ → K)
         → ((f h : F) (c : ℕ) (k : K) → Contains cs c → CalledAtChar F.FnMut f c k h → k ≡ key c)
-        → (func : F) → AnswersAlong (by_char_key F.FnMut K.eq) cs (λ a b. K.eq (key a) (key b)) (char_key_judge func) }
+        → (func : F) → ComputesBy AreNeighbours (by_char_key F.FnMut K.eq)
+        (record { remainder = cs; judge = char_key_judge func }) (λ a b. K.eq (key a) (key b)) }
 {}
 
 /// A predicate of characters that may always be called may be asked about the neighbouring characters of every text.
 pub fn always_callable_chars<P: FnMut(char, char) -> bool>()
     ensures { (cs : List ℕ) (predicate : P) → P.IsAlwaysCallable predicate
-        → MayAskAlong (by_char_predicate P.FnMut) cs (char_predicate_judge predicate) }
+        → IsCallableBy AreNeighbours (by_char_predicate P.FnMut)
+        (record { remainder = cs; judge = char_predicate_judge predicate }) }
 {}
 
 /// A key function of characters that may always be called may be asked about the neighbouring characters of every text.
 pub fn always_callable_char_key<F: FnMut(char) -> K, K: PartialEq + Drop>()
     ensures { (cs : List ℕ) (func : F) → F.IsAlwaysCallable func
-        → MayAskAlong (by_char_key F.FnMut K.eq) cs (char_key_judge func) }
+        → IsCallableBy AreNeighbours (by_char_key F.FnMut K.eq)
+        (record { remainder = cs; judge = char_key_judge func }) }
 {}
 
 /// Equality may be asked about every slice, answers what `==` says, and counts: in every state of its judge.
 pub fn equality_judges<T: PartialEq>()
-    ensures callable { (xs : List T) (j : EqualityJudge) → MayAskAlong (by_equality T.eq) xs j }
-    ensures settled { (xs : List T) (j : EqualityJudge) → AnswersAlong (by_equality T.eq) xs T.eq j }
-    ensures callable_apart { (xs : List T) (j : EqualityJudge) → MayAskApart (by_equality T.eq) xs j }
-    ensures computes_apart { (xs : List T) (j : EqualityJudge) → AnswersApart (by_equality T.eq) xs T.eq j }
+    ensures callable { (xs : List T) (j : EqualityJudge)
+        → IsCallableBy AreNeighbours (by_equality T.eq) (record { remainder = xs; judge = j }) }
+    ensures settled { (xs : List T) (j : EqualityJudge)
+        → ComputesBy AreNeighbours (by_equality T.eq) (record { remainder = xs; judge = j }) T.eq }
+    ensures callable_apart { (xs : List T) (j : EqualityJudge)
+        → IsCallableBy AreApart (by_equality T.eq) (record { remainder = xs; judge = j }) }
+    ensures computes_apart { (xs : List T) (j : EqualityJudge)
+        → ComputesBy AreApart (by_equality T.eq) (record { remainder = xs; judge = j }) T.eq }
     ensures counts { (j k : EqualityJudge) (n : ℕ) → IsRunOf (by_equality T.eq).may_ask (by_equality T.eq).answers n j k
         → k.asked ≡ j.asked + n }
 {}

@@ -6,10 +6,10 @@ use Rattle.sgb_search.specs.Split.{AreNeighbours, split}
 use Rattle.sgb_search.specs.declared.judge.EqualityJudge.{EqualityJudge}
 use Rattle.sgb_search.specs.Calls.{IsGroupAt}
 use Rattle.sgb_search.specs.Judges.{by_equality}
-use Rattle.sgb_search.proofs.Equality.{equality_settled}
+use Rattle.sgb_search.proofs.Questions.Equality.{equality_settled}
 use Rattle.sgb_search.specs.Linear.{LinearQuestions}
-use Rattle.sgb_search.proofs.LinearQueue.{piece}
-use Rattle.slice_group_by.proofs.Chains.{piece_and_others}
+use Rattle.sgb_search.proofs.Linear.LinearQueue.{piece}
+use Rattle.slice_group_by.proofs.Queues.Chains.{piece_and_others}
 
 module _ {T : Type 0} (eq : T → T → Bool) (xs x ys : List T) (j k : EqualityJudge) where
   -- the group is the first piece of the split, and the split of the rest is the others

@@ -1,6 +1,8 @@
 //! Each binary and exponential type searches as its name says: what its `next` gives, in the words of the contracts.
 ghost use Rattle.slice_group_by.specs.Judges.{by_equality, by_key, by_predicate};
-ghost use Rattle.slice_group_by.specs.Searching.{IsCallableApart, SearchQuestions, exponential, binary};
+ghost use Rattle.slice_group_by.specs.Calls.{IsCallableBy};
+ghost use Rattle.slice_group_by.specs.Split.{AreApart};
+ghost use Rattle.slice_group_by.specs.Searching.{SearchQuestions, exponential, binary};
 ghost use Rattle.slice_group_by.specs.End.TheVariants.{Front};
 ghost use Rattle.slice_group_by.specs.Gives.{groups_of, groups_of_mut, Gives, GivesMut};
 
@@ -19,7 +21,7 @@ fn binary_halves<'a, T: PartialEq>(groups: &mut BinaryGroup<'a, T>) -> Option<&'
 fn binary_by_halves<'a, T, P: FnMut(&T, &T) -> bool>(
     groups: &mut BinaryGroupBy<'a, T, P>,
 ) -> Option<&'a [T]>
-    requires { IsCallableApart (by_predicate P.FnMut) (groups_of groups.old) }
+    requires { IsCallableBy AreApart (by_predicate P.FnMut) (groups_of groups.old) }
     ensures { Gives (SearchQuestions (by_predicate P.FnMut) binary) Front groups.old result groups.new }
 {
     groups.next()
@@ -28,7 +30,7 @@ fn binary_by_halves<'a, T, P: FnMut(&T, &T) -> bool>(
 fn binary_by_key_halves<'a, T, F: FnMut(&T) -> K, K: PartialEq + Drop>(
     groups: &mut BinaryGroupByKey<'a, T, F, K>,
 ) -> Option<&'a [T]>
-    requires { IsCallableApart (by_key F.FnMut K.eq) (groups_of groups.old) }
+    requires { IsCallableBy AreApart (by_key F.FnMut K.eq) (groups_of groups.old) }
     ensures { Gives (SearchQuestions (by_key F.FnMut K.eq) binary) Front groups.old result groups.new }
 {
     groups.next()
@@ -43,7 +45,7 @@ fn binary_mut_halves<'a, T: PartialEq>(groups: &mut BinaryGroupMut<'a, T>) -> Op
 fn binary_by_mut_halves<'a, T, P: FnMut(&T, &T) -> bool>(
     groups: &mut BinaryGroupByMut<'a, T, P>,
 ) -> Option<&'a mut [T]>
-    requires { IsCallableApart (by_predicate P.FnMut) (groups_of_mut groups.old) }
+    requires { IsCallableBy AreApart (by_predicate P.FnMut) (groups_of_mut groups.old) }
     ensures { GivesMut (SearchQuestions (by_predicate P.FnMut) binary) Front groups.old result groups.new }
 {
     groups.next()
@@ -52,7 +54,7 @@ fn binary_by_mut_halves<'a, T, P: FnMut(&T, &T) -> bool>(
 fn binary_by_key_mut_halves<'a, T, F: FnMut(&T) -> K, K: PartialEq + Drop>(
     groups: &mut BinaryGroupByKeyMut<'a, T, F, K>,
 ) -> Option<&'a mut [T]>
-    requires { IsCallableApart (by_key F.FnMut K.eq) (groups_of_mut groups.old) }
+    requires { IsCallableBy AreApart (by_key F.FnMut K.eq) (groups_of_mut groups.old) }
     ensures { GivesMut (SearchQuestions (by_key F.FnMut K.eq) binary) Front groups.old result groups.new }
 {
     groups.next()
@@ -67,7 +69,7 @@ fn exponential_gallops<'a, T: PartialEq>(groups: &mut ExponentialGroup<'a, T>) -
 fn exponential_by_gallops<'a, T, P: FnMut(&T, &T) -> bool>(
     groups: &mut ExponentialGroupBy<'a, T, P>,
 ) -> Option<&'a [T]>
-    requires { IsCallableApart (by_predicate P.FnMut) (groups_of groups.old) }
+    requires { IsCallableBy AreApart (by_predicate P.FnMut) (groups_of groups.old) }
     ensures { Gives (SearchQuestions (by_predicate P.FnMut) exponential) Front groups.old result groups.new }
 {
     groups.next()
@@ -76,7 +78,7 @@ fn exponential_by_gallops<'a, T, P: FnMut(&T, &T) -> bool>(
 fn exponential_by_key_gallops<'a, T, F: FnMut(&T) -> K, K: PartialEq + Drop>(
     groups: &mut ExponentialGroupByKey<'a, T, F, K>,
 ) -> Option<&'a [T]>
-    requires { IsCallableApart (by_key F.FnMut K.eq) (groups_of groups.old) }
+    requires { IsCallableBy AreApart (by_key F.FnMut K.eq) (groups_of groups.old) }
     ensures { Gives (SearchQuestions (by_key F.FnMut K.eq) exponential) Front groups.old result groups.new }
 {
     groups.next()
@@ -93,7 +95,7 @@ fn exponential_mut_gallops<'a, T: PartialEq>(
 fn exponential_by_mut_gallops<'a, T, P: FnMut(&T, &T) -> bool>(
     groups: &mut ExponentialGroupByMut<'a, T, P>,
 ) -> Option<&'a mut [T]>
-    requires { IsCallableApart (by_predicate P.FnMut) (groups_of_mut groups.old) }
+    requires { IsCallableBy AreApart (by_predicate P.FnMut) (groups_of_mut groups.old) }
     ensures { GivesMut (SearchQuestions (by_predicate P.FnMut) exponential) Front groups.old result groups.new }
 {
     groups.next()
@@ -102,7 +104,7 @@ fn exponential_by_mut_gallops<'a, T, P: FnMut(&T, &T) -> bool>(
 fn exponential_by_key_mut_gallops<'a, T, F: FnMut(&T) -> K, K: PartialEq + Drop>(
     groups: &mut ExponentialGroupByKeyMut<'a, T, F, K>,
 ) -> Option<&'a mut [T]>
-    requires { IsCallableApart (by_key F.FnMut K.eq) (groups_of_mut groups.old) }
+    requires { IsCallableBy AreApart (by_key F.FnMut K.eq) (groups_of_mut groups.old) }
     ensures { GivesMut (SearchQuestions (by_key F.FnMut K.eq) exponential) Front groups.old result groups.new }
 {
     groups.next()

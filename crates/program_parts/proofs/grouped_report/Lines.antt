@@ -7,7 +7,7 @@ use Rattle.std.proofs.lemmas.List.Sums.{sum_by-cons, sum_by-append, length-filte
 use Rattle.slice_group_by.specs.Split.{IsAccepted, concat}
 use Rattle.slice_group_by.specs.Join.{are_partners}
 use Rattle.slice_group_by.specs.Search.{NeverDescends}
-use Rattle.slice_group_by.proofs.Joins.{Ascends}
+use Rattle.slice_group_by.proofs.Joins.FirstGroups.{Ascends}
 use Rattle.program_parts.specs.declared.grouped_report.rows.Entry.{Entry}
 use Rattle.program_parts.specs.grouped_report.Departments.{department, amount, count_of, amount_of}
 

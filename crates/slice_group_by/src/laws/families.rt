@@ -1,23 +1,21 @@
 //! Laws of the families of groups beside each other.
 ghost use Rattle.std.specs.Prelude.{◌≡◌, ℕ, Bool, List, length, Option, Some, map, option_map};
-ghost use Rattle.std.specs.Borrow.{Bor, MutBor};
-ghost use Rattle.sgb_search.specs.Split.{from, split};
+ghost use Rattle.sgb_search.specs.Calls.{ComputesBy};
+ghost use Rattle.std.specs.Borrow.{Bor};
+ghost use Rattle.sgb_search.specs.Split.{from, split, AreApart};
 ghost use Rattle.std.specs.Fn.{ComputesOnPairs};
 ghost use Rattle.std.specs.Iterator.{Drains};
 ghost use Rattle.std.specs.Slice.Iter.{chunk_by_rest, chunk_by_callee};
 ghost use Rattle.std.specs.declared.slice.ChunkBy.{ChunkBy};
 ghost use Rattle.std.proofs.lemmas.Iterator.{YieldsList};
 ghost use Rattle.slice_group_by.specs.Chunks.{chunk_calls};
-ghost use Rattle.sgb_search.specs.Searching.{IsLocalEnd, ComputesApart, SearchQuestions};
-ghost use Rattle.sgb_groups.specs.declared.searching.Search.{Search};
-ghost use Rattle.sgb_groups.specs.declared.groups.SliceGroups.{SliceGroups};
-ghost use Rattle.sgb_groups.specs.Gives.{groups_of, groups_of_mut, Gives, GivesMut};
-ghost use Rattle.sgb_loans.specs.Loans.{GroupsMut};
+ghost use Rattle.sgb_search.specs.Searching.{IsLocalEnd};
 ghost use Rattle.sgb_search.specs.declared.end.End.{End};
 ghost use Rattle.slice_group_by.specs.Walk.{IsChain};
 
+use crate::laws::judged::Judged;
 use crate::laws::queue::GroupQueue;
-use sgb_groups::searching::{GroupSearch, SearchGroups, SearchGroupsMut};
+use sgb_groups::searching::{GroupSearch, Search};
 use sgb_search::judge::Judge;
 use std::slice::ChunkBy;
 
@@ -53,25 +51,10 @@ pub fn chunk_by_agrees<T, F: FnMut(&T, &T) -> bool, Q: GroupQueue<Element = T>>(
 
 /// On any slice, grouped or not: a call of binary or exponential groups, whose judge answers by its arguments alone, gives a
 /// group that ends at a local boundary, where the remainder reads from the call's end, and leaves such a judge.
-pub fn groups_end_locally<T, J: Judge<T>, S: GroupSearch>(_groups: &SearchGroups<'_, T, J, S>)
-    ensures ends { (p : T → T → Bool) (e : End) (s t : SliceGroups T J (Search S)) (group : Bor (List T))
-        → ComputesApart J.Judge (groups_of s) p
-        → Gives (SearchQuestions J.Judge S.cost) e s (Some group) t
-        → IsLocalEnd (from e (groups_of s).remainder) p (length group.now) }
-    ensures computes { (p : T → T → Bool) (e : End) (s t : SliceGroups T J (Search S)) (group : Bor (List T))
-        → ComputesApart J.Judge (groups_of s) p
-        → Gives (SearchQuestions J.Judge S.cost) e s (Some group) t → ComputesApart J.Judge (groups_of t) p }
-{}
-
-/// The same of those for writing.
-pub fn groups_end_locally_mut<T, J: Judge<T>, S: GroupSearch>(
-    _groups: &SearchGroupsMut<'_, T, J, S>,
-)
-    ensures ends { (p : T → T → Bool) (e : End) (s t : GroupsMut T J) (group : MutBor (List T))
-        → ComputesApart J.Judge (groups_of_mut s) p
-        → GivesMut (SearchQuestions J.Judge S.cost) e s (Some group) t
-        → IsLocalEnd (from e s.remainder) p (length group.now) }
-    ensures computes { (p : T → T → Bool) (e : End) (s t : GroupsMut T J) (group : MutBor (List T))
-        → ComputesApart J.Judge (groups_of_mut s) p
-        → GivesMut (SearchQuestions J.Judge S.cost) e s (Some group) t → ComputesApart J.Judge (groups_of_mut t) p }
+pub fn groups_end_locally<T, J: Judge<T>, S: GroupSearch, G: Judged<T, J, Search<S>>>(_groups: &G)
+    ensures ends { (p : T → T → Bool) (e : End) (s t : G) (group : G.Group) → ComputesBy AreApart J.Judge (G.groups s) p
+        → G.gives e s (Some group) t → IsLocalEnd (from e (G.groups s).remainder) p (length (G.shows group)) }
+    ensures computes { (p : T → T → Bool) (e : End) (s t : G) (group : G.Group)
+        → ComputesBy AreApart J.Judge (G.groups s) p → G.gives e s (Some group) t
+        → ComputesBy AreApart J.Judge (G.groups t) p }
 {}

@@ -4,7 +4,7 @@
 //! A function whose contract rests on a law calls it, and then its proof may cite it. Where a law takes a queue, that only
 //! names the type, which may hold a closure: the law is over all of its states.
 ghost use Rattle.std.specs.Prelude.{◌≡◌, ◌≢◌, ℕ, ◌+◌, ◌-◌, ◌<◌, ◌≤◌, Bool, List, [], ◌∷◌, ◌++◌, length, Option, Some, map, option_map, reverse, count_by, is_some, IfSome};
-ghost use Rattle.std.specs.Borrow.{Bor, MutBor};
+ghost use Rattle.std.specs.Borrow.{MutBor};
 ghost use Rattle.std.specs.Iterator.{Yields, Drains};
 ghost use Rattle.std.specs.Iterator.Adapters.{rev_source, rev_steps};
 ghost use Rattle.std.specs.declared.iter.Rev.{Rev};
@@ -16,13 +16,7 @@ ghost use Rattle.sgb_search.specs.Split.{from, put_at, first, last, without, con
 ghost use Rattle.sgb_search.specs.Judges.{IsRunOf, AsksWithin};
 ghost use Rattle.sgb_search.specs.declared.end.End.{End};
 ghost use Rattle.sgb_search.specs.declared.end.End.TheVariants.{Front, Back};
-ghost use Rattle.sgb_search.specs.Linear.{AsksEachOnce, LinearQuestions};
-ghost use Rattle.sgb_linear_group.specs.declared.linear_group.Linear.{Linear};
-ghost use Rattle.sgb_groups.specs.declared.groups.SliceGroups.{SliceGroups};
-ghost use Rattle.sgb_groups.specs.Gives.{groups_of, groups_of_mut, Gives, GivesMut};
-ghost use Rattle.sgb_loans.specs.Loans.{GroupsMut};
-ghost use Rattle.sgb_linear_str_group.specs.Texts.{text_groups_of, in_characters, GivesText};
-ghost use Rattle.sgb_linear_str_group.specs.TextsMut.{TextGroupsMut, text_groups_of_mut, GivesTextMut};
+ghost use Rattle.sgb_search.specs.Linear.{AsksEachOnce};
 ghost use Rattle.sgb_search.specs.Searching.{digits};
 ghost use Rattle.slice_group_by.specs.declared.laws.plans.Plan.{Plan};
 ghost use Rattle.slice_group_by.specs.Plans.{run, IsRight, IsHalvingPlan};
@@ -31,6 +25,7 @@ ghost use Rattle.slice_group_by.specs.Queue.{pops, after_pops};
 
 pub mod counts;
 pub mod families;
+pub mod judged;
 pub mod pieces;
 pub mod plans;
 pub mod queue;
@@ -43,10 +38,11 @@ pub use crate::join::{
     joins_may_go_on, pairs_ascend, pairs_match, partners_are_unique, sees_pairs,
 };
 pub use counts::{
-    Judged, calls_ask, comparisons_count, key_calls_count, linear_counts, mapped_calls_ask,
-    questions_count, search_asks, text_counts,
+    calls_ask, comparisons_count, key_calls_count, linear_counts, mapped_calls_ask,
+    questions_count, search_asks,
 };
-pub use families::{chunk_by_agrees, families_agree, groups_end_locally, groups_end_locally_mut};
+pub use families::{chunk_by_agrees, families_agree, groups_end_locally};
+pub use judged::{Judged, Lends, OfText};
 pub use pieces::{
     equal_pieces_are_copies, partitioned_pieces, pieces_add_up, pieces_begin_as_dedup,
     pieces_by_key,
@@ -54,11 +50,7 @@ pub use pieces::{
 pub use plans::{Plan, refute};
 use queue::GroupQueue;
 pub use ranks::rank_groups;
-use sgb_groups::group_end::GroupEnd;
-use sgb_groups::groups_mut::SliceGroupsMut;
-use sgb_linear_group::linear_group::{LinearGroups, LinearGroupsMut};
-use sgb_linear_str_group::groups::LinearStrGroups;
-use sgb_linear_str_group::groups_mut::LinearStrGroupsMut;
+use sgb_linear_group::linear_group::Linear;
 use sgb_search::judge::Judge;
 pub use sgb_search::laws::{
     always_callable, always_callable_apart, always_callable_char_key, always_callable_chars,
@@ -168,97 +160,44 @@ pub fn groups_still_come<Q: GroupQueue>(_queue: &Q)
         → length (Q.remainder t) ≤ length (Q.remainder q) - length ends }
 {}
 
-/// A list of calls of linear groups asks about each neighbouring pair that goes once, however the ends are mixed, and
-/// about no other: so until nothing remains of n > 0 elements it asks exactly n - 1 questions.
-pub fn each_pair_asked_once<T, J: Judge<T>>(_groups: &LinearGroups<'_, T, J>)
-    ensures pairs { (s t : SliceGroups T J Linear) (ends : List End) (out : List (Option (Bor (List T))))
-        → IsChain (Gives (LinearQuestions J.Judge)) s ends out t → AsksEachOnce J.Judge (groups_of s) (groups_of t) }
-    ensures whole { (s t : SliceGroups T J Linear) (ends : List End) (out : List (Option (Bor (List T))))
-        → IsChain (Gives (LinearQuestions J.Judge)) s ends out t → (groups_of t).remainder ≡ []
-        → IsRunOf J.may_ask J.answers (length (groups_of s).remainder - 1) s.judge t.judge }
-{}
-
-/// The same of linear groups for writing.
-pub fn each_pair_asked_once_mut<T, J: Judge<T>>(_groups: &LinearGroupsMut<'_, T, J>)
-    ensures pairs { (s t : GroupsMut T J) (ends : List End) (out : List (Option (MutBor (List T))))
-        → IsChain (GivesMut (LinearQuestions J.Judge)) s ends out t → AsksEachOnce J.Judge (groups_of_mut s) (groups_of_mut t) }
-    ensures whole { (s t : GroupsMut T J) (ends : List End) (out : List (Option (MutBor (List T))))
-        → IsChain (GivesMut (LinearQuestions J.Judge)) s ends out t → t.remainder ≡ []
-        → IsRunOf J.may_ask J.answers (length s.remainder - 1) s.judge t.judge }
+/// A list of calls of linear groups, of a slice or a text, asks about each neighbouring pair that goes once, however the ends are
+/// mixed, and about no other: so until nothing remains of n > 0 elements or characters it asks exactly n - 1 questions.
+pub fn each_pair_asked_once<T, J: Judge<T>, S: Judged<T, J, Linear>>(_groups: &S)
+    ensures pairs { (s t : S) (ends : List End) (out : List (Option S.Group)) → IsChain S.gives s ends out t
+        → AsksEachOnce J.Judge (S.groups s) (S.groups t) }
+    ensures whole { (s t : S) (ends : List End) (out : List (Option S.Group)) → IsChain S.gives s ends out t
+        → (S.groups t).remainder ≡ []
+        → IsRunOf J.may_ask J.answers (length (S.groups s).remainder - 1) (S.groups s).judge (S.groups t).judge }
 {}
 
 /// The bytes of the groups of a text, joined, are what goes: of a list of calls at both ends, and of calls at one end, until nothing
-/// remains or not. What `groups_join` and `walk` say of characters, this says of bytes. Those of each group of a list of calls are
-/// the encodings of its characters, and so of the piece that it is.
-pub fn texts_join<J: Judge<char>>(_groups: &LinearStrGroups<'_, J>)
-    ensures encodings { (s t : LinearStrGroups J) (ends : List End) (out : List (Option (Bor (List ℕ))))
-        → IsChain (GivesText J.Judge) s ends out t → map (option_map (λ group. group.now)) out
-        ≡ map (option_map encodes) (map (option_map (λ group. chars group.now)) out) }
-    ensures calls { (s t : LinearStrGroups J) (ends : List End) (out : List (Option (Bor (List ℕ))))
-        → IsChain (GivesText J.Judge) s ends out t
-        → Partition ends (map (option_map (λ group. group.now)) out) (text_groups_of t).text (text_groups_of s).text }
-    ensures part { (e : End) (s t : LinearStrGroups J) (groups : List (Bor (List ℕ)))
-        → Yields (GivesText J.Judge e) s groups t
-        → put_at e (concat (from e (map (λ group. group.now) groups))) (text_groups_of t).text ≡ (text_groups_of s).text }
-    ensures whole { (e : End) (s : LinearStrGroups J) (groups : List (Bor (List ℕ)))
-        → Drains (GivesText J.Judge e) s groups
-        → concat (from e (map (λ group. group.now) groups)) ≡ (text_groups_of s).text }
+/// remains or not. What `groups_join` and `walk` say of characters, this says of bytes. Each group of a list of calls is UTF-8 when it
+/// is handed out, and its bytes are the encodings of its characters, and so of the piece that it is.
+pub fn texts_join<S: OfText>(_groups: &S)
+    ensures utf8 { (s t : S) (ends : List End) (out : List (Option S.Group)) → IsChain S.gives s ends out t
+        → AllByRecursion (λ group. IfSome group (λ x. IsUtf8 (S.shows x))) out }
+    ensures encodings { (s t : S) (ends : List End) (out : List (Option S.Group)) → IsChain S.gives s ends out t
+        → map (option_map S.shows) out
+        ≡ map (option_map encodes) (map (option_map (λ group. chars (S.shows group))) out) }
+    ensures calls { (s t : S) (ends : List End) (out : List (Option S.Group)) → IsChain S.gives s ends out t
+        → Partition ends (map (option_map S.shows) out) (S.text t) (S.text s) }
+    ensures part { (e : End) (s t : S) (groups : List S.Group) → Yields (S.gives e) s groups t
+        → put_at e (concat (from e (map S.shows groups))) (S.text t) ≡ S.text s }
+    ensures whole { (e : End) (s : S) (groups : List S.Group) → Drains (S.gives e) s groups
+        → concat (from e (map S.shows groups)) ≡ S.text s }
 {}
 
-/// The same of the bytes of a text for writing. Each group of a list of calls is UTF-8, as it was when it was handed out.
-pub fn texts_join_mut<J: Judge<char>>(_groups: &LinearStrGroupsMut<'_, J>)
-    ensures utf8 { (s t : TextGroupsMut J) (ends : List End) (out : List (Option (MutBor (List ℕ))))
-        → IsChain (GivesTextMut J.Judge) s ends out t
-        → AllByRecursion (λ o. IfSome o (λ group. IsUtf8 group.now)) out }
-    ensures encodings { (s t : TextGroupsMut J) (ends : List End) (out : List (Option (MutBor (List ℕ))))
-        → IsChain (GivesTextMut J.Judge) s ends out t → map (option_map (λ group. group.now)) out
-        ≡ map (option_map encodes) (map (option_map (λ group. chars group.now)) out) }
-    ensures calls { (s t : TextGroupsMut J) (ends : List End) (out : List (Option (MutBor (List ℕ))))
-        → IsChain (GivesTextMut J.Judge) s ends out t
-        → Partition ends (map (option_map (λ group. group.now)) out) t.text s.text }
-    ensures part { (e : End) (s t : TextGroupsMut J) (groups : List (MutBor (List ℕ)))
-        → Yields (GivesTextMut J.Judge e) s groups t
-        → put_at e (concat (from e (map (λ group. group.now) groups))) t.text ≡ s.text }
-    ensures whole { (e : End) (s : TextGroupsMut J) (groups : List (MutBor (List ℕ)))
-        → Drains (GivesTextMut J.Judge e) s groups
-        → concat (from e (map (λ group. group.now) groups)) ≡ s.text }
+/// A text has no more characters than bytes, so that a count of them fits where one of the bytes does.
+pub fn characters_fit()
+    ensures { (text : List ℕ) → length (chars text) ≤ length text }
 {}
 
 /// What a list of calls on groups for writing, as those of `walk`, has handed out: each group that a call gave stands at the end
 /// of `cuts`, in the order of the calls, with its end; and nothing else of what the input ends as has changed. So once these are
 /// noted, `finish` says what the input ends as.
-pub fn chains_hand_out<T, J: Judge<T>, C: GroupEnd>(_groups: &SliceGroupsMut<'_, T, J, C>)
-    ensures { (s t : GroupsMut T J) (ends : List End) (out : List (Option (MutBor (List T))))
-        → IsChain (GivesMut (C.asks T J J.Judge)) s ends out t
-        → HandsOutAll s.loans (handed_out ends out) t.loans }
-{}
-
-/// The same of the bytes of a text.
-pub fn text_chains_hand_out<J: Judge<char>>(_groups: &LinearStrGroupsMut<'_, J>)
-    ensures { (s t : TextGroupsMut J) (ends : List End) (out : List (Option (MutBor (List ℕ))))
-        → IsChain (GivesTextMut J.Judge) s ends out t
-        → HandsOutAll s.loans (handed_out ends out) t.loans }
-{}
-
-/// A list of calls on a text asks about each pair of neighbouring characters that goes once, however the ends are mixed, and
-/// about no other.
-pub fn each_char_pair_asked_once<J: Judge<char>>(_groups: &LinearStrGroups<'_, J>)
-    ensures pairs { (s t : LinearStrGroups J) (ends : List End) (out : List (Option (Bor (List ℕ))))
-        → IsChain (GivesText J.Judge) s ends out t
-        → AsksEachOnce J.Judge (in_characters (text_groups_of s)) (in_characters (text_groups_of t)) }
-    ensures whole { (s t : LinearStrGroups J) (ends : List End) (out : List (Option (Bor (List ℕ))))
-        → IsChain (GivesText J.Judge) s ends out t → (text_groups_of t).text ≡ []
-        → IsRunOf J.may_ask J.answers (length (chars (text_groups_of s).text) - 1) s.judge t.judge }
-{}
-
-/// The same of the bytes of a text for writing.
-pub fn each_char_pair_asked_once_mut<J: Judge<char>>(_groups: &LinearStrGroupsMut<'_, J>)
-    ensures pairs { (s t : TextGroupsMut J) (ends : List End) (out : List (Option (MutBor (List ℕ))))
-        → IsChain (GivesTextMut J.Judge) s ends out t
-        → AsksEachOnce J.Judge (in_characters (text_groups_of_mut s)) (in_characters (text_groups_of_mut t)) }
-    ensures whole { (s t : TextGroupsMut J) (ends : List End) (out : List (Option (MutBor (List ℕ))))
-        → IsChain (GivesTextMut J.Judge) s ends out t → t.text ≡ []
-        → IsRunOf J.may_ask J.answers (length (chars s.text) - 1) s.judge t.judge }
+pub fn chains_hand_out<T, S: Lends<T>>(_groups: &S)
+    ensures { (s t : S) (ends : List End) (out : List (Option (MutBor (List T)))) → IsChain S.gives s ends out t
+        → HandsOutAll (S.loans s) (handed_out ends out) (S.loans t) }
 {}
 
 /// No plan of questions has a smaller worst case than halving: each that answers every length from 1 up to n rightly asks

@@ -14,8 +14,8 @@ impl<'a, T, J: Judge<T> + Drop, C: GroupEnd> GroupQueue for SliceGroups<'a, T, J
     ghost use Rattle.sgb_groups.proofs.Cuts.{call};
     ghost use Rattle.sgb_search.specs.Calls.{IsCallableBy};
     ghost use Rattle.sgb_search.specs.Judges.{IsRunOf};
-    ghost use Rattle.sgb_search.proofs.Calls.{part, asks_seen};
-    ghost use Rattle.sgb_search.proofs.Runs.{run_of_none, run_of_more};
+    ghost use Rattle.sgb_search.proofs.Questions.Calls.{part, asks_seen};
+    ghost use Rattle.sgb_search.proofs.Questions.Runs.{run_of_none, run_of_more};
     ghost use Rattle.sgb_groups.specs.Gives.{groups_of, Gives};
 
     type Element = T;
@@ -76,9 +76,10 @@ impl<'a, T, J: Judge<T> + Drop, C: GroupEnd> GroupQueue for SliceGroupsMut<'a, T
 
     ghost use Rattle.std.specs.Option.{option_copied_mut};
     ghost use Rattle.sgb_search.specs.Judges.{IsRunOf};
-    ghost use Rattle.sgb_search.proofs.Calls.{part, asks_seen};
-    ghost use Rattle.sgb_search.proofs.Runs.{run_of_none, run_of_more};
-    ghost use Rattle.sgb_groups.specs.Gives.{groups_of_mut, IsCallableByMut, GivesMut};
+    ghost use Rattle.sgb_search.proofs.Questions.Calls.{part, asks_seen};
+    ghost use Rattle.sgb_search.proofs.Questions.Runs.{run_of_none, run_of_more};
+    ghost use Rattle.sgb_search.specs.Calls.{IsCallableBy};
+    ghost use Rattle.sgb_groups.specs.Gives.{groups_of_mut, GivesMut};
 
     type Element = T;
 
@@ -96,7 +97,7 @@ impl<'a, T, J: Judge<T> + Drop, C: GroupEnd> GroupQueue for SliceGroupsMut<'a, T
 
     ghost exact = { C.exact };
 
-    ghost can_pop = { IsCallableByMut (C.allowed T) J.Judge };
+    ghost can_pop = { λ q. IsCallableBy (C.allowed T) J.Judge (groups_of_mut q) };
 
     #[inline]
     fn pop_front(&mut self) -> Option<&'a mut [T]> {

@@ -8,11 +8,12 @@ impl<'a, J: Judge<char> + Drop> GroupQueue for LinearStrGroups<'a, J> {
     type Item = &'a str;
 
     ghost use Rattle.std.specs.Prelude.{ℕ, length, true};
+    ghost use Rattle.sgb_search.specs.Calls.{IsCallableBy};
     ghost use Rattle.std.specs.Str.{chars};
-    ghost use Rattle.sgb_search.specs.Split.{neighbours};
+    ghost use Rattle.sgb_search.specs.Split.{neighbours, AreNeighbours};
     ghost use Rattle.sgb_search.specs.Judges.{IsRunOf};
-    ghost use Rattle.sgb_search.proofs.Runs.{run_of_none, run_of_more};
-    ghost use Rattle.sgb_linear_str_group.specs.Texts.{text_groups_of, IsCallableText, IsSettledText, GivesText};
+    ghost use Rattle.sgb_search.proofs.Questions.Runs.{run_of_none, run_of_more};
+    ghost use Rattle.sgb_linear_str_group.specs.Texts.{text_groups_of, IsSettledText, GivesText, in_characters};
     ghost use Rattle.sgb_linear_str_group.proofs.Queue as laws;
 
     type Element = char;
@@ -31,7 +32,7 @@ impl<'a, J: Judge<char> + Drop> GroupQueue for LinearStrGroups<'a, J> {
 
     ghost exact = { true };
 
-    ghost can_pop = { λ q. IsCallableText J.Judge (text_groups_of q) };
+    ghost can_pop = { λ q. IsCallableBy AreNeighbours J.Judge (in_characters (text_groups_of q)) };
 
     #[inline]
     fn pop_front(&mut self) -> Option<&'a str> {
@@ -68,10 +69,11 @@ impl<'a, J: Judge<char> + Drop> GroupQueue for LinearStrGroupsMut<'a, J> {
 
     ghost use Rattle.std.specs.Prelude.{ℕ, length, true};
     ghost use Rattle.std.specs.Str.{chars};
-    ghost use Rattle.sgb_search.specs.Split.{neighbours};
+    ghost use Rattle.sgb_search.specs.Calls.{IsCallableBy};
+    ghost use Rattle.sgb_search.specs.Split.{neighbours, AreNeighbours};
     ghost use Rattle.sgb_search.specs.Judges.{IsRunOf};
-    ghost use Rattle.sgb_search.proofs.Runs.{run_of_none, run_of_more};
-    ghost use Rattle.sgb_linear_str_group.specs.Texts.{IsCallableText, IsSettledText};
+    ghost use Rattle.sgb_search.proofs.Questions.Runs.{run_of_none, run_of_more};
+    ghost use Rattle.sgb_linear_str_group.specs.Texts.{IsSettledText, in_characters};
     ghost use Rattle.sgb_linear_str_group.specs.TextsMut.{text_groups_of_mut, GivesTextMut};
     ghost use Rattle.sgb_linear_str_group.proofs.Queue as laws;
 
@@ -91,7 +93,7 @@ impl<'a, J: Judge<char> + Drop> GroupQueue for LinearStrGroupsMut<'a, J> {
 
     ghost exact = { true };
 
-    ghost can_pop = { λ q. IsCallableText J.Judge (text_groups_of_mut q) };
+    ghost can_pop = { λ q. IsCallableBy AreNeighbours J.Judge (in_characters (text_groups_of_mut q)) };
 
     #[inline]
     fn pop_front(&mut self) -> Option<&'a mut [u8]> {

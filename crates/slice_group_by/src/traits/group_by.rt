@@ -1,10 +1,11 @@
 //! Groups for reading by a method of the slice.
 ghost use Rattle.std.specs.Prelude.{◌≡◌, Bool};
+ghost use Rattle.sgb_search.specs.Calls.{ComputesBy, IsCallableBy};
 ghost use Rattle.std.specs.Fn.{ComputesOnPairs, ComputesKey};
 ghost use Rattle.sgb_search.specs.Judges.{by_predicate, predicate_judge, by_key, key_judge, by_equality};
-ghost use Rattle.sgb_search.specs.Split.{IsGrouped};
-ghost use Rattle.sgb_search.specs.Linear.{IsCallable, IsSettled};
-ghost use Rattle.sgb_search.specs.Searching.{IsCallableApart, ComputesApart, IsSettledApart};
+ghost use Rattle.sgb_search.specs.Split.{IsGrouped, AreApart, AreNeighbours};
+ghost use Rattle.sgb_search.specs.Linear.{IsSettled};
+ghost use Rattle.sgb_search.specs.Searching.{IsSettledApart};
 ghost use Rattle.sgb_groups.specs.Gives.{groups_of};
 
 use crate::traits::holders::Elements;
@@ -32,11 +33,11 @@ pub trait GroupBy<T>: Elements<T> {
     where
         F: FnMut(&T) -> K,
         K: PartialEq + Drop,
-        requires { IsCallable (by_key F.FnMut K.eq)
+        requires { IsCallableBy AreNeighbours (by_key F.FnMut K.eq)
             (record { remainder = Self.items self.now; judge = key_judge func }) }
         ensures remainder { (groups_of result).remainder ≡ Self.items self.now }
         ensures judge { result.judge ≡ key_judge func }
-        ensures callable { IsCallable (by_key F.FnMut K.eq) (groups_of result) }
+        ensures callable { IsCallableBy AreNeighbours (by_key F.FnMut K.eq) (groups_of result) }
         ensures settled { (key : T → K) → ComputesKey F.FnMut key func
             → IsSettled (by_key F.FnMut K.eq) (groups_of result) (λ x y. K.eq (key x) (key y)) }
     {
@@ -46,11 +47,11 @@ pub trait GroupBy<T>: Elements<T> {
     /// Groups by a predicate: neighbours of which it says yes, the left one first, belong together.
     #[inline]
     fn linear_group_by<P: FnMut(&T, &T) -> bool>(&self, predicate: P) -> LinearGroupBy<'_, T, P>
-        requires { IsCallable (by_predicate P.FnMut)
+        requires { IsCallableBy AreNeighbours (by_predicate P.FnMut)
             (record { remainder = Self.items self.now; judge = predicate_judge predicate }) }
         ensures remainder { (groups_of result).remainder ≡ Self.items self.now }
         ensures judge { result.judge ≡ predicate_judge predicate }
-        ensures callable { IsCallable (by_predicate P.FnMut) (groups_of result) }
+        ensures callable { IsCallableBy AreNeighbours (by_predicate P.FnMut) (groups_of result) }
         ensures settled { (p : T → T → Bool) → ComputesOnPairs P.FnMut p predicate
             → IsSettled (by_predicate P.FnMut) (groups_of result) p }
     {
@@ -64,7 +65,7 @@ pub trait GroupBy<T>: Elements<T> {
         T: PartialEq,
         ensures remainder { (groups_of result).remainder ≡ Self.items self.now }
         ensures asked { result.judge.asked ≡ 0 }
-        ensures callable { IsCallable (by_equality T.eq) (groups_of result) }
+        ensures callable { IsCallableBy AreNeighbours (by_equality T.eq) (groups_of result) }
         ensures settled { IsSettled (by_equality T.eq) (groups_of result) T.eq }
     {
         LinearGroup::new(self.as_slice())
@@ -76,13 +77,13 @@ pub trait GroupBy<T>: Elements<T> {
     where
         F: FnMut(&T) -> K,
         K: PartialEq + Drop,
-        requires { IsCallableApart (by_key F.FnMut K.eq)
+        requires { IsCallableBy AreApart (by_key F.FnMut K.eq)
             (record { remainder = Self.items self.now; judge = key_judge func }) }
         ensures remainder { (groups_of result).remainder ≡ Self.items self.now }
         ensures judge { result.judge ≡ key_judge func }
-        ensures callable { IsCallableApart (by_key F.FnMut K.eq) (groups_of result) }
+        ensures callable { IsCallableBy AreApart (by_key F.FnMut K.eq) (groups_of result) }
         ensures computes { (key : T → K) → ComputesKey F.FnMut key func
-            → ComputesApart (by_key F.FnMut K.eq) (groups_of result) (λ x y. K.eq (key x) (key y)) }
+            → ComputesBy AreApart (by_key F.FnMut K.eq) (groups_of result) (λ x y. K.eq (key x) (key y)) }
         ensures settled { (key : T → K) → ComputesKey F.FnMut key func
             → IsGrouped (λ x y. K.eq (key x) (key y)) (Self.items self.now)
             → IsSettledApart (by_key F.FnMut K.eq) (groups_of result) (λ x y. K.eq (key x) (key y)) }
@@ -93,13 +94,13 @@ pub trait GroupBy<T>: Elements<T> {
     /// Groups by a predicate, found by halving: the slice should be grouped for it.
     #[inline]
     fn binary_group_by<P: FnMut(&T, &T) -> bool>(&self, predicate: P) -> BinaryGroupBy<'_, T, P>
-        requires { IsCallableApart (by_predicate P.FnMut)
+        requires { IsCallableBy AreApart (by_predicate P.FnMut)
             (record { remainder = Self.items self.now; judge = predicate_judge predicate }) }
         ensures remainder { (groups_of result).remainder ≡ Self.items self.now }
         ensures judge { result.judge ≡ predicate_judge predicate }
-        ensures callable { IsCallableApart (by_predicate P.FnMut) (groups_of result) }
+        ensures callable { IsCallableBy AreApart (by_predicate P.FnMut) (groups_of result) }
         ensures computes { (p : T → T → Bool) → ComputesOnPairs P.FnMut p predicate
-            → ComputesApart (by_predicate P.FnMut) (groups_of result) p }
+            → ComputesBy AreApart (by_predicate P.FnMut) (groups_of result) p }
         ensures settled { (p : T → T → Bool) → ComputesOnPairs P.FnMut p predicate → IsGrouped p (Self.items self.now)
             → IsSettledApart (by_predicate P.FnMut) (groups_of result) p }
     {
@@ -113,9 +114,10 @@ pub trait GroupBy<T>: Elements<T> {
         T: PartialEq,
         ensures remainder { (groups_of result).remainder ≡ Self.items self.now }
         ensures asked { result.judge.asked ≡ 0 }
-        ensures callable { IsCallableApart (by_equality T.eq) (groups_of result) }
-        ensures computes { ComputesApart (by_equality T.eq) (groups_of result) T.eq }
-        ensures settled { IsGrouped T.eq (Self.items self.now) → IsSettledApart (by_equality T.eq) (groups_of result) T.eq }
+        ensures callable { IsCallableBy AreApart (by_equality T.eq) (groups_of result) }
+        ensures computes { ComputesBy AreApart (by_equality T.eq) (groups_of result) T.eq }
+        ensures settled { IsGrouped T.eq (Self.items self.now)
+            → IsSettledApart (by_equality T.eq) (groups_of result) T.eq }
     {
         BinaryGroup::new(self.as_slice())
     }
@@ -126,13 +128,13 @@ pub trait GroupBy<T>: Elements<T> {
     where
         F: Fn(&T) -> K,
         K: PartialEq + Drop,
-        requires { IsCallableApart (by_key F.FnMut K.eq)
+        requires { IsCallableBy AreApart (by_key F.FnMut K.eq)
             (record { remainder = Self.items self.now; judge = key_judge func }) }
         ensures remainder { (groups_of result).remainder ≡ Self.items self.now }
         ensures judge { result.judge ≡ key_judge func }
-        ensures callable { IsCallableApart (by_key F.FnMut K.eq) (groups_of result) }
+        ensures callable { IsCallableBy AreApart (by_key F.FnMut K.eq) (groups_of result) }
         ensures computes { (key : T → K) → ComputesKey F.FnMut key func
-            → ComputesApart (by_key F.FnMut K.eq) (groups_of result) (λ x y. K.eq (key x) (key y)) }
+            → ComputesBy AreApart (by_key F.FnMut K.eq) (groups_of result) (λ x y. K.eq (key x) (key y)) }
         ensures settled { (key : T → K) → ComputesKey F.FnMut key func
             → IsGrouped (λ x y. K.eq (key x) (key y)) (Self.items self.now)
             → IsSettledApart (by_key F.FnMut K.eq) (groups_of result) (λ x y. K.eq (key x) (key y)) }
@@ -145,13 +147,13 @@ pub trait GroupBy<T>: Elements<T> {
     fn exponential_group_by<P>(&self, predicate: P) -> ExponentialGroupBy<'_, T, P>
     where
         P: FnMut(&T, &T) -> bool,
-        requires { IsCallableApart (by_predicate P.FnMut)
+        requires { IsCallableBy AreApart (by_predicate P.FnMut)
             (record { remainder = Self.items self.now; judge = predicate_judge predicate }) }
         ensures remainder { (groups_of result).remainder ≡ Self.items self.now }
         ensures judge { result.judge ≡ predicate_judge predicate }
-        ensures callable { IsCallableApart (by_predicate P.FnMut) (groups_of result) }
+        ensures callable { IsCallableBy AreApart (by_predicate P.FnMut) (groups_of result) }
         ensures computes { (p : T → T → Bool) → ComputesOnPairs P.FnMut p predicate
-            → ComputesApart (by_predicate P.FnMut) (groups_of result) p }
+            → ComputesBy AreApart (by_predicate P.FnMut) (groups_of result) p }
         ensures settled { (p : T → T → Bool) → ComputesOnPairs P.FnMut p predicate → IsGrouped p (Self.items self.now)
             → IsSettledApart (by_predicate P.FnMut) (groups_of result) p }
     {
@@ -165,9 +167,10 @@ pub trait GroupBy<T>: Elements<T> {
         T: PartialEq,
         ensures remainder { (groups_of result).remainder ≡ Self.items self.now }
         ensures asked { result.judge.asked ≡ 0 }
-        ensures callable { IsCallableApart (by_equality T.eq) (groups_of result) }
-        ensures computes { ComputesApart (by_equality T.eq) (groups_of result) T.eq }
-        ensures settled { IsGrouped T.eq (Self.items self.now) → IsSettledApart (by_equality T.eq) (groups_of result) T.eq }
+        ensures callable { IsCallableBy AreApart (by_equality T.eq) (groups_of result) }
+        ensures computes { ComputesBy AreApart (by_equality T.eq) (groups_of result) T.eq }
+        ensures settled { IsGrouped T.eq (Self.items self.now)
+            → IsSettledApart (by_equality T.eq) (groups_of result) T.eq }
     {
         ExponentialGroup::new(self.as_slice())
     }

@@ -1,10 +1,11 @@
 //! Groups for writing by a method of the slice.
 ghost use Rattle.std.specs.Prelude.{◌≡◌, Bool};
+ghost use Rattle.sgb_search.specs.Calls.{ComputesBy, IsCallableBy};
 ghost use Rattle.std.specs.Fn.{ComputesOnPairs, ComputesKey};
 ghost use Rattle.sgb_search.specs.Judges.{by_predicate, predicate_judge, by_key, key_judge, by_equality};
-ghost use Rattle.sgb_search.specs.Split.{IsGrouped};
-ghost use Rattle.sgb_search.specs.Linear.{IsCallable, IsSettled};
-ghost use Rattle.sgb_search.specs.Searching.{IsCallableApart, ComputesApart, IsSettledApart};
+ghost use Rattle.sgb_search.specs.Split.{IsGrouped, AreApart, AreNeighbours};
+ghost use Rattle.sgb_search.specs.Linear.{IsSettled};
+ghost use Rattle.sgb_search.specs.Searching.{IsSettledApart};
 ghost use Rattle.sgb_groups.specs.Gives.{groups_of_mut};
 ghost use Rattle.sgb_loans.specs.Loans.{NothingOut};
 
@@ -34,11 +35,11 @@ pub trait GroupByMut<T>: AsMutSlice<T> {
     where
         F: FnMut(&T) -> K,
         K: PartialEq + Drop,
-        requires { IsCallable (by_key F.FnMut K.eq)
+        requires { IsCallableBy AreNeighbours (by_key F.FnMut K.eq)
             (record { remainder = Self.elements self.old; judge = key_judge func }) }
         ensures remainder { result.remainder ≡ Self.elements self.entry.now }
         ensures judge { result.judge ≡ key_judge func }
-        ensures callable { IsCallable (by_key F.FnMut K.eq) (groups_of_mut result) }
+        ensures callable { IsCallableBy AreNeighbours (by_key F.FnMut K.eq) (groups_of_mut result) }
         ensures settled { (key : T → K) → ComputesKey F.FnMut key func
             → IsSettled (by_key F.FnMut K.eq) (groups_of_mut result) (λ x y. K.eq (key x) (key y)) }
         ensures loans { NothingOut result.loans.root result.loans }
@@ -51,11 +52,11 @@ pub trait GroupByMut<T>: AsMutSlice<T> {
     fn linear_group_by_mut<P>(&mut self, predicate: P) -> LinearGroupByMut<'_, T, P>
     where
         P: FnMut(&T, &T) -> bool,
-        requires { IsCallable (by_predicate P.FnMut)
+        requires { IsCallableBy AreNeighbours (by_predicate P.FnMut)
             (record { remainder = Self.elements self.old; judge = predicate_judge predicate }) }
         ensures remainder { result.remainder ≡ Self.elements self.entry.now }
         ensures judge { result.judge ≡ predicate_judge predicate }
-        ensures callable { IsCallable (by_predicate P.FnMut) (groups_of_mut result) }
+        ensures callable { IsCallableBy AreNeighbours (by_predicate P.FnMut) (groups_of_mut result) }
         ensures settled { (p : T → T → Bool) → ComputesOnPairs P.FnMut p predicate
             → IsSettled (by_predicate P.FnMut) (groups_of_mut result) p }
         ensures loans { NothingOut result.loans.root result.loans }
@@ -70,7 +71,7 @@ pub trait GroupByMut<T>: AsMutSlice<T> {
         T: PartialEq,
         ensures remainder { result.remainder ≡ Self.elements self.entry.now }
         ensures asked { result.judge.asked ≡ 0 }
-        ensures callable { IsCallable (by_equality T.eq) (groups_of_mut result) }
+        ensures callable { IsCallableBy AreNeighbours (by_equality T.eq) (groups_of_mut result) }
         ensures settled { IsSettled (by_equality T.eq) (groups_of_mut result) T.eq }
         ensures loans { NothingOut result.loans.root result.loans }
     {
@@ -83,13 +84,13 @@ pub trait GroupByMut<T>: AsMutSlice<T> {
     where
         F: FnMut(&T) -> K,
         K: PartialEq + Drop,
-        requires { IsCallableApart (by_key F.FnMut K.eq)
+        requires { IsCallableBy AreApart (by_key F.FnMut K.eq)
             (record { remainder = Self.elements self.old; judge = key_judge func }) }
         ensures remainder { result.remainder ≡ Self.elements self.entry.now }
         ensures judge { result.judge ≡ key_judge func }
-        ensures callable { IsCallableApart (by_key F.FnMut K.eq) (groups_of_mut result) }
+        ensures callable { IsCallableBy AreApart (by_key F.FnMut K.eq) (groups_of_mut result) }
         ensures computes { (key : T → K) → ComputesKey F.FnMut key func
-            → ComputesApart (by_key F.FnMut K.eq) (groups_of_mut result) (λ x y. K.eq (key x) (key y)) }
+            → ComputesBy AreApart (by_key F.FnMut K.eq) (groups_of_mut result) (λ x y. K.eq (key x) (key y)) }
         ensures settled { (key : T → K) → ComputesKey F.FnMut key func
             → IsGrouped (λ x y. K.eq (key x) (key y)) (Self.elements self.entry.now)
             → IsSettledApart (by_key F.FnMut K.eq) (groups_of_mut result) (λ x y. K.eq (key x) (key y)) }
@@ -103,15 +104,16 @@ pub trait GroupByMut<T>: AsMutSlice<T> {
     fn binary_group_by_mut<P>(&mut self, predicate: P) -> BinaryGroupByMut<'_, T, P>
     where
         P: FnMut(&T, &T) -> bool,
-        requires { IsCallableApart (by_predicate P.FnMut)
+        requires { IsCallableBy AreApart (by_predicate P.FnMut)
             (record { remainder = Self.elements self.old; judge = predicate_judge predicate }) }
         ensures remainder { result.remainder ≡ Self.elements self.entry.now }
         ensures judge { result.judge ≡ predicate_judge predicate }
-        ensures callable { IsCallableApart (by_predicate P.FnMut) (groups_of_mut result) }
+        ensures callable { IsCallableBy AreApart (by_predicate P.FnMut) (groups_of_mut result) }
         ensures computes { (p : T → T → Bool) → ComputesOnPairs P.FnMut p predicate
-            → ComputesApart (by_predicate P.FnMut) (groups_of_mut result) p }
+            → ComputesBy AreApart (by_predicate P.FnMut) (groups_of_mut result) p }
         ensures settled { (p : T → T → Bool) → ComputesOnPairs P.FnMut p predicate
-            → IsGrouped p (Self.elements self.entry.now) → IsSettledApart (by_predicate P.FnMut) (groups_of_mut result) p }
+            → IsGrouped p (Self.elements self.entry.now)
+            → IsSettledApart (by_predicate P.FnMut) (groups_of_mut result) p }
         ensures loans { NothingOut result.loans.root result.loans }
     {
         BinaryGroupByMut::new(self.as_mut_slice(), predicate)
@@ -124,8 +126,8 @@ pub trait GroupByMut<T>: AsMutSlice<T> {
         T: PartialEq,
         ensures remainder { result.remainder ≡ Self.elements self.entry.now }
         ensures asked { result.judge.asked ≡ 0 }
-        ensures callable { IsCallableApart (by_equality T.eq) (groups_of_mut result) }
-        ensures computes { ComputesApart (by_equality T.eq) (groups_of_mut result) T.eq }
+        ensures callable { IsCallableBy AreApart (by_equality T.eq) (groups_of_mut result) }
+        ensures computes { ComputesBy AreApart (by_equality T.eq) (groups_of_mut result) T.eq }
         ensures settled { IsGrouped T.eq (Self.elements self.entry.now)
             → IsSettledApart (by_equality T.eq) (groups_of_mut result) T.eq }
         ensures loans { NothingOut result.loans.root result.loans }
@@ -142,13 +144,13 @@ pub trait GroupByMut<T>: AsMutSlice<T> {
     where
         F: Fn(&T) -> K,
         K: PartialEq + Drop,
-        requires { IsCallableApart (by_key F.FnMut K.eq)
+        requires { IsCallableBy AreApart (by_key F.FnMut K.eq)
             (record { remainder = Self.elements self.old; judge = key_judge func }) }
         ensures remainder { result.remainder ≡ Self.elements self.entry.now }
         ensures judge { result.judge ≡ key_judge func }
-        ensures callable { IsCallableApart (by_key F.FnMut K.eq) (groups_of_mut result) }
+        ensures callable { IsCallableBy AreApart (by_key F.FnMut K.eq) (groups_of_mut result) }
         ensures computes { (key : T → K) → ComputesKey F.FnMut key func
-            → ComputesApart (by_key F.FnMut K.eq) (groups_of_mut result) (λ x y. K.eq (key x) (key y)) }
+            → ComputesBy AreApart (by_key F.FnMut K.eq) (groups_of_mut result) (λ x y. K.eq (key x) (key y)) }
         ensures settled { (key : T → K) → ComputesKey F.FnMut key func
             → IsGrouped (λ x y. K.eq (key x) (key y)) (Self.elements self.entry.now)
             → IsSettledApart (by_key F.FnMut K.eq) (groups_of_mut result) (λ x y. K.eq (key x) (key y)) }
@@ -162,15 +164,16 @@ pub trait GroupByMut<T>: AsMutSlice<T> {
     fn exponential_group_by_mut<P>(&mut self, predicate: P) -> ExponentialGroupByMut<'_, T, P>
     where
         P: FnMut(&T, &T) -> bool,
-        requires { IsCallableApart (by_predicate P.FnMut)
+        requires { IsCallableBy AreApart (by_predicate P.FnMut)
             (record { remainder = Self.elements self.old; judge = predicate_judge predicate }) }
         ensures remainder { result.remainder ≡ Self.elements self.entry.now }
         ensures judge { result.judge ≡ predicate_judge predicate }
-        ensures callable { IsCallableApart (by_predicate P.FnMut) (groups_of_mut result) }
+        ensures callable { IsCallableBy AreApart (by_predicate P.FnMut) (groups_of_mut result) }
         ensures computes { (p : T → T → Bool) → ComputesOnPairs P.FnMut p predicate
-            → ComputesApart (by_predicate P.FnMut) (groups_of_mut result) p }
+            → ComputesBy AreApart (by_predicate P.FnMut) (groups_of_mut result) p }
         ensures settled { (p : T → T → Bool) → ComputesOnPairs P.FnMut p predicate
-            → IsGrouped p (Self.elements self.entry.now) → IsSettledApart (by_predicate P.FnMut) (groups_of_mut result) p }
+            → IsGrouped p (Self.elements self.entry.now)
+            → IsSettledApart (by_predicate P.FnMut) (groups_of_mut result) p }
         ensures loans { NothingOut result.loans.root result.loans }
     {
         ExponentialGroupByMut::new(self.as_mut_slice(), predicate)
@@ -183,8 +186,8 @@ pub trait GroupByMut<T>: AsMutSlice<T> {
         T: PartialEq,
         ensures remainder { result.remainder ≡ Self.elements self.entry.now }
         ensures asked { result.judge.asked ≡ 0 }
-        ensures callable { IsCallableApart (by_equality T.eq) (groups_of_mut result) }
-        ensures computes { ComputesApart (by_equality T.eq) (groups_of_mut result) T.eq }
+        ensures callable { IsCallableBy AreApart (by_equality T.eq) (groups_of_mut result) }
+        ensures computes { ComputesBy AreApart (by_equality T.eq) (groups_of_mut result) T.eq }
         ensures settled { IsGrouped T.eq (Self.elements self.entry.now)
             → IsSettledApart (by_equality T.eq) (groups_of_mut result) T.eq }
         ensures loans { NothingOut result.loans.root result.loans }

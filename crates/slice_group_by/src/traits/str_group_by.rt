@@ -1,8 +1,10 @@
 //! Groups by a method of the text.
 ghost use Rattle.std.specs.Prelude.{◌≡◌, ℕ, Bool, List, nat_eq};
+ghost use Rattle.sgb_search.specs.Calls.{IsCallableBy};
+ghost use Rattle.sgb_search.specs.Split.{AreNeighbours};
 ghost use Rattle.std.specs.Str.{IsUtf8};
 ghost use Rattle.sgb_search.specs.Judges.{by_char_predicate, char_predicate_judge, ComputesOnChars, by_char_key, char_key_judge, ComputesCharKey, by_equality};
-ghost use Rattle.sgb_linear_str_group.specs.Texts.{text_groups_of, IsCallableText, IsSettledText};
+ghost use Rattle.sgb_linear_str_group.specs.Texts.{text_groups_of, IsSettledText, in_characters};
 ghost use Rattle.sgb_linear_str_group.specs.TextsMut.{text_groups_of_mut};
 ghost use Rattle.sgb_loans.specs.Loans.{NothingOut};
 
@@ -30,11 +32,12 @@ pub trait StrGroupBy: AsStr {
     where
         F: FnMut(char) -> K,
         K: PartialEq + Drop,
-        requires { IsCallableText (by_char_key F.FnMut K.eq)
-            (record { text = Self.text self.now; judge = char_key_judge func }) }
+        requires { IsCallableBy AreNeighbours (by_char_key F.FnMut K.eq)
+            (in_characters (record { text = Self.text self.now; judge = char_key_judge func })) }
         ensures text { (text_groups_of result).text ≡ Self.text self.now }
         ensures judge { result.judge ≡ char_key_judge func }
-        ensures callable { IsCallableText (by_char_key F.FnMut K.eq) (text_groups_of result) }
+        ensures callable { IsCallableBy AreNeighbours (by_char_key F.FnMut K.eq)
+            (in_characters (text_groups_of result)) }
         ensures settled { (key : ℕ → K) → ComputesCharKey F.FnMut key func
             → IsSettledText (by_char_key F.FnMut K.eq) (text_groups_of result) (λ x y. K.eq (key x) (key y)) }
     {
@@ -46,11 +49,12 @@ pub trait StrGroupBy: AsStr {
     fn linear_group_by<P>(&self, predicate: P) -> LinearStrGroupBy<'_, P>
     where
         P: FnMut(char, char) -> bool,
-        requires { IsCallableText (by_char_predicate P.FnMut)
-            (record { text = Self.text self.now; judge = char_predicate_judge predicate }) }
+        requires { IsCallableBy AreNeighbours (by_char_predicate P.FnMut)
+            (in_characters (record { text = Self.text self.now; judge = char_predicate_judge predicate })) }
         ensures text { (text_groups_of result).text ≡ Self.text self.now }
         ensures judge { result.judge ≡ char_predicate_judge predicate }
-        ensures callable { IsCallableText (by_char_predicate P.FnMut) (text_groups_of result) }
+        ensures callable { IsCallableBy AreNeighbours (by_char_predicate P.FnMut)
+            (in_characters (text_groups_of result)) }
         ensures settled { (p : ℕ → ℕ → Bool) → ComputesOnChars P.FnMut p predicate
             → IsSettledText (by_char_predicate P.FnMut) (text_groups_of result) p }
     {
@@ -62,7 +66,7 @@ pub trait StrGroupBy: AsStr {
     fn linear_group(&self) -> LinearStrGroup<'_>
         ensures text { (text_groups_of result).text ≡ Self.text self.now }
         ensures asked { result.judge.asked ≡ 0 }
-        ensures callable { IsCallableText (by_equality nat_eq) (text_groups_of result) }
+        ensures callable { IsCallableBy AreNeighbours (by_equality nat_eq) (in_characters (text_groups_of result)) }
         ensures settled { IsSettledText (by_equality nat_eq) (text_groups_of result) nat_eq }
     {
         LinearStrGroup::new(self.as_str())
@@ -94,11 +98,12 @@ pub trait StrGroupByMut: AsMutSlice<u8> {
         F: FnMut(char) -> K,
         K: PartialEq + Drop,
         requires utf8 { IsUtf8 (Self.elements self.old) }
-        requires callable { IsCallableText (by_char_key F.FnMut K.eq)
-            (record { text = Self.elements self.old; judge = char_key_judge func }) }
+        requires callable { IsCallableBy AreNeighbours (by_char_key F.FnMut K.eq)
+            (in_characters (record { text = Self.elements self.old; judge = char_key_judge func })) }
         ensures text { result.text ≡ Self.elements self.entry.now }
         ensures judge { result.judge ≡ char_key_judge func }
-        ensures callable { IsCallableText (by_char_key F.FnMut K.eq) (text_groups_of_mut result) }
+        ensures callable { IsCallableBy AreNeighbours (by_char_key F.FnMut K.eq)
+            (in_characters (text_groups_of_mut result)) }
         ensures settled { (key : ℕ → K) → ComputesCharKey F.FnMut key func
             → IsSettledText (by_char_key F.FnMut K.eq) (text_groups_of_mut result) (λ x y. K.eq (key x) (key y)) }
         ensures loans { NothingOut result.loans.root result.loans }
@@ -112,11 +117,12 @@ pub trait StrGroupByMut: AsMutSlice<u8> {
     where
         P: FnMut(char, char) -> bool,
         requires utf8 { IsUtf8 (Self.elements self.old) }
-        requires callable { IsCallableText (by_char_predicate P.FnMut)
-            (record { text = Self.elements self.old; judge = char_predicate_judge predicate }) }
+        requires callable { IsCallableBy AreNeighbours (by_char_predicate P.FnMut)
+            (in_characters (record { text = Self.elements self.old; judge = char_predicate_judge predicate })) }
         ensures text { result.text ≡ Self.elements self.entry.now }
         ensures judge { result.judge ≡ char_predicate_judge predicate }
-        ensures callable { IsCallableText (by_char_predicate P.FnMut) (text_groups_of_mut result) }
+        ensures callable { IsCallableBy AreNeighbours (by_char_predicate P.FnMut)
+            (in_characters (text_groups_of_mut result)) }
         ensures settled { (p : ℕ → ℕ → Bool) → ComputesOnChars P.FnMut p predicate
             → IsSettledText (by_char_predicate P.FnMut) (text_groups_of_mut result) p }
         ensures loans { NothingOut result.loans.root result.loans }
@@ -130,7 +136,7 @@ pub trait StrGroupByMut: AsMutSlice<u8> {
         requires { IsUtf8 (Self.elements self.old) }
         ensures text { result.text ≡ Self.elements self.entry.now }
         ensures asked { result.judge.asked ≡ 0 }
-        ensures callable { IsCallableText (by_equality nat_eq) (text_groups_of_mut result) }
+        ensures callable { IsCallableBy AreNeighbours (by_equality nat_eq) (in_characters (text_groups_of_mut result)) }
         ensures settled { IsSettledText (by_equality nat_eq) (text_groups_of_mut result) nat_eq }
         ensures loans { NothingOut result.loans.root result.loans }
     {

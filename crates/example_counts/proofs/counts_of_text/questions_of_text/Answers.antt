@@ -4,10 +4,10 @@ use Rattle.example_counts.proofs.counts_of_text.questions_of_text.Goals as goal
 
 pub loop-preserved : goal.loop-preserved
 loop-preserved c =
-    c.text_counts.ensures.more (λ j. j.predicate.0) 1 (2 ^ 64) (λ j k pair b h. search rules) _ _ _ c.loop.invariant
+    c.linear_counts.ensures.more (λ j. j.predicate.0) 1 (2 ^ 64) (λ j k pair b h. search rules) _ _ _ c.loop.invariant
     (c.calls_ask.ensures.call Front c.loop.groups c.next.new.self c.next.result c.next.ensures.steps)
 
 pub returns : goal.returns
 returns c =
-    let fewer = c.text_counts.ensures.fits c.args.text.now in
+    let fewer = c.characters_fit.ensures c.args.text.now in
     search (rules, c.loop.invariant.place, c.loop.invariant.count (search rules))

@@ -1,6 +1,6 @@
 use Rattle.std.proofs.Common.{rules, arith, ap, ◌∙◌, ◌≡◌, ◌++◌}
 use Rattle.std.proofs.lemmas.List.Sums.{sum_by-append}
-use Rattle.slice_group_by.proofs.WrittenPieces.{noted_at_front, search_piece, search_settled}
+use Rattle.slice_group_by.proofs.Pieces.WrittenPieces.{noted_at_front, search_piece, search_settled}
 use Rattle.example_counts.specs.Keys.{same_key}
 use Rattle.example_counts.specs.Totals.{kept}
 use Rattle.example_counts.proofs.KeptTotals.{set_is_kept}

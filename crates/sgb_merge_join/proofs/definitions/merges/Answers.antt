@@ -4,7 +4,7 @@ use Rattle.std.specs.List.{AllByRecursion}
 use Rattle.std.specs.Ordering.{nat_cmp}
 use Rattle.std.specs.declared.cmp.Ordering.{Ordering}
 use Rattle.std.specs.declared.cmp.Ordering.TheVariants.{Less, Equal, Greater}
-use Rattle.sgb_search.proofs.Each.{all_contains}
+use Rattle.sgb_search.proofs.Lists.AllByRecursion.{all_contains}
 use Rattle.sgb_merge_join.specs.Examples.{stair}
 use Rattle.sgb_merge_join.specs.Merge.{AllStand}
 use Rattle.sgb_merge_join.proofs.Merging.{contains_head, contains_tail}

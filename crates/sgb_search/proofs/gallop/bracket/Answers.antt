@@ -1,5 +1,5 @@
 use Rattle.std.proofs.Common.{arith, refl}
-use Rattle.sgb_search.proofs.Galloping.{doubles_start, doubles_may, doubles_low, doubles_end, doubles_stop, doubles_on, less_below, not_less}
+use Rattle.sgb_search.proofs.Searches.Galloping.{doubles_start, doubles_may, doubles_low, doubles_end, doubles_stop, doubles_on, less_below, not_less}
 use Rattle.sgb_search.proofs.gallop.bracket.Goals as goal
 
 pub returns-then-high-low-lt2 : goal.returns-then-high-low-lt2

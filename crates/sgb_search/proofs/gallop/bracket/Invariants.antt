@@ -1,5 +1,5 @@
 use Rattle.std.proofs.Common.{◌+◌, ◌-◌, ◌<◌}
-use Rattle.sgb_search.proofs.Galloping.{Doubles}
+use Rattle.sgb_search.proofs.Searches.Galloping.{Doubles}
 use Rattle.sgb_search.proofs.gallop.bracket.Given as goal
 
 abbrev pub invariant-loop-from : goal.invariant-loop-from

@@ -1,4 +1,4 @@
-use Rattle.sgb_search.proofs.Galloping.{bracket_may, gallop_ends}
+use Rattle.sgb_search.proofs.Searches.Galloping.{bracket_may, gallop_ends}
 use Rattle.sgb_search.proofs.gallop.gallop.Goals as goal
 
 pub halve-requires : goal.halve-requires

@@ -1,5 +1,5 @@
 use Rattle.std.proofs.Common.{arith, refl, inl, inr}
-use Rattle.sgb_search.proofs.Halving.{narrows_may, narrows_found, narrows_step, narrows_end}
+use Rattle.sgb_search.proofs.Searches.Halving.{narrows_may, narrows_found, narrows_step, narrows_end}
 use Rattle.sgb_search.proofs.gallop.halve.Goals.{then-is_lt, else-is_lt, then-is_gt, else-is_gt}
 use Rattle.sgb_search.proofs.gallop.halve.Goals as goal
 

@@ -1,5 +1,5 @@
 use Rattle.std.proofs.Common.{◌-◌}
-use Rattle.sgb_search.proofs.Halving.{Narrows}
+use Rattle.sgb_search.proofs.Searches.Halving.{Narrows}
 use Rattle.sgb_search.proofs.gallop.halve.Given as goal
 
 abbrev pub invariant-loop-from : goal.invariant-loop-from

@@ -1,5 +1,5 @@
 use Rattle.sgb_search.specs.Split.{AreNeighbours}
-use Rattle.sgb_search.proofs.Closures.{predicate_callable}
+use Rattle.sgb_search.proofs.Questions.Closures.{predicate_callable}
 use Rattle.sgb_search.proofs.laws.always_callable.Goals as goal
 
 pub returns : goal.returns

@@ -1,4 +1,4 @@
-use Rattle.sgb_search.proofs.Closures.{char_key_callable}
+use Rattle.sgb_search.proofs.Questions.Closures.{char_key_callable}
 use Rattle.sgb_search.proofs.laws.always_callable_char_key.Goals as goal
 
 pub returns : goal.returns

@@ -1,4 +1,4 @@
-use Rattle.sgb_search.proofs.Closures.{char_predicate_callable}
+use Rattle.sgb_search.proofs.Questions.Closures.{char_predicate_callable}
 use Rattle.sgb_search.proofs.laws.always_callable_chars.Goals as goal
 
 pub returns : goal.returns

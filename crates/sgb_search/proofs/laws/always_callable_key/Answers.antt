@@ -1,5 +1,5 @@
 use Rattle.sgb_search.specs.Split.{AreNeighbours}
-use Rattle.sgb_search.proofs.Closures.{key_callable}
+use Rattle.sgb_search.proofs.Questions.Closures.{key_callable}
 use Rattle.sgb_search.proofs.laws.always_callable_key.Goals as goal
 
 pub returns : goal.returns

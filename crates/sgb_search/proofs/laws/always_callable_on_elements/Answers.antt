@@ -1,4 +1,4 @@
-use Rattle.sgb_search.proofs.Closures.{callable_on_elements}
+use Rattle.sgb_search.proofs.Questions.Closures.{callable_on_elements}
 use Rattle.sgb_search.proofs.laws.always_callable_on_elements.Goals as goal
 
 pub returns : goal.returns

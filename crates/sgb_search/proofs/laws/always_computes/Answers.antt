@@ -1,4 +1,4 @@
-use Rattle.sgb_search.proofs.Closures.{computes_on_elements}
+use Rattle.sgb_search.proofs.Questions.Closures.{computes_on_elements}
 use Rattle.sgb_search.proofs.laws.always_computes.Goals as goal
 
 pub returns : goal.returns

@@ -1,4 +1,4 @@
-use Rattle.sgb_search.proofs.AscendingGroups.{ascending_grouped, sorted_grouped}
+use Rattle.sgb_search.proofs.Splits.AscendingGroups.{ascending_grouped, sorted_grouped}
 use Rattle.sgb_search.proofs.laws.ascending_is_grouped.Goals as goal
 
 pub returns-clause-by_key : goal.returns-clause-by_key

@@ -1,4 +1,4 @@
-use Rattle.sgb_search.proofs.Ascending.{ascends, ascends_itself}
+use Rattle.sgb_search.proofs.Searches.Ascending.{ascends, ascends_itself}
 use Rattle.sgb_search.proofs.laws.ascending_is_searchable.Goals as goal
 
 pub returns-clause-by_key : goal.returns-clause-by_key

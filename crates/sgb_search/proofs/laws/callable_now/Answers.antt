@@ -1,4 +1,4 @@
-use Rattle.sgb_search.proofs.OnElements.{callable_always}
+use Rattle.sgb_search.proofs.Questions.OnElements.{callable_always}
 use Rattle.sgb_search.proofs.laws.callable_now.Goals as goal
 
 pub returns : goal.returns

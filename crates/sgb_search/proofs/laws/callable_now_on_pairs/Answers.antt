@@ -1,5 +1,5 @@
 use Rattle.sgb_search.specs.Split.{AreNeighbours, AreApart}
-use Rattle.sgb_search.proofs.OnElements.{pairs_callable_always}
+use Rattle.sgb_search.proofs.Questions.OnElements.{pairs_callable_always}
 use Rattle.sgb_search.proofs.laws.callable_now_on_pairs.Goals as goal
 
 pub returns-clause-along : goal.returns-clause-along

@@ -1,4 +1,4 @@
-use Rattle.sgb_search.proofs.OnElements.{computes_on_chars}
+use Rattle.sgb_search.proofs.Questions.OnElements.{computes_on_chars}
 use Rattle.sgb_search.proofs.laws.computes_on_chars.Goals as goal
 
 pub returns : goal.returns

@@ -1,6 +1,6 @@
 use Rattle.std.proofs.Common.{◌++◌}
 use Rattle.sgb_search.specs.Split.{AreNeighbours, AreApart}
-use Rattle.sgb_search.proofs.OnElements.{neighbours_contained, apart_contained, part_contained, computes_on_fewer, key_computes_on}
+use Rattle.sgb_search.proofs.Questions.OnElements.{neighbours_contained, apart_contained, part_contained, computes_on_fewer, key_computes_on}
 use Rattle.sgb_search.proofs.laws.computes_on_elements.Goals as goal
 
 pub returns-clause-along : goal.returns-clause-along

@@ -1,4 +1,4 @@
-use Rattle.sgb_search.proofs.Digits.{digits_above, digits_least}
+use Rattle.sgb_search.proofs.Searches.Digits.{digits_above, digits_least}
 use Rattle.sgb_search.proofs.laws.digits_is_least.Goals as goal
 
 pub returns-clause-above : goal.returns-clause-above

@@ -1,6 +1,6 @@
 use Rattle.sgb_search.specs.Split.{AreApart, AreNeighbours}
 use Rattle.std.proofs.Common.{◌+◌, ap, ◌∙◌}
-use Rattle.sgb_search.proofs.Equality.{equality_callable, equality_settled, equality_counts}
+use Rattle.sgb_search.proofs.Questions.Equality.{equality_callable, equality_settled, equality_counts}
 use Rattle.sgb_search.proofs.laws.equality_judges.Goals as goal
 
 pub returns-clause-callable : goal.returns-clause-callable

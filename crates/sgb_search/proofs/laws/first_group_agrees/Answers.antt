@@ -1,4 +1,4 @@
-use Rattle.sgb_search.proofs.FirstPiece.{first_agrees}
+use Rattle.sgb_search.proofs.Splits.FirstPiece.{first_agrees}
 use Rattle.sgb_search.proofs.laws.first_group_agrees.Goals as goal
 
 pub returns : goal.returns

@@ -1,4 +1,4 @@
-use Rattle.sgb_search.proofs.Gaps.{taken, dropped}
+use Rattle.sgb_search.proofs.Searches.PartitionPoint.{taken, dropped}
 use Rattle.sgb_search.proofs.laws.gap_parts.Goals as goal
 
 pub returns-clause-before : goal.returns-clause-before

@@ -1,4 +1,4 @@
-use Rattle.sgb_search.proofs.Splits.{split_is, split_only, length-split}
+use Rattle.sgb_search.proofs.Splits.Split.{split_is, split_only, length-split}
 use Rattle.sgb_search.proofs.laws.one_split.Goals as goal
 
 pub returns-clause-covers : goal.returns-clause-covers

@@ -1,4 +1,4 @@
-use Rattle.sgb_search.proofs.Grouped.{grouped_part}
+use Rattle.sgb_search.proofs.Splits.Grouped.{grouped_part}
 use Rattle.sgb_search.proofs.laws.parts_are_grouped.Goals as goal
 
 pub returns : goal.returns

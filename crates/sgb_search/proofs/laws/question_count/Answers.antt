@@ -1,5 +1,5 @@
 use Rattle.std.proofs.Common.{arith}
-use Rattle.sgb_search.proofs.Pairs.{length-neighbours, length-questions}
+use Rattle.sgb_search.proofs.Lists.Pairs.{length-neighbours, length-questions}
 use Rattle.sgb_search.proofs.laws.question_count.Goals as goal
 
 pub returns-clause-pairs : goal.returns-clause-pairs

@@ -1,6 +1,6 @@
 use Rattle.std.proofs.Common.{rules}
-use Rattle.sgb_search.proofs.Runs.{answers_same}
-use Rattle.sgb_search.proofs.Ascending.{ascends_itself}
+use Rattle.sgb_search.proofs.Questions.Runs.{answers_same}
+use Rattle.sgb_search.proofs.Searches.Ascending.{ascends_itself}
 use Rattle.sgb_search.proofs.search.exponential_search.Goals as goal
 
 pub returns-clause-boundary : goal.returns-clause-boundary

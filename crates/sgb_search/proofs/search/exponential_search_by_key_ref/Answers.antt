@@ -1,7 +1,7 @@
 use Rattle.std.specs.Fn.{TakesAt}
 use Rattle.sgb_search.specs.Search.{ComparesKey}
-use Rattle.sgb_search.proofs.Readings.{may_places, search_run, search_boundary, finds, key_may, key_answers, key_may_go_on, key_computes_go_on}
-use Rattle.sgb_search.proofs.Ascending.{ascends}
+use Rattle.sgb_search.proofs.Searches.SearchRuns.{may_places, search_run, search_boundary, finds, key_may, key_answers, key_may_go_on, key_computes_go_on}
+use Rattle.sgb_search.proofs.Searches.Ascending.{ascends}
 use Rattle.sgb_search.proofs.search.exponential_search_by_key_ref.Goals as goal
 
 pub gallop-requires-clause-callable : goal.gallop-requires-clause-callable

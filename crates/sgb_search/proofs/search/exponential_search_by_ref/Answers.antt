@@ -1,5 +1,5 @@
 use Rattle.std.specs.Fn.{TakesAt, CalledAt}
-use Rattle.sgb_search.proofs.Readings.{may_places, search_run, search_boundary, finds, may_go_on, answers_go_on}
+use Rattle.sgb_search.proofs.Searches.SearchRuns.{may_places, search_run, search_boundary, finds, may_go_on, answers_go_on}
 use Rattle.sgb_search.proofs.search.exponential_search_by_ref.Goals as goal
 
 pub gallop-requires-clause-callable : goal.gallop-requires-clause-callable

@@ -1,4 +1,4 @@
-use Rattle.slice_group_by.proofs.Chains.{chain_keeps}
+use Rattle.slice_group_by.proofs.Queues.Chains.{chain_keeps}
 use Rattle.slice_group_by.proofs.laws.calls_may_go_on.Goals as goal
 
 pub returns-clause-call : goal.returns-clause-call

@@ -1,5 +1,5 @@
 use Rattle.sgb_search.specs.declared.end.End.TheVariants.{Front, Back}
-use Rattle.slice_group_by.proofs.Chains.{piece_and_others, piece_accepted}
+use Rattle.slice_group_by.proofs.Queues.Chains.{piece_and_others, piece_accepted}
 use Rattle.slice_group_by.proofs.laws.calls_take_pieces.Goals as goal
 
 pub returns-clause-front : goal.returns-clause-front

@@ -1,4 +1,4 @@
-use Rattle.slice_group_by.proofs.Chains.{chain_push, chain_parts, chain_answers, chain_asks}
+use Rattle.slice_group_by.proofs.Queues.Chains.{chain_push, chain_parts, chain_answers, chain_asks}
 use Rattle.slice_group_by.proofs.laws.chains_answer.Goals as goal
 
 pub returns-clause-more : goal.returns-clause-more

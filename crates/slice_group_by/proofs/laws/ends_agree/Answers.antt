@@ -2,7 +2,7 @@ use Rattle.std.proofs.Common.{◌≡◌, sym, ap, ◌∙◌, map, reverse}
 use Rattle.std.proofs.lemmas.List.{append-nil, reverse-reverse}
 use Rattle.sgb_search.specs.Split.{split}
 use Rattle.sgb_search.specs.declared.end.End.TheVariants.{Front, Back}
-use Rattle.slice_group_by.proofs.Seen.{yields_settled}
+use Rattle.slice_group_by.proofs.Queues.Yields.{yields_settled}
 use Rattle.slice_group_by.proofs.laws.ends_agree.Goals as goal
 
 pub returns : goal.returns

@@ -1,4 +1,4 @@
-use Rattle.slice_group_by.proofs.Seen.{yields_parts, drains_parts}
+use Rattle.slice_group_by.proofs.Queues.Yields.{yields_parts, drains_parts}
 use Rattle.slice_group_by.proofs.laws.groups_join.Goals as goal
 
 pub returns-clause-part : goal.returns-clause-part

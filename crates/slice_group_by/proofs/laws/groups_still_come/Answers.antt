@@ -1,4 +1,4 @@
-use Rattle.slice_group_by.proofs.GroupsToCome.{at_most_length, at_least_one, at_most_calls}
+use Rattle.slice_group_by.proofs.Queues.GroupsToCome.{at_most_length, at_least_one, at_most_calls}
 use Rattle.slice_group_by.proofs.laws.groups_still_come.Goals as goal
 
 pub returns-clause-most : goal.returns-clause-most

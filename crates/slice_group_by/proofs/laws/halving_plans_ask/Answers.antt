@@ -1,4 +1,4 @@
-use Rattle.slice_group_by.proofs.Adversary.{halving_right}
+use Rattle.slice_group_by.proofs.Questions.Adversary.{halving_right}
 use Rattle.slice_group_by.proofs.laws.halving_plans_ask.Goals as goal
 
 pub returns-clause-right : goal.returns-clause-right

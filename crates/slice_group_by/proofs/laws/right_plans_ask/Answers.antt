@@ -1,4 +1,4 @@
-use Rattle.slice_group_by.proofs.Adversary.{right_plan_asks}
+use Rattle.slice_group_by.proofs.Questions.Adversary.{right_plan_asks}
 use Rattle.slice_group_by.proofs.laws.right_plans_ask.Goals as goal
 
 pub returns : goal.returns

@@ -2,8 +2,8 @@ use Rattle.std.proofs.Common.{sym, ap, ◌∙◌, length}
 use Rattle.std.proofs.lemmas.List.{length-map, reverse-reverse}
 use Rattle.std.specs.Iterator.Adapters.{rev_source}
 use Rattle.sgb_search.specs.declared.end.End.TheVariants.{Back}
-use Rattle.sgb_search.proofs.Ends.{from-from, length-from}
-use Rattle.slice_group_by.proofs.Seen.{yields_pieces, yields_settled, drains_settled, yields_more, rev_always}
+use Rattle.sgb_search.proofs.Lists.Ends.{from-from, length-from}
+use Rattle.slice_group_by.proofs.Queues.Yields.{yields_pieces, yields_settled, drains_settled, yields_more, rev_always}
 use Rattle.slice_group_by.proofs.laws.sees_pieces.Goals as goal
 
 pub returns-clause-pieces : goal.returns-clause-pieces

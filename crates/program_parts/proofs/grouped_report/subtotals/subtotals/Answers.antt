@@ -6,7 +6,7 @@ use Rattle.std.specs.Cmp.{unsigned_ties}
 use Rattle.std.specs.Ordering.{nat_cmp}
 use Rattle.std.proofs.lemmas.Cmp.{nat_cmp_total}
 use Rattle.slice_group_by.specs.Search.{NeverDescends}
-use Rattle.slice_group_by.proofs.Joins.{split_ascends}
+use Rattle.slice_group_by.proofs.Joins.FirstGroups.{split_ascends}
 use Rattle.slice_group_by.specs.End.TheVariants.{Front}
 use Rattle.slice_group_by.specs.Split.{split, IsSplit}
 use Rattle.program_parts.specs.declared.grouped_report.rows.Entry.{Entry}

@@ -75,7 +75,7 @@ module _ (c : goal.After-comparisons-2-1) where
       let test = λ (e : Entry). nat_lt e.key c.args.limit in
       let parted = IsPartitionedBy-ltb (λ e. e.key) c.args.index.now c.args.limit c.requires in
       let settled = c.new-groups.ensures.settled (together c.args.limit)
-      (answers_by _ _ (λ f. f.1.now ≡ c.args.limit) (λ f a r f' k i. search (rules, i)) _ (search rules))
+      (answers_by _ _ (λ f. f.1 ≡ c.args.limit) (λ f a r f' k i. search (rules, i)) _ (search rules))
       (c.partitioned_pieces.ensures.grouped test c.args.index.now parted) in
       let lowest = starts c.args.limit _ c.starts_below.result c.starts_below.ensures c.if-not-starts_below.false in
       c.calls_take_pieces.ensures.front (together c.args.limit) c.new-groups.result c.next.new.self c.next.result

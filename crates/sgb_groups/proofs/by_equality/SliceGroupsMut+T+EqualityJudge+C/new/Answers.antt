@@ -1,4 +1,4 @@
-use Rattle.sgb_search.proofs.Equality.{equality_settled}
+use Rattle.sgb_search.proofs.Questions.Equality.{equality_settled}
 use Rattle.sgb_groups.proofs.by_equality.SliceGroupsMut+T+EqualityJudge+C.new.Goals as goal
 
 pub returns-clause-computes : goal.returns-clause-computes

@@ -3,8 +3,8 @@ use Rattle.std.specs.Prelude.{slice_range}
 use Rattle.sgb_search.specs.declared.end.End.TheVariants.{Front, Back}
 use Rattle.sgb_search.specs.Searching.{MayAskAt}
 use Rattle.sgb_search.specs.Split.{AreApart}
-use Rattle.sgb_search.proofs.Apart.{outward_apart}
-use Rattle.sgb_search.proofs.PlaceRuns.{search_may, search_asks, place_after}
+use Rattle.sgb_search.proofs.Lists.Apart.{outward_apart}
+use Rattle.sgb_search.proofs.Searches.PlaceRuns.{search_may, search_asks, place_after}
 use Rattle.sgb_groups.proofs.Outward.{front_size, front_first, front_others, back_size, back_first, back_others}
 use Rattle.sgb_groups.proofs.searching.SearchGroupEnd.group_len.Goals as goal
 

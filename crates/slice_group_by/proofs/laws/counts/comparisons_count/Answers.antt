@@ -1,7 +1,7 @@
 use Rattle.std.proofs.Common.{length, refl, arith}
 use Rattle.std.proofs.Math.Nat.{mul-le-mul_left}
 use Rattle.std.specs.Fn.{TakesAt, CalledAt}
-use Rattle.slice_group_by.proofs.Counting.{counts_most}
+use Rattle.slice_group_by.proofs.Questions.Counting.{counts_most}
 use Rattle.slice_group_by.proofs.laws.counts.comparisons_count.Goals as goal
 
 pub returns : goal.returns

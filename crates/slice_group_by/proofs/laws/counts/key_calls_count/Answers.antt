@@ -2,7 +2,7 @@ use Rattle.std.proofs.Common.{length, refl, arith}
 use Rattle.std.proofs.Math.Nat.{mul-le-mul_left}
 use Rattle.std.specs.Fn.{TakesAt}
 use Rattle.sgb_search.specs.Search.{ComparesKey}
-use Rattle.slice_group_by.proofs.Counting.{counts_most}
+use Rattle.slice_group_by.proofs.Questions.Counting.{counts_most}
 use Rattle.slice_group_by.proofs.laws.counts.key_calls_count.Goals as goal
 
 pub returns : goal.returns

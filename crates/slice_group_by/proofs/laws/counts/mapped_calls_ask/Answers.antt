@@ -1,5 +1,5 @@
 use Rattle.std.specs.Iterator.Adapters.{map_source}
-use Rattle.slice_group_by.proofs.Counting.{yields_ask, yields_map}
+use Rattle.slice_group_by.proofs.Questions.Counting.{yields_ask, yields_map}
 use Rattle.slice_group_by.proofs.laws.counts.mapped_calls_ask.Goals as goal
 
 pub returns : goal.returns

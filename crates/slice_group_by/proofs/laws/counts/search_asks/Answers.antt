@@ -1,21 +1,24 @@
 use Rattle.std.proofs.Common.{◌≤◌, None, Some, length, refl, subst, ap, arith}
 use Rattle.std.proofs.Math.Nat.{mul-le-mul_left}
-use Rattle.sgb_search.proofs.Ends.{length-from}
-use Rattle.sgb_groups.specs.Gives.{groups_of}
-use Rattle.slice_group_by.proofs.Counting.{counts_most}
+use Rattle.sgb_search.proofs.Lists.Ends.{length-from}
+use Rattle.slice_group_by.proofs.Questions.Counting.{counts_most}
 use Rattle.slice_group_by.proofs.laws.counts.search_asks.Goals as goal
 
 pub returns-clause-asks : goal.returns-clause-asks
-returns-clause-asks g c e s t group h = (
-  length h.asked.questions,
-  (h.asked.questions, h.asked.run, refl),
-  subst (λ n. length h.asked.questions ≤ g.S.GroupSearch.cost.call n (length group.now)) (length-from e (groups_of s).remainder)
-      h.asked.most.call,
-)
+returns-clause-asks g c e s t group h =
+    let run = (g.met.G.Judged.call e s (Some group) t h).asked in (
+      length run.questions,
+      (run.questions, run.run, refl),
+      subst (λ n. length run.questions ≤ g.S.GroupSearch.cost.call n (length (g.G.Judged.shows group)))
+          (length-from e (g.G.Judged.groups s).remainder) run.most.call,
+    )
 
 pub returns-clause-counts : goal.returns-clause-counts
-returns-clause-counts g c count name each step e s t None h most few = (ap (λ q. name q.judge) h.1, ap (λ q. count q.judge) h.1)
+returns-clause-counts g c count name each step e s t None h most few =
+    let same = (g.met.G.Judged.call e s None t h).1 in
+    (ap (λ q. name q.judge) same, ap (λ q. count q.judge) same)
 returns-clause-counts g c count name each step e s t (Some group) h most few =
     let a = returns-clause-asks g c e s t group h in
-    let k = counts_most g.J.Judge.may_ask g.J.Judge.answers count name each step a.0 s.judge t.judge a.1 in
-    (k.0, omega (arith, k.1, mul-le-mul_left each a.2, few (length group.now)))
+    let k = counts_most g.J.Judge.may_ask g.J.Judge.answers count name each step a.0 (g.G.Judged.groups s).judge
+    (g.G.Judged.groups t).judge a.1 in
+    (k.0, omega (arith, k.1, mul-le-mul_left each a.2, few (length (g.G.Judged.shows group))))

@@ -1,4 +1,4 @@
-use Rattle.slice_group_by.proofs.FamiliesAgree.{queues_agree}
+use Rattle.slice_group_by.proofs.Queues.FamiliesAgree.{queues_agree}
 use Rattle.slice_group_by.proofs.laws.families.families_agree.Goals as goal
 
 pub returns : goal.returns

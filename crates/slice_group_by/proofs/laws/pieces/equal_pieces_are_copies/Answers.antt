@@ -1,4 +1,4 @@
-use Rattle.slice_group_by.proofs.PiecesOfLists.{piece_copied, pieces_copied, copied_back}
+use Rattle.slice_group_by.proofs.Pieces.PiecesOfLists.{piece_copied, pieces_copied, copied_back}
 use Rattle.slice_group_by.proofs.laws.pieces.equal_pieces_are_copies.Goals as goal
 
 pub returns-clause-one : goal.returns-clause-one

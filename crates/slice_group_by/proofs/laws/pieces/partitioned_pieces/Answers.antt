@@ -1,4 +1,4 @@
-use Rattle.slice_group_by.proofs.Partitioned.{grouped, pieces, covers, first_piece, none_passed}
+use Rattle.slice_group_by.proofs.Pieces.Partitioned.{grouped, pieces, covers, first_piece, none_passed}
 use Rattle.slice_group_by.proofs.laws.pieces.partitioned_pieces.Goals as goal
 
 pub returns-clause-grouped : goal.returns-clause-grouped

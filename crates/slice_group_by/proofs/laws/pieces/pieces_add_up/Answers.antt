@@ -1,4 +1,4 @@
-use Rattle.slice_group_by.proofs.PiecesOfLists.{lengths, sums}
+use Rattle.slice_group_by.proofs.Pieces.PiecesOfLists.{lengths, sums}
 use Rattle.slice_group_by.proofs.laws.pieces.pieces_add_up.Goals as goal
 
 pub returns-clause-lengths : goal.returns-clause-lengths

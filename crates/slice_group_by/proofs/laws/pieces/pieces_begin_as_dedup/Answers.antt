@@ -1,4 +1,4 @@
-use Rattle.slice_group_by.proofs.PiecesOfLists.{firsts, begin_as, as_many, by_keys}
+use Rattle.slice_group_by.proofs.Pieces.PiecesOfLists.{firsts, begin_as, as_many, by_keys}
 use Rattle.slice_group_by.proofs.laws.pieces.pieces_begin_as_dedup.Goals as goal
 
 pub returns-clause-firsts : goal.returns-clause-firsts

@@ -1,5 +1,5 @@
-use Rattle.slice_group_by.proofs.JoinPairs.{later_at}
-use Rattle.slice_group_by.proofs.PiecesOfLists.{piece_alike, pieces_climb, firsts_climb}
+use Rattle.slice_group_by.proofs.Joins.JoinPairs.{later_at}
+use Rattle.slice_group_by.proofs.Pieces.PiecesOfLists.{piece_alike, pieces_climb, firsts_climb}
 use Rattle.slice_group_by.proofs.laws.pieces.pieces_by_key.Goals as goal
 
 pub returns-clause-alike : goal.returns-clause-alike

@@ -1,5 +1,5 @@
 use Rattle.std.proofs.Common.{arith}
-use Rattle.slice_group_by.proofs.Adversary.{to_more, to_less, at_high}
+use Rattle.slice_group_by.proofs.Questions.Adversary.{to_more, to_less, at_high}
 use Rattle.slice_group_by.proofs.laws.plans.refute.Goals as goal
 
 pub loop-current-preserved-then-place-low : goal.loop-current-preserved-then-place-low

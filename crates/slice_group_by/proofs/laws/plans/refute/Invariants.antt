@@ -1,5 +1,5 @@
 use Rattle.std.proofs.Common.{ℕ}
-use Rattle.slice_group_by.proofs.Adversary.{Narrowed}
+use Rattle.slice_group_by.proofs.Questions.Adversary.{Narrowed}
 use Rattle.slice_group_by.proofs.laws.plans.refute.Given as goal
 
 abbrev pub invariant-loop-current : goal.invariant-loop-current

@@ -2,7 +2,7 @@ use Rattle.std.proofs.Common.{arith, take_all, rules}
 use Rattle.std.proofs.lemmas.List.{take_more, take_more_set}
 use Rattle.sgb_search.specs.declared.end.End.TheVariants.{Front}
 use Rattle.slice_group_by.specs.Walk.{IsChain}
-use Rattle.slice_group_by.proofs.Chains.{chain_push, chain_parts, chain_answers, chain_settled, chain_asks}
+use Rattle.slice_group_by.proofs.Queues.Chains.{chain_push, chain_parts, chain_answers, chain_settled, chain_asks}
 use Rattle.slice_group_by.proofs.laws.queue.walk.Goals as goal
 
 whole : (g : _) (c : goal.After-loop-i g) → IsChain g.Q.GroupQueue.gives c.args.queue.now c.args.ends.now c.loop-i.out c.loop-i.queue

@@ -2,7 +2,7 @@ use Rattle.std.proofs.Common.{◌≡◌, ℕ, ◌+◌, ◌++◌, ◌∷◌, [], 
 use Rattle.std.proofs.lemmas.List.{length-append, length-replicate}
 use Rattle.sgb_search.specs.Split.{split}
 use Rattle.sgb_search.specs.declared.end.End.TheVariants.{Front}
-use Rattle.slice_group_by.proofs.Numbered.{numbered, ranks_numbered, one_more}
+use Rattle.slice_group_by.proofs.Pieces.Ranks.{numbered, ranks_numbered, one_more}
 use Rattle.slice_group_by.proofs.laws.ranks.ranked.Goals as goal
 
 pub loop-group-init : goal.loop-group-init

@@ -4,7 +4,7 @@ use Rattle.sgb_search.specs.Linear.{IsSettled}
 use Rattle.sgb_groups.specs.Gives.{groups_of_mut}
 use Rattle.sgb_search.specs.Judges.{by_equality}
 use Rattle.slice_group_by.specs.Ranks.{ranks}
-use Rattle.slice_group_by.proofs.Numbered.{numbered}
+use Rattle.slice_group_by.proofs.Pieces.Ranks.{numbered}
 use Rattle.slice_group_by.proofs.laws.ranks.ranked.Given as goal
 
 abbrev pub invariant-loop-group : goal.invariant-loop-group

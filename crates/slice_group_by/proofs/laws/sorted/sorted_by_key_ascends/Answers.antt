@@ -1,4 +1,4 @@
-use Rattle.slice_group_by.proofs.Adjacent.{sorted_by_key, sorted_by_key_only}
+use Rattle.slice_group_by.proofs.Pieces.Adjacent.{sorted_by_key, sorted_by_key_only}
 use Rattle.slice_group_by.proofs.laws.sorted.sorted_by_key_ascends.Goals as goal
 
 pub returns-clause-ascends : goal.returns-clause-ascends

@@ -1,4 +1,4 @@
-use Rattle.slice_group_by.proofs.Adjacent.{sort_ascends, keys_of_neighbours, ascends_sorted, neighbours_of_keys}
+use Rattle.slice_group_by.proofs.Pieces.Adjacent.{sort_ascends, keys_of_neighbours, ascends_sorted, neighbours_of_keys}
 use Rattle.slice_group_by.proofs.laws.sorted.sorts_ascend.Goals as goal
 
 pub returns-clause-by_itself : goal.returns-clause-by_itself

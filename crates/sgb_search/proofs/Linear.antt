@@ -1,0 +1,4 @@
+-- Linear calls.
+pub mod LinearPairs
+pub mod LinearQueue
+pub mod Scanning

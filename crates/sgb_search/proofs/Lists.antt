@@ -1,0 +1,8 @@
+-- Lists, by their elements and places.
+pub mod AllByRecursion
+pub mod Ends
+pub mod Between
+pub mod Ranges
+pub mod Apart
+pub mod Pairs
+pub mod Order

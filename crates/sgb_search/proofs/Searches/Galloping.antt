@@ -1,0 +1,253 @@
+-- The steps of galloping.
+use Rattle.std.specs.Prelude.{◌≡◌, ℕ, ◌+◌, ◌-◌, ◌*◌, ◌<◌, ◌≤◌, List, [], ◌∷◌, ◌++◌, length, ◌⊎◌, ◌≢◌, true, false, refl, Result, Ok, Err}
+use Rattle.std.proofs.Common.{sym, ap, subst, arith, inl, inr, length-append, append_assoc, ◌∙◌, true≢false, is_lt}
+use Rattle.std.specs.List.{AllByRecursion, Contains}
+use Rattle.std.proofs.lemmas.List.Elements.{Contains-append_left, Contains-append_right, Contains-push}
+use Rattle.std.specs.declared.cmp.Ordering.{Ordering}
+use Rattle.std.specs.declared.cmp.Ordering.TheVariants.{Less, Equal, Greater}
+use Rattle.sgb_search.specs.Searching.{digits, binary, exponential, IsWithin, IsBetween, IsLowEnd, IsHighEnd, Contradicts, TellsBoundary, IsPlaceSearch, IsBracket}
+use Rattle.sgb_search.proofs.Searches.Digits.{digits_half, digits_zero, digits_mono, digits_le_self, within_galloping}
+use Rattle.sgb_search.specs.Judges.{IsRun, MayAskAll}
+use Rattle.sgb_search.proofs.Questions.Runs.{run_push, run_append, may_after}
+use Rattle.sgb_search.proofs.Lists.AllByRecursion.{all_push, all_append, all_each}
+
+module _ {S : Type 0} (may : S → ℕ → Type 0) (gives : S → ℕ → Ordering → S → Type 0) where
+  -- low was answered Less, and place is twice as far from start, or stop where that is nearer
+  pub record HasDoubled (start stop low place : ℕ) (questions : List (ℕ × Ordering)) : Type 0 where
+    pub positive : start < low
+    pub ahead : low < place
+    pub near : place + start ≤ 2 * low
+    pub within : place ≤ stop
+    pub twice : place < stop → place + start ≡ 2 * low
+    pub answered : Contains questions (low, Less)
+
+  -- after some doublings: low was the last to be answered Less, and place is next
+  pub record Doubles (start stop : ℕ) (s : S) (low place : ℕ) (t : S) : Type 0 where
+    pub questions : List (ℕ × Ordering)
+    pub run : IsRun may gives s questions t
+    pub places : AllByRecursion (λ q. IsBetween start stop q.0) questions
+    pub after : start ≤ low
+    pub most : length questions ≤ digits (low - start)
+    pub low_end : ((low ≡ start) × (place ≡ start + 1)) ⊎ HasDoubled start stop low place questions
+
+-- an answer that is below
+pub less_below : (o : Ordering) → true ≡ is_lt o → o ≡ Less
+less_below Less e = refl
+less_below Equal e = absurd (true≢false e)
+less_below Greater e = absurd (true≢false e)
+
+-- what is shown without a contradiction, as halving shows its ends
+one_way : {A B : Type 0} → A ⊎ ((false ≡ true) × B) → A
+one_way (inl a) = a
+one_way (inr never) = cc never.0
+
+pub not_less : (o : Ordering) → false ≡ is_lt o → o ≢ Less
+not_less o e f = true≢false (sym (e ∙ ap is_lt f))
+
+module _ {S : Type 0} (may : S → ℕ → Type 0) (gives : S → ℕ → Ordering → S → Type 0) (start stop : ℕ) (s : S) (up : start ≤ stop) where
+  pub doubles_start : (place : ℕ) → place ≡ start + 1 → Doubles may gives start stop s start place s
+  doubles_start place e =
+      record { questions = []; run = refl; places = tt; after = omega arith; most = omega arith; low_end = inl (refl, e) }
+
+  module _ (low place : ℕ) (t : S) (n : Doubles may gives start stop s low place t) where
+    pub doubles_low : place < stop → low < place
+    doubles_low b = elim n.low_end as (λ _. low < place) [ inl e ↦ omega (arith, e) | inr e ↦ e.ahead ]
+
+    pub doubles_may : MayAskAll may gives (IsBetween start stop) s → place < stop → may t place
+    doubles_may h b = h n.questions t n.run n.places place (omega (arith, n.after, doubles_low b), b)
+
+    twice : place < stop → digits (low - start) + 1 ≤ digits (place - start)
+    twice b = elim n.low_end as (λ _. digits (low - start) + 1 ≤ digits (place - start)) [
+      | inl e ↦ digits_half (place - start) (low - start) (omega (arith, e)) (omega (arith, e))
+      | inr e ↦ digits_half (place - start) (low - start) (omega (arith, n.after, e.ahead)) (omega (arith, n.after, e.twice b))
+    ]
+
+    -- nothing was asked where low is start
+    none : low ≡ start → length n.questions ≤ 0
+    none z = omega (arith, n.most, digits_zero, digits_mono (low - start) 0 (omega arith))
+
+    stopped_most : place < stop → length n.questions + 1 + digits (place + 1 - low) ≤ 2 * digits (low - start + 1) + 1
+    stopped_most b = elim n.low_end as (λ _. length n.questions + 1 + digits (place + 1 - low) ≤ 2 * digits (low - start + 1) + 1) [
+      | inl e ↦
+          let one : digits 0 + 1 ≤ digits (low - start + 1) = digits_half (low - start + 1) 0 (omega arith) (omega arith) in
+          let two : digits (place + 1 - low) ≤ 2 = omega (arith, e, digits_le_self (place + 1 - low)) in
+          omega (arith, none e.0)
+      | inr e ↦
+          let same : digits (place + 1 - low) ≤ digits (low - start + 1) = digits_mono _ _ (omega (arith, n.after, e.twice b)) in
+          let below : digits (low - start) ≤ digits (low - start + 1) = digits_mono _ _ (omega arith) in
+          omega (arith, n.most)
+    ]
+
+    ended_most : stop ≤ place → length n.questions + digits (stop - low) ≤ 2 * digits (low - start + 1) + 1
+    ended_most b = elim n.low_end as (λ _. length n.questions + digits (stop - low) ≤ 2 * digits (low - start + 1) + 1) [
+      | inl e ↦
+          let one : digits (stop - low) ≤ digits (low - start + 1) = digits_mono _ _ (omega (arith, e)) in
+          omega (arith, none e.0)
+      | inr e ↦
+          let same : digits (stop - low) ≤ digits (low - start + 1) = digits_mono _ _ (omega (arith, n.after, e.near)) in
+          let below : digits (low - start) ≤ digits (low - start + 1) = digits_mono _ _ (omega arith) in
+          omega (arith, n.most)
+    ]
+
+    low_known : (low ≡ start) ⊎ Contains n.questions (low, Less)
+    low_known = elim n.low_end as (λ _. (low ≡ start) ⊎ Contains n.questions (low, Less)) [ inl e ↦ inl e.0 | inr e ↦ inr e.answered ]
+
+    low_within : stop ≤ place → low ≤ stop
+    low_within b = elim n.low_end as (λ _. low ≤ stop) [ inl e ↦ omega (arith, up, e) | inr e ↦ omega (arith, e.ahead, e.within) ]
+
+    low_below : stop ≤ place → stop ≤ low → stop ≤ start
+    low_below b p = elim n.low_end as (λ _. stop ≤ start) [ inl e ↦ omega (arith, e) | inr e ↦ absurd (omega (arith, e.ahead, e.within)) ]
+
+    pub doubles_end : stop ≤ place → IsBracket may gives start stop s low stop t
+    doubles_end b = record {
+      questions = n.questions;
+      run = n.run;
+      places = n.places;
+      after = n.after;
+      order = low_within b;
+      within = omega arith;
+      nonempty = low_below b;
+      most = ended_most b;
+      low_end = low_known;
+      high_end = inl refl;
+    }
+
+    module _ (b : place < stop) (m : may t place) (u : S) where
+      pub doubles_stop : (o : Ordering) → gives t place o u → o ≢ Less → IsBracket may gives start stop s low (place + 1) u
+      doubles_stop o g ne =
+          let qs : List (ℕ × Ordering) = n.questions ++ (place, o) ∷ [] in
+          let last = Contains-push n.questions (place, o) in
+          record {
+            questions = qs;
+            run = run_push may gives s n.questions t u place o n.run m g;
+            places = all_push _ n.questions (place, o) n.places (omega (arith, n.after, doubles_low b), b);
+            after = n.after;
+            order = omega (arith, doubles_low b);
+            within = omega arith;
+            nonempty = λ p. absurd (omega (arith, doubles_low b));
+            most = omega (arith, stopped_most b, length-append n.questions ((place, o) ∷ []));
+            low_end = elim low_known as (λ _. (low ≡ start) ⊎ Contains qs (low, Less)) [
+              | inl e ↦ inl e
+              | inr e ↦ inr (Contains-append_left n.questions ((place, o) ∷ []) (low, Less) e)
+            ];
+            high_end = inr (o, subst (λ (k : ℕ). Contains qs (k, o)) {x = place} {y = place + 1 - 1} (omega arith) last, ne);
+          }
+
+      pub doubles_on : (next : ℕ) → gives t place Less u → place < next → next + start ≤ 2 * place → next ≤ stop →
+          (next < stop → next + start ≡ 2 * place)
+          → Doubles may gives start stop s place next u
+      doubles_on next g p q r e = record {
+        questions = n.questions ++ (place, Less) ∷ [];
+        run = run_push may gives s n.questions t u place Less n.run m g;
+        places = all_push _ n.questions (place, Less) n.places (omega (arith, n.after, doubles_low b), b);
+        after = omega (arith, n.after, doubles_low b);
+        most = omega (arith, n.most, twice b, length-append n.questions ((place, Less) ∷ []));
+        low_end =
+            inr (record {
+              positive = omega (arith, n.after, doubles_low b);
+              ahead = p;
+              near = q;
+              within = r;
+              twice = e;
+              answered = Contains-push n.questions (place, Less);
+            });
+      }
+
+  module _ (low high : ℕ) (t : S) (n : IsBracket may gives start stop s low high t) where
+    pub bracket_may : MayAskAll may gives (IsBetween start stop) s → MayAskAll may gives (IsBetween low high) t
+    bracket_may h =
+        may_after may gives (IsBetween start stop) (IsBetween low high)
+        (λ q b. (omega (arith, b, n.after), omega (arith, b, n.within))) s n.questions t n.run n.places h
+
+    module _ (hs : List (ℕ × Ordering)) where
+      abbrev all : List (ℕ × Ordering)
+      all = n.questions ++ hs
+
+      contradicts : (i : ℕ) (a b : Ordering) → Contains n.questions (i, a) → Contains hs (i, b) → a ≢ b → Contradicts all i
+      contradicts i a b x y ne = (a, b, Contains-append_left n.questions hs (i, a) x, Contains-append_right n.questions hs (i, b) y, ne)
+
+      Less≢Greater : Less ≢ Greater
+      Less≢Greater e = cc
+
+      before : (i : ℕ) → (low < i) × Contains hs (i - 1, Less) → IsLowEnd all start i
+      before i p = inr (omega (arith, n.after, p.0), Contains-append_right n.questions hs (i - 1, Less) p.1)
+
+      at : (i : ℕ) → (i < high) × Contains hs (i, Greater) → IsHighEnd all stop i
+      at i g = inr (omega (arith, n.within, g.0), Contains-append_right n.questions hs (i, Greater) g.1)
+
+      -- where halving ended at an end of the bracket, the answer that put it there stands against the halving's own
+      boundary : (i : ℕ) → low ≤ i → i ≤ high → (low ≡ start) ⊎ Contains n.questions (low, Less) → (high ≡ stop) ⊎
+          ((o : Ordering) × Contains n.questions (high - 1, o) × (o ≢ Less)) → IsLowEnd hs low i → IsHighEnd hs high i
+          → TellsBoundary all true start stop i
+      boundary i a b x (inl y) (inr p) (inl f) =
+          record { low_end = inl (before i p); high_end = inl (inl (omega arith)) }
+      boundary i a b x (inr k) (inr p) (inl f) =
+          let here = subst (λ (j : ℕ). Contains n.questions (j - 1, k.0)) (sym f) k.1 in
+          record { low_end = inl (before i p); high_end = inr (refl, (omega (arith, p.0), contradicts (i - 1) k.0 Less here p.1 k.2)) }
+      boundary i a b x y (inr p) (inr g) =
+          record { low_end = inl (before i p); high_end = inl (at i g) }
+      boundary i a b x y (inl e) (inl f) =
+          let z : stop ≤ start = n.nonempty (omega arith) in
+          record { low_end = inl (inl (omega (arith, z, n.after, n.order, n.within))); high_end = inl (inl (omega (arith, z, n.after, n.order, n.within))) }
+      boundary i a b (inl z) y (inl e) (inr g) =
+          record { low_end = inl (inl (omega arith)); high_end = inl (at i g) }
+      boundary i a b (inr k) y (inl e) (inr g) =
+          let here = subst (λ (j : ℕ). Contains n.questions (j, Less)) (sym e) k in
+          record { low_end = inr (refl, contradicts i Less Greater here g.1 Less≢Greater); high_end = inl (at i g) }
+
+    module _ (u : S) where
+      fits : (i m : ℕ) → low ≤ i → i ≤ stop → m ≤ digits (high - low + 1 - 1) → IsWithin exponential (stop - start + 1) (i - start + 1)
+          (length n.questions + m)
+      fits i m from upto few =
+          within_galloping (stop - start + 1) (i - start + 1) (length n.questions + m) (omega (arith, n.after)) (omega (arith, n.after))
+          (omega (
+            arith,
+            few,
+            n.most,
+            digits_mono (high - low + 1 - 1) (high - low) (omega arith),
+            digits_mono (low - start + 1) (i - start + 1)
+                (omega (arith, n.after)),
+          ))
+
+      fits_all : (i : ℕ) (hs : List (ℕ × Ordering)) → low ≤ i → i ≤ stop → length hs ≤ digits (high - low + 1 - 1) → IsWithin exponential
+          (stop - start + 1) (i - start + 1) (length (n.questions ++ hs))
+      fits_all i hs from upto few =
+          subst (IsWithin exponential (stop - start + 1) (i - start + 1)) (sym (length-append n.questions hs)) (fits i (length hs) from upto few)
+
+      places_all : (hs : List (ℕ × Ordering)) → AllByRecursion (λ q. IsBetween low high q.0) hs
+          → AllByRecursion (λ q. IsBetween start stop q.0) (n.questions ++ hs)
+      places_all hs h = all_append _ n.questions hs n.places (all_each _ _
+          (λ q b. (omega (arith, b, n.after), omega (arith, b, n.within))) hs h)
+
+      pub gallop_ends : (r : Result ℕ ℕ) → IsPlaceSearch may gives binary low high t r u
+          → IsPlaceSearch may gives exponential start stop s r u
+      gallop_ends (Ok i) h =
+          let b = h.tells.0 in
+          let f = h.tells.1 in
+          record {
+            questions = n.questions ++ h.questions;
+            run = run_append may gives s n.questions t h.questions u n.run h.run;
+            places = places_all h.questions h.places;
+            most = fits_all i h.questions b.0 (omega (arith, b, n.within)) h.most.call;
+            tells = (
+              (omega (arith, b, n.after), omega (arith, b, n.within)),
+              (
+                n.questions ++ f.0,
+                ap (λ (l : List (ℕ × Ordering)). n.questions ++ l) f.1 ∙ sym
+                    (append_assoc n.questions f.0 ((i, Equal) ∷ [])),
+              ),
+            );
+          }
+      gallop_ends (Err i) h =
+          let tells = h.tells in
+          record {
+            questions = n.questions ++ h.questions;
+            run = run_append may gives s n.questions t h.questions u n.run h.run;
+            places = places_all h.questions h.places;
+            most = fits_all i h.questions tells.0 (omega (arith, tells.1, n.within)) h.most.call;
+            tells = (
+              omega (arith, tells.0, n.after),
+              omega (arith, tells.1, n.within),
+              boundary h.questions i tells.0 tells.1 n.low_end n.high_end (one_way tells.2.low_end) (one_way tells.2.high_end),
+            );
+          }

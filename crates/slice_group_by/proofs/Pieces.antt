@@ -1,0 +1,7 @@
+-- The pieces of a split.
+pub mod Ranks
+pub mod TextParts
+pub mod WrittenPieces
+pub mod PiecesOfLists
+pub mod Partitioned
+pub mod Adjacent

@@ -1,0 +1,204 @@
+-- What the pieces of a list share with the list, and with each other.
+use Rattle.std.specs.Prelude.{◌≡◌, ℕ, ◌+◌, Bool, true, false, cond, List, [], ◌∷◌, length, get_or, map, replicate, sum_by, Some}
+use Rattle.std.proofs.Common.{refl, sym, ap, ◌∙◌, subst, length-append}
+use Rattle.std.proofs.lemmas.List.{length-map}
+use Rattle.std.proofs.lemmas.List.Sums.{sum_by-cons, sum_by-append}
+use Rattle.std.specs.List.{AllByRecursion, Contains, dedup, dedup_from}
+use Rattle.std.specs.List.Sorted.{IsStrictlySortedBy}
+use Rattle.std.specs.Cmp.{IsTotalOrder, IsPartialEquivalence, per_alike, tied_itself}
+use Rattle.std.specs.Ordering.{is_eq}
+use Rattle.std.specs.declared.cmp.Ordering.{Ordering}
+use Rattle.std.specs.declared.cmp.Ordering.TheVariants.{Less, Equal}
+use Rattle.sgb_search.specs.Search.{NeverDescends}
+use Rattle.sgb_search.specs.Split.{IsAccepted, concat, first, without_first, put_before, split}
+use Rattle.sgb_search.proofs.Lists.AllByRecursion.{all_contains}
+use Rattle.sgb_search.proofs.Lists.Order.{equal_if_tied}
+use Rattle.sgb_search.proofs.Splits.Split.{split_is}
+use Rattle.slice_group_by.proofs.Joins.FirstGroups.{IsAbove, Ascends, split_ascends}
+use Rattle.slice_group_by.proofs.Joins.JoinPairs.{EachLater, IsUniform, compared_alike, split_uniform}
+
+module _ {T : Type 0} where
+  lengths_of : (gs : List (List T)) → sum_by length gs ≡ length (concat gs)
+  lengths_of [] = refl
+  lengths_of (g ∷ gs) = sum_by-cons length g gs ∙ ap (λ n. length g + n) (lengths_of gs) ∙ sym (length-append g (concat gs))
+
+  pub lengths : (p : T → T → Bool) (xs : List T) → sum_by length (split p xs) ≡ length xs
+  lengths p xs = lengths_of (split p xs) ∙ ap length (split_is p xs).covers
+
+  sums_of : (f : T → ℕ) (gs : List (List T)) → sum_by (λ g. sum_by f g) gs ≡ sum_by f (concat gs)
+  sums_of f [] = refl
+  sums_of f (g ∷ gs) =
+      sum_by-cons (λ g. sum_by f g) g gs ∙ ap (λ n. sum_by f g + n) (sums_of f gs) ∙ sym (sum_by-append f g (concat gs))
+
+  pub sums : (p : T → T → Bool) (f : T → ℕ) (xs : List T) → sum_by (λ g. sum_by f g) (split p xs) ≡ sum_by f xs
+  sums p f xs = sums_of f (split p xs) ∙ ap (sum_by f) (split_is p xs).covers
+
+  module _ (p : T → T → Bool) (equal : (x y : T) → p x y ≡ true → x ≡ y) where
+    copied : (x : T) (xs : List T) → IsAccepted p (x ∷ xs) → x ∷ xs ≡ replicate (length (x ∷ xs)) x
+    copied x [] a = refl
+    copied x (y ∷ ys) a = ap (λ zs. x ∷ zs) (rw (equal x y a.0) (copied y ys a.1))
+
+    copies : (g : List T) (x : T) → IsAccepted p g → first g ≡ Some x → g ≡ replicate (length g) x
+    copies [] x a f = refl
+    copies (y ∷ ys) x a f = let same : y ≡ x = cc f in subst (λ z. y ∷ ys ≡ replicate (length (y ∷ ys)) z) same (copied y ys a)
+
+    pub piece_copied : (xs g : List T) (x : T) → Contains (split p xs) g → first g ≡ Some x → g ≡ replicate (length g) x
+    piece_copied xs g x c = copies g x (all_contains (IsAccepted p) (split p xs) g (split_is p xs).accepted c)
+
+    each_copied : (gs : List (List T)) → AllByRecursion (IsAccepted p) gs
+        → AllByRecursion (λ g. (x : T) → first g ≡ Some x → g ≡ replicate (length g) x) gs
+    each_copied [] a = tt
+    each_copied (g ∷ gs) a = (λ x. copies g x a.0, each_copied gs a.1)
+
+    pub pieces_copied : (xs : List T) → AllByRecursion (λ g. (x : T) → first g ≡ Some x → g ≡ replicate (length g) x) (split p xs)
+    pieces_copied xs = each_copied (split p xs) (split_is p xs).accepted
+
+    each_back : (d : T) (gs : List (List T)) → AllByRecursion (IsAccepted p) gs → map (λ g. replicate (length g) (get_or g 0 d)) gs ≡ gs
+    each_back d [] a = refl
+    each_back d ([] ∷ gs) a = ap (λ hs. [] ∷ hs) (each_back d gs a.1)
+    each_back d ((x ∷ xs) ∷ gs) a =
+        ap (λ g. g ∷ map (λ g. replicate (length g) (get_or g 0 d)) gs) (sym (copied x xs a.0))
+        ∙ ap (λ hs. (x ∷ xs) ∷ hs) (each_back d gs a.1)
+
+    pub copied_back : (d : T) (xs : List T) → map (λ g. replicate (length g) (get_or g 0 d)) (split p xs) ≡ split p xs
+    copied_back d xs = each_back d (split p xs) (split_is p xs).accepted
+
+-- a test of keys is one of the elements
+pub by_keys : {T K : Type 0} (eq : K → K → Bool) → IsPartialEquivalence eq → (key : T → K)
+    → IsPartialEquivalence (λ x y. eq (key x) (key y))
+by_keys eq per key = record {
+  symm = λ x y. per.symm (key x) (key y);
+  trans = λ x y z. per.trans (key x) (key y) (key z);
+}
+
+-- the first elements of the pieces, for a test that is symmetric and transitive
+module _ {T : Type 0} (p : T → T → Bool) (per : IsPartialEquivalence p) where
+  firsts_put : (b : Bool) (x : T) (gs : List (List T))
+      → map first (put_before p b x gs) ≡ Some x ∷ without_first (map first (put_before p b x gs))
+  firsts_put true x [] = refl
+  firsts_put true x (g ∷ gs) = refl
+  firsts_put false x gs = refl
+
+  firsts_split : (x : T) (xs : List T) → map first (split p (x ∷ xs)) ≡ Some x ∷ without_first (map first (split p (x ∷ xs)))
+  firsts_split x [] = refl
+  firsts_split x (y ∷ ys) = firsts_put (p x y) x (split p (y ∷ ys))
+
+  -- those after the first do not depend on the element that is put before the pieces
+  later_put : (b : Bool) (x y : T) (gs : List (List T))
+      → without_first (map first (put_before p b x gs)) ≡ without_first (map first (put_before p b y gs))
+  later_put true x y [] = refl
+  later_put true x y (g ∷ gs) = refl
+  later_put false x y gs = refl
+
+  later_alike : (x y : T) (zs : List T) → p x y ≡ true
+      → without_first (map first (split p (x ∷ zs))) ≡ without_first (map first (split p (y ∷ zs)))
+  later_alike x y [] e = refl
+  later_alike x y (z ∷ zs) e =
+      later_put (p x z) x y (split p (z ∷ zs))
+      ∙ ap (λ b. without_first (map first (put_before p b y (split p (z ∷ zs))))) (per_alike per x y z e)
+
+  later_joined : (x : T) (gs : List (List T)) → without_first (map first (put_before p true x gs)) ≡ without_first (map first gs)
+  later_joined x [] = refl
+  later_joined x (g ∷ gs) = refl
+
+  firsts_from : (x : T) (xs : List T) → map first (split p (x ∷ xs)) ≡ map Some (dedup_from p x xs)
+  firsts_from x [] = refl
+  firsts_from x (y ∷ ys) =
+      by (p x y) refl (firsts_from x ys) (firsts_from y ys)
+      ∙ ap (λ b. map Some (cond b (dedup_from p x ys) (x ∷ dedup_from p y ys))) (per.symm x y)
+    where
+      by : (b : Bool) → p x y ≡ b → map first (split p (x ∷ ys)) ≡ map Some (dedup_from p x ys)
+          → map first (split p (y ∷ ys)) ≡ map Some (dedup_from p y ys)
+          → map first (put_before p b x (split p (y ∷ ys))) ≡ map Some (cond b (dedup_from p x ys) (x ∷ dedup_from p y ys))
+      by true e same other =
+          firsts_put true x (split p (y ∷ ys))
+          ∙ ap (λ os. Some x ∷ os) (later_joined x (split p (y ∷ ys)) ∙ sym (later_alike x y ys e))
+          ∙ sym (firsts_split x ys) ∙ same
+      by false e same other = ap (λ os. Some x ∷ os) other
+
+  pub firsts : (xs : List T) → map first (split p xs) ≡ map Some (dedup p xs)
+  firsts [] = refl
+  firsts (x ∷ xs) = firsts_from x xs
+
+  begun : (g : List T) (x d : T) → first g ≡ Some x → get_or g 0 d ≡ x
+  begun [] x d h = cc h
+  begun (y ∷ ys) x d h = cc h
+
+  begins : (d : T) (gs : List (List T)) (ys : List T) → map first gs ≡ map Some ys → map (λ g. get_or g 0 d) gs ≡ ys
+  begins d [] [] h = refl
+  begins d [] (y ∷ ys) h = cc h
+  begins d (g ∷ gs) [] h = cc h
+  begins d (g ∷ gs) (y ∷ ys) h =
+      let head : first g ≡ Some y = cc h in
+      let tail : map first gs ≡ map Some ys = cc h in
+      ap (λ x. x ∷ map (λ g. get_or g 0 d) gs) (begun g y d head) ∙ ap (λ zs. y ∷ zs) (begins d gs ys tail)
+
+  pub begin_as : (d : T) (xs : List T) → map (λ g. get_or g 0 d) (split p xs) ≡ dedup p xs
+  begin_as d xs = begins d (split p xs) (dedup p xs) (firsts xs)
+
+  pub as_many : (xs : List T) → length (split p xs) ≡ length (dedup p xs)
+  as_many xs = sym (length-map (split p xs) first) ∙ ap length (firsts xs) ∙ length-map (dedup p xs) Some
+
+module _ {K : Type 0} (cmp : K → K → Ordering) (o : IsTotalOrder cmp) (eq : K → K → Bool)
+    (ties : (x y : K) → eq x y ≡ is_eq (cmp x y)) {T : Type 0} (key : T → K) where
+  abbrev same : T → T → Bool
+  same x y = eq (key x) (key y)
+
+  alike : (g : List T) → IsUniform cmp o eq ties key g → (x y : T) → Contains g x → Contains g y → same x y ≡ true
+  alike [] u x y c d = absurd u
+  alike (z ∷ zs) u x y c d =
+      equal_if_tied cmp eq ties (key x) (key y)
+      (compared_alike cmp o eq ties (key z) (key z) (key x) (key y) Equal (u x c) (u y d) (tied_itself o (key z)))
+
+  pub piece_alike : (xs g : List T) (x y : T) → Contains (split same xs) g → Contains g x → Contains g y → same x y ≡ true
+  piece_alike xs g x y c =
+      alike g (all_contains (IsUniform cmp o eq ties key) (split same xs) g (split_uniform cmp o eq ties key xs) c) x y
+
+  -- each element of the one piece has a lesser key than each of the other
+  abbrev pub IsBelow : List T → List T → Type 0
+  IsBelow g h = (x y : T) → Contains g x → Contains h y → cmp (key x) (key y) ≡ Less
+
+  below : (x : T) (xs : List T) (gs : List (List T)) → IsUniform cmp o eq ties key (x ∷ xs) → AllByRecursion (IsAbove cmp key (key x)) gs
+      → AllByRecursion (IsUniform cmp o eq ties key) gs → AllByRecursion (IsBelow (x ∷ xs)) gs
+  below x xs [] u a v = tt
+  below x xs ([] ∷ gs) u a v = absurd a.0
+  below x xs ((y ∷ ys) ∷ gs) u a v = (
+    λ z w c d. compared_alike cmp o eq ties (key x) (key y) (key z) (key w) Less (u z c) (v.0 w d) a.0,
+    below x xs gs u a.1 v.1,
+  )
+
+  climb : (gs : List (List T)) → AllByRecursion (IsUniform cmp o eq ties key) gs → Ascends cmp key gs → EachLater IsBelow gs
+  climb [] u a = tt
+  climb ([] ∷ gs) u a = absurd a
+  climb ((x ∷ xs) ∷ gs) u a = (below x xs gs u.0 a.0 u.1, climb gs u.1 a.1)
+
+  pub pieces_climb : (xs : List T) → NeverDescends cmp (map key xs) → EachLater IsBelow (split same xs)
+  pieces_climb xs h = climb (split same xs) (split_uniform cmp o eq ties key xs) (split_ascends cmp key o eq ties xs h)
+
+  -- the keys of the first elements ascend as the pieces do
+  heads_above : (k : K) (gs : List (List T)) (ys : List T) → map first gs ≡ map Some ys → AllByRecursion (IsAbove cmp key k) gs
+      → AllByRecursion (λ l. cmp k l ≡ Less) (map key ys)
+  heads_above k gs [] h a = tt
+  heads_above k [] (y ∷ ys) h a = absurd (cc h)
+  heads_above k ([] ∷ gs) (y ∷ ys) h a = absurd a.0
+  heads_above k ((x ∷ xs) ∷ gs) (y ∷ ys) h a =
+      let head : x ≡ y = cc h in
+      let tail : map first gs ≡ map Some ys = cc h in
+      (subst (λ z. cmp k (key z) ≡ Less) head a.0, heads_above k gs ys tail a.1)
+
+  heads_climb : (gs : List (List T)) (ys : List T) → map first gs ≡ map Some ys → Ascends cmp key gs → IsStrictlySortedBy cmp (map key ys)
+  unfolding IsStrictlySortedBy
+  heads_climb gs [] h a = tt
+  heads_climb [] (y ∷ ys) h a = absurd (cc h)
+  heads_climb ([] ∷ gs) (y ∷ ys) h a = absurd a
+  heads_climb ((x ∷ xs) ∷ gs) (y ∷ ys) h a =
+      let head : x ≡ y = cc h in
+      let tail : map first gs ≡ map Some ys = cc h in (
+        subst (λ z. AllByRecursion (λ l. cmp (key z) l ≡ Less) (map key ys)) head (heads_above (key x) gs ys tail a.0),
+        heads_climb gs ys tail a.1,
+      )
+
+  pub firsts_climb : IsPartialEquivalence eq → (xs : List T) → NeverDescends cmp (map key xs)
+      → IsStrictlySortedBy cmp (map key (dedup same xs))
+  firsts_climb per xs h =
+      heads_climb (split same xs) (dedup same xs) (firsts same (by_keys eq per key) xs) (split_ascends cmp key o eq ties xs h)

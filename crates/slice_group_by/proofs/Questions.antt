@@ -1,0 +1,4 @@
+-- Runs of questions, and when they may be asked.
+pub mod PairsAsked
+pub mod Counting
+pub mod Adversary

@@ -1,0 +1,7 @@
+-- Lists of calls on a queue of groups.
+pub mod Chains
+pub mod Yields
+pub mod GroupsToCome
+pub mod FamiliesAgree
+pub mod HandedOut
+pub mod Chunks
