@@ -39,8 +39,8 @@ impl<T, P: FnMut(&T, &T) -> bool> Judge<T> for PredicateJudge<P> {
     }
 }
 
-/// Asks for the keys: a call of the key function on the first element of a question, then one on the second, then `==` of the two keys. How
-/// often the keys are compared, and which way round, no contract can say: it is read in the body of `ask`.
+/// Asks for the keys: a call of the key function on the first element of a question, then one on the second, then `==` of the
+/// two keys. How often the keys are compared, and which way round, no contract can say: it is read in the body of `ask`.
 #[derive(Drop)]
 pub struct KeyJudge<F, K> {
     pub func: F,
@@ -96,8 +96,8 @@ impl<P: FnMut(char, char) -> bool> Judge<char> for CharPredicateJudge<P> {
     }
 }
 
-/// Asks for the keys of characters, by value: a call of the key function on the first one of a question, then one on the second, then
-/// `==` of the two keys, which is read in the body of `ask` as well.
+/// Asks for the keys of characters, by value: a call of the key function on the first one of a question, then one on the
+/// second, then `==` of the two keys, which is read in the body of `ask` as well.
 #[derive(Drop)]
 pub struct CharKeyJudge<F, K> {
     pub func: F,
