@@ -1,20 +1,16 @@
 -- From a search among places to the questions of a binary or exponential call.
-use Rattle.std.specs.Prelude.{◌≡◌, ℕ, ◌+◌, ◌-◌, ◌<◌, List, [], ◌∷◌, length, ◌⊎◌, refl, Result, Ok, Err, Some, Bool, true, false, slice_get}
-use Rattle.std.proofs.Common.{suc, sym, ap, subst, arith, ◌∙◌, inl, inr}
-use Rattle.std.specs.List.{AllByRecursion, Contains}
+use Rattle.std.specs.Prelude.{◌≡◌, ℕ, ◌+◌, ◌-◌, ◌<◌, List, length, ◌⊎◌, refl, Result, Ok, Err, Some, Bool, true, false, slice_get}
+use Rattle.std.proofs.Common.{sym, ap, subst, arith, ◌∙◌, inl, inr}
+use Rattle.std.specs.List.{AllByRecursion, AllZip, Contains}
+use Rattle.std.proofs.lemmas.Slice.Zip.{AllZip-long}
 use Rattle.std.proofs.lemmas.List.Elements.{Contains-push}
 use Rattle.std.specs.declared.cmp.Ordering.{Ordering}
 use Rattle.std.specs.declared.cmp.Ordering.TheVariants.{Equal}
 use Rattle.sgb_search.specs.declared.judge.Judge.{Ghosts}
 use Rattle.sgb_search.specs.Judges.{IsRun, MayAskAll}
 use Rattle.sgb_search.specs.Searching.{SearchCost, IsWithin, IsOutward, IsAskedAt, ContradictsAt, IsInner, IsBeyond, EndsBy, SearchRun, IsLowEnd, IsHighEnd, Contradicts, Tells, TellsBoundary, place_of, IsPlaceSearch, as_ordering, IsBetween}
-use Rattle.sgb_search.proofs.Lists.AllByRecursion.{all_contains, all_each}
-
-contains_head : {X : Type 0} (x : X) (xs : List X) → Contains (x ∷ xs) x
-contains_head x xs = (0, omega arith, refl)
-
-contains_tail : {X : Type 0} (y : X) (xs : List X) (x : X) → Contains xs x → Contains (y ∷ xs) x
-contains_tail y xs x c = (suc c.0, omega (arith, c.1), c.2)
+use Rattle.sgb_search.proofs.Lists.AllByRecursion.{all_each, all_when}
+use Rattle.sgb_search.proofs.Questions.Translated.{translated_run, is_beside, beside_is}
 
 same_answer : (a b : Bool) → as_ordering a ≡ as_ordering b → a ≡ b
 same_answer true true e = refl
@@ -51,74 +47,45 @@ module _ {J T : Type 0} (judge : Ghosts J T) (xs : List T) (base : ℕ) where
     answer : r.1 ≡ as_ordering q.1
 
   abbrev IsLike : List (ℕ × Ordering) → List ((T × T) × Bool) → Type 0
-  IsLike [] [] = Unit {0}
-  IsLike [] (q ∷ qs) = ⊥
-  IsLike (r ∷ rs) [] = ⊥
-  IsLike (r ∷ rs) (q ∷ qs) = IsLikeOne r q × IsLike rs qs
+  IsLike rs qs = AllZip IsLikeOne rs qs
 
   judged : (j : J) (rs : List (ℕ × Ordering)) (k : J) → IsRun may_at answered_at j rs k → (qs : List ((T × T) × Bool))
-      × IsRun judge.may_ask judge.answers j qs k × IsLike rs qs
-  judged j [] k h = ([], h, tt)
-  judged j (r ∷ rs) k h =
-      let rest = judged h.1.0 rs k h.1.2 in
-      let a = h.1.1 in (
-        ((a.outermost, a.other), a.accepted) ∷ rest.0,
-        (h.0.1 a.outermost a.other a.outermost_at a.other_at, (h.1.0, a.answered, rest.1)),
-        (record { outer = a.outermost_at; other = a.other_at; answer = a.ordering }, rest.2),
-      )
-
-  like_length : (rs : List (ℕ × Ordering)) (qs : List ((T × T) × Bool)) → IsLike rs qs → length qs ≡ length rs
-  like_length [] [] h = refl
-  like_length [] (q ∷ qs) h = absurd h
-  like_length (r ∷ rs) [] h = absurd h
-  like_length (r ∷ rs) (q ∷ qs) h = ap suc (like_length rs qs h.1)
+      × IsLike rs qs × IsRun judge.may_ask judge.answers j qs k
+  judged j rs k h =
+      translated_run may_at answered_at judge.may_ask judge.answers IsLikeOne (λ s i o t m a. (
+        ((a.outermost, a.other), a.accepted),
+        m.1 a.outermost a.other a.outermost_at a.other_at,
+        a.answered,
+        record { outer = a.outermost_at; other = a.other_at; answer = a.ordering },
+      )) j rs k h
 
   like_outward : (rs : List (ℕ × Ordering)) (qs : List ((T × T) × Bool)) → IsLike rs qs → AllByRecursion (λ q. IsOutward xs q.0) qs
-  like_outward [] [] h = tt
-  like_outward [] (q ∷ qs) h = absurd h
-  like_outward (r ∷ rs) [] h = absurd h
-  like_outward (r ∷ rs) (q ∷ qs) h = (
-    record { outermost_at = h.0.outer; place = r.0 - base + 1; apart = omega arith; other_at = h.0.other },
-    like_outward rs qs h.1,
-  )
-
-  asked_later : (q : (T × T) × Bool) (qs : List ((T × T) × Bool)) (i : ℕ) (b : Bool) → IsAskedAt xs qs i b → IsAskedAt xs (q ∷ qs) i b
-  asked_later q qs i b a = record {
-    outermost = a.outermost;
-    other = a.other;
-    outermost_at = a.outermost_at;
-    other_at = a.other_at;
-    asked = contains_tail q qs ((a.outermost, a.other), b) a.asked;
-  }
+  like_outward rs qs h = all_when _ qs (λ q c. let r = beside_is IsLikeOne q rs qs h c in
+      record { outermost_at = r.1.outer; place = r.0.0 - base + 1; apart = omega arith; other_at = r.1.other })
 
   -- a place's record is a question that was asked
-  like_asked : (rs : List (ℕ × Ordering)) (qs : List ((T × T) × Bool)) → IsLike rs qs → AllByRecursion
-      (λ r. (b : Bool) × (r.1 ≡ as_ordering b) × IsAskedAt xs qs (r.0 - base + 1) b) rs
-  like_asked [] [] h = tt
-  like_asked [] (q ∷ qs) h = absurd h
-  like_asked (r ∷ rs) [] h = absurd h
-  like_asked (r ∷ rs) (q ∷ qs) h = (
-    (
-      q.1,
-      h.0.answer,
-      record { outermost = q.0.0; other = q.0.1; outermost_at = h.0.outer; other_at = h.0.other; asked = contains_head q qs },
-    ),
-    all_each _ _ (λ w a. (a.0, a.1, asked_later q qs (w.0 - base + 1) a.0 a.2)) rs (like_asked rs qs h.1),
-  )
+  like_asked : (rs : List (ℕ × Ordering)) (qs : List ((T × T) × Bool)) → IsLike rs qs → (i : ℕ) (o : Ordering) → Contains rs (i, o)
+      → (b : Bool) × (o ≡ as_ordering b) × IsAskedAt xs qs (i - base + 1) b
+  like_asked rs qs h i o c =
+      let q = is_beside IsLikeOne (i, o) rs qs h c in (
+        q.0.1,
+        q.1.answer,
+        record { outermost = q.0.0.0; other = q.0.0.1; outermost_at = q.1.outer; other_at = q.1.other; asked = q.2 },
+      )
 
   module _ (rs : List (ℕ × Ordering)) (qs : List ((T × T) × Bool)) (like : IsLike rs qs) where
     asked_at : (i : ℕ) (b : Bool) → Contains rs (i, as_ordering b) → IsAskedAt xs qs (i - base + 1) b
     asked_at i b c =
-        let a = all_contains _ rs (i, as_ordering b) (like_asked rs qs like) c in
+        let a = like_asked rs qs like i (as_ordering b) c in
         subst (λ (v : Bool). IsAskedAt xs qs (i - base + 1) v) (same_answer a.0 b (sym a.1)) a.2
 
     never_equal : (i : ℕ) → Contains rs (i, Equal) → ⊥
-    never_equal i c = let a = all_contains _ rs (i, Equal) (like_asked rs qs like) c in never_equal_ordering a.0 a.1
+    never_equal i c = let a = like_asked rs qs like i Equal c in never_equal_ordering a.0 a.1
 
     both_ways : (i : ℕ) → Contradicts rs i → ContradictsAt xs qs (i - base + 1)
     both_ways i (one, other, first, second, apart) =
-        let a = all_contains _ rs (i, one) (like_asked rs qs like) first in
-        let b = all_contains _ rs (i, other) (like_asked rs qs like) second in
+        let a = like_asked rs qs like i one first in
+        let b = like_asked rs qs like i other second in
         by a.0 b.0 a.2 b.2 (λ e. apart (a.1 ∙ ap as_ordering e ∙ sym b.1))
       where
         by : (v w : Bool) → IsAskedAt xs qs (i - base + 1) v → IsAskedAt xs qs (i - base + 1) w → (v ≡ w → ⊥)
@@ -176,10 +143,10 @@ module _ {J T : Type 0} (judge : Ghosts J T) (xs : List T) (base : ℕ) where
       let q = judged j h.questions k h.run in
       record {
         questions = q.0;
-        run = q.1;
-        outward = like_outward h.questions q.0 q.2;
-        most = within_same cost _ _ _ _ _ _ (omega (arith, n)) (omega arith) (sym (like_length h.questions q.0 q.2)) h.most;
-        ends = ends_by h.questions q.0 q.2 cost.may_contradict high r n h.tells;
+        run = q.2;
+        outward = like_outward h.questions q.0 q.1;
+        most = within_same cost _ _ _ _ _ _ (omega (arith, n)) (omega arith) (sym (AllZip-long IsLikeOne h.questions q.0 q.1)) h.most;
+        ends = ends_by h.questions q.0 q.1 cost.may_contradict high r n h.tells;
       }
 
   place_is : (r : Result ℕ ℕ) (i : ℕ) → (r ≡ Ok i) ⊎ (r ≡ Err i) → place_of r ≡ i
@@ -200,6 +167,6 @@ module _ {J T : Type 0} (judge : Ghosts J T) (xs : List T) (base : ℕ) where
     may_places high j n h rs k run all i b =
         let q = judged j rs k run in (
           omega (arith, b),
-          λ x y ex ey. h q.0 k q.1 (all_each _ _ (λ r. sub r.0) q.0 (like_outward rs q.0 q.2)) (x, y)
+          λ x y ex ey. h q.0 k q.2 (all_each _ _ (λ r. sub r.0) q.0 (like_outward rs q.0 q.1)) (x, y)
               (sub (x, y) (record { outermost_at = ex; place = i - base + 1; apart = omega arith; other_at = ey })),
         )

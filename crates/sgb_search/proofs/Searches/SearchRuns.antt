@@ -2,8 +2,9 @@
 use Rattle.std.specs.Prelude.{◌≡◌, ℕ, ◌+◌, ◌-◌, ◌<◌, ◌≤◌, List, [], ◌∷◌, ◌++◌, length, ◌⊎◌, true, refl, Result, Ok, Err, Some}
 use Rattle.std.specs.List.Sorted.{IsBinarySearchResult, IsNonDecreasingBy, IsPartitionPoint}
 use Rattle.std.specs.Ordering.{ordering_index}
-use Rattle.std.proofs.Common.{get_or, zero, suc, sym, ap, subst, arith, ◌∙◌, inl, inr}
-use Rattle.std.specs.List.{AllByRecursion, Contains, slice_get, slice_index_or}
+use Rattle.std.proofs.Common.{get_or, sym, ap, subst, arith, ◌∙◌, inl, inr}
+use Rattle.std.specs.List.{AllByRecursion, AllZip, Contains, slice_get}
+use Rattle.std.proofs.lemmas.Slice.Zip.{AllZip-long}
 use Rattle.std.proofs.lemmas.List.Elements.{Contains-push}
 use Rattle.std.proofs.lemmas.Option.{slice_get_within, get_or_from_slice_get}
 use Rattle.std.specs.Fn.{Mut, TakesAt, CalledAt}
@@ -13,8 +14,9 @@ use Rattle.std.specs.declared.cmp.Ordering.TheVariants.{Less, Equal, Greater}
 use Rattle.sgb_search.specs.Judges.{IsRun, MayAskAll, AnswersBy}
 use Rattle.sgb_search.specs.Searching.{exponential, Contradicts, Tells, place_of, IsPlaceSearch, IsLowEnd, IsHighEnd, IsBetween}
 use Rattle.sgb_search.specs.Search.{AnswersAt, IsLocalAnswer, FindsIn, IsLessEqualGreater, MayCall, Computes, ComparesKey, WasAnswered, WasContradicted, ShowsAnswer, IsSearch}
-use Rattle.sgb_search.proofs.Lists.AllByRecursion.{all_contains}
+use Rattle.sgb_search.proofs.Lists.AllByRecursion.{all_contains, all_when}
 use Rattle.sgb_search.proofs.Questions.Runs.{may_after, answers_after}
+use Rattle.sgb_search.proofs.Questions.Translated.{translated_run, is_beside, beside_is, last_beside}
 use Rattle.sgb_search.proofs.Searches.PartitionPoint.{less_count}
 use Rattle.sgb_search.proofs.Searches.Digits.{digits_mono}
 
@@ -22,65 +24,38 @@ module _ {T : Type 0} (xs : List T) where
   pub contains_at : (i : ℕ) (x : T) → slice_get xs i ≡ Some x → Contains xs x
   contains_at i x e = (i, slice_get_within xs i x e, get_or_from_slice_get xs i x x e)
 
+  -- the question about an element is that about its place, and was answered so
+  abbrev pub ReadsOne : ℕ × Ordering → T × Ordering → Type 0
+  ReadsOne r q = (slice_get xs r.0 ≡ Some q.0) × (r.1 ≡ q.1)
+
   -- the records of qs are those of rs, with the elements in place of the places
   abbrev pub IsRead : List (ℕ × Ordering) → List (T × Ordering) → Type 0
-  IsRead [] [] = Unit {0}
-  IsRead [] (q ∷ qs) = ⊥
-  IsRead (r ∷ rs) [] = ⊥
-  IsRead (r ∷ rs) (q ∷ qs) = (slice_get xs r.0 ≡ Some q.0) × (r.1 ≡ q.1) × IsRead rs qs
+  IsRead rs qs = AllZip ReadsOne rs qs
 
   pub read_len : (rs : List (ℕ × Ordering)) (qs : List (T × Ordering)) → IsRead rs qs → length qs ≡ length rs
-  read_len [] [] h = refl
-  read_len [] (q ∷ qs) h = absurd h
-  read_len (r ∷ rs) [] h = absurd h
-  read_len (r ∷ rs) (q ∷ qs) h = ap suc (read_len rs qs h.2)
+  read_len rs qs h = AllZip-long ReadsOne rs qs h
 
   pub read_elements : (rs : List (ℕ × Ordering)) (qs : List (T × Ordering)) → IsRead rs qs → AllByRecursion (λ q. Contains xs q.0) qs
-  read_elements [] [] h = tt
-  read_elements [] (q ∷ qs) h = absurd h
-  read_elements (r ∷ rs) [] h = absurd h
-  read_elements (r ∷ rs) (q ∷ qs) h = (contains_at r.0 q.0 h.0, read_elements rs qs h.2)
-
-  -- an answer that was given at place i, of those that ord gives
-  pub read_answer : (ord : T → Ordering) (rs : List (ℕ × Ordering)) (qs : List (T × Ordering)) → IsRead rs qs → AllByRecursion
-      (λ q. q.1 ≡ ord q.0) qs → AllByRecursion (λ r. AnswersAt ord xs r.0 r.1) rs
-  read_answer ord [] [] h k = tt
-  read_answer ord [] (q ∷ qs) h k = absurd h
-  read_answer ord (r ∷ rs) [] h k = absurd h
-  read_answer ord (r ∷ rs) (q ∷ qs) h k = ((q.0, h.0, sym k.0 ∙ sym h.1), read_answer ord rs qs h.2 k.1)
-
-  pub read_last : (front : List (ℕ × Ordering)) (i : ℕ) (o : Ordering) (qs : List (T × Ordering)) → IsRead (front ++ (i, o) ∷ []) qs
-      → (front' : List (T × Ordering)) × (x : T) × (slice_get xs i ≡ Some x) × (qs ≡ front' ++ (x, o) ∷ [])
-  read_last [] i o [] h = absurd h
-  read_last [] i o (q ∷ []) h = ([], q.0, h.0, ap (λ (p : Ordering). (q.0, p) ∷ []) (sym h.1))
-  read_last [] i o (q ∷ p ∷ qs) h = absurd h.2
-  read_last (r ∷ front) i o [] h = absurd h
-  read_last (r ∷ front) i o (q ∷ qs) h =
-      let k = read_last front i o qs h.2 in (q ∷ k.0, k.1, k.2, ap (λ (l : List (T × Ordering)). q ∷ l) k.3)
+  read_elements rs qs h = all_when _ qs (λ q c. let r = beside_is ReadsOne q rs qs h c in contains_at r.0.0 q.0 r.1.0)
 
   -- what was answered at a place was answered of the element there
   pub read_asked : (i : ℕ) (o : Ordering) (rs : List (ℕ × Ordering)) (qs : List (T × Ordering)) → IsRead rs qs → Contains rs (i, o)
       → WasAnswered xs qs i o
-  read_asked i o [] qs h c = absurd (omega (arith, c.1))
-  read_asked i o (r ∷ rs) [] h c = absurd h
-  read_asked i o (r ∷ rs) (q ∷ qs) h (k, l, e) = at k l e (λ m b f. read_asked i o rs qs h.2 (m, b, f))
-    where
-      later : WasAnswered xs qs i o → WasAnswered xs (q ∷ qs) i o
-      later (x, e, (k, l, f)) = (x, e, (suc k, omega (arith, l), f))
+  read_asked i o rs qs h c =
+      let q = is_beside ReadsOne (i, o) rs qs h c in
+      (q.0.0, q.1.0, subst (λ p. Contains qs (q.0.0, p)) (sym q.1.1) q.2)
 
-      at : (k : ℕ) → k < length (r ∷ rs) → slice_index_or (r ∷ rs) k (i, o) ≡ (i, o)
-          → ((m : ℕ) → m < length rs → slice_index_or rs m (i, o) ≡ (i, o) → WasAnswered xs qs i o) → WasAnswered xs (q ∷ qs) i o
-      at zero l e f =
-          let here : slice_get xs i ≡ Some q.0 = subst (λ (p : ℕ × Ordering). slice_get xs p.0 ≡ Some q.0) e h.0 in
-          let answer : q.1 ≡ o = sym h.1 ∙ ap (λ (p : ℕ × Ordering). p.1) e in
-          (q.0, here, (0, omega arith, ap (λ (p : Ordering). (q.0, p)) answer))
-      at (suc k) l e f = later (f k (omega (arith, l)) e)
+  -- the same of an answer that ord gives
+  pub read_answer : (ord : T → Ordering) (rs : List (ℕ × Ordering)) (qs : List (T × Ordering)) → IsRead rs qs
+      → AllByRecursion (λ q. q.1 ≡ ord q.0) qs → (i : ℕ) (o : Ordering) → Contains rs (i, o) → AnswersAt ord xs i o
+  read_answer ord rs qs h k i o c =
+      let q = read_asked i o rs qs h c in (q.0, q.1, sym (all_contains _ qs (q.0, o) k q.2))
 
-  pub one_answer : (ord : T → Ordering) (rs : List (ℕ × Ordering)) → AllByRecursion (λ r. AnswersAt ord xs r.0 r.1) rs → (i : ℕ)
-      → Contradicts rs i → ⊥
+  pub one_answer : (ord : T → Ordering) (rs : List (ℕ × Ordering)) → ((i : ℕ) (o : Ordering) → Contains rs (i, o) → AnswersAt ord xs i o)
+      → (i : ℕ) → Contradicts rs i → ⊥
   one_answer ord rs h i (one, other, first, second, apart) =
-      let a = all_contains _ rs (i, one) h first in
-      let b = all_contains _ rs (i, other) h second in
+      let a = h i one first in
+      let b = h i other second in
       let same : a.0 ≡ b.0 = sym (get_or_from_slice_get xs i a.0 a.0 a.1) ∙ get_or_from_slice_get xs i b.0 a.0 b.1 in
       apart (sym a.2 ∙ ap ord same ∙ b.2)
 
@@ -152,18 +127,15 @@ module _ {F T : Type 0} (may : F → T → Type 0) (gives : F → T → Ordering
 
   pub read_run : (f : F) (rs : List (ℕ × Ordering)) (t : F) → IsRun may_at called_at f rs t → (qs : List (T × Ordering)) × IsRead xs rs qs
       × IsRun may gives f qs t
-  read_run f [] t h = ([], tt, h)
-  read_run f (r ∷ rs) t h =
-      let rest = read_run h.1.0 rs t h.1.2 in
-      let c = h.1.1 in
-      ((c.0, r.1) ∷ rest.0, (c.1, refl, rest.1), (h.0.1 c.0 c.1, (h.1.0, c.2, rest.2)))
+  read_run f rs t h =
+      translated_run may_at called_at may gives (ReadsOne xs) (λ s i o u m c. ((c.0, o), m.1 c.0 c.1, c.2, (c.1, refl))) f rs t h
 
   pub may_places : (f : F) → MayAskAll may gives (Contains xs) f → MayAskAll may_at called_at (IsBetween 0 (length xs)) f
   may_places f h rs t run all i b =
       (b.1, λ x e. let q = read_run f rs t run in h q.0 t q.2 (read_elements xs rs q.0 q.1) x (contains_at xs i x e))
 
   answers : (ord : T → Ordering) (f : F) → AnswersBy may gives (Contains xs) ord f → (rs : List (ℕ × Ordering)) (t : F)
-      → IsRun may_at called_at f rs t → AllByRecursion (λ r. AnswersAt ord xs r.0 r.1) rs
+      → IsRun may_at called_at f rs t → (i : ℕ) (o : Ordering) → Contains rs (i, o) → AnswersAt ord xs i o
   answers ord f h rs t run = let q = read_run f rs t run in read_answer xs ord rs q.0 q.1 (h.at q.0 t q.2 (read_elements xs rs q.0 q.1))
 
   pub search_run : (f : F) (r : Result ℕ ℕ) (t : F) → IsPlaceSearch may_at called_at exponential 0 (length xs) f r t
@@ -203,32 +175,34 @@ module _ {F T : Type 0} (may : F → T → Type 0) (gives : F → T → Ordering
 
       shows : (r : Result ℕ ℕ) (qs : List (T × Ordering)) → Tells h.questions true 0 (length xs) r → IsRead xs h.questions qs
           → ShowsAnswer xs qs r
-      shows (Ok i) qs p read = read_last xs p.1.0 i Equal qs (subst (λ (l : List (ℕ × Ordering)). IsRead xs l qs) p.1.1 read)
+      shows (Ok i) qs p read =
+          let k = last_beside (ReadsOne xs) p.1.0 (i, Equal) qs (subst (λ (l : List (ℕ × Ordering)). IsRead xs l qs) p.1.1 read) in
+          (k.0, k.1.0, k.2.0, k.3 ∙ ap (λ o. k.0 ++ (k.1.0, o) ∷ []) (sym k.2.1))
       shows (Err i) qs (a, b, ends) read = (low i qs read ends.low_end, high i qs read ends.high_end)
 
   pub search_boundary : (f : F) (r : Result ℕ ℕ) (t : F) → IsPlaceSearch may_at called_at exponential 0 (length xs) f r t →
       (ord : T → Ordering) → AnswersBy may gives (Contains xs) ord f → IsLocalAnswer ord xs r
   search_boundary f r t h ord by = told r h.tells
     where
-      all : AllByRecursion (λ r. AnswersAt ord xs r.0 r.1) h.questions
+      all : (i : ℕ) (o : Ordering) → Contains h.questions (i, o) → AnswersAt ord xs i o
       all = answers ord f by h.questions t h.run
 
       low : (i : ℕ) → IsLowEnd h.questions 0 i ⊎ ((true ≡ true) × Contradicts h.questions i)
           → (i ≡ 0) ⊎ ((0 < i) × AnswersAt ord xs (i - 1) Less)
       low i (inl (inl e)) = inl e
-      low i (inl (inr p)) = inr (p.0, all_contains _ h.questions (i - 1, Less) all p.1)
+      low i (inl (inr p)) = inr (p.0, all (i - 1) Less p.1)
       low i (inr two) = absurd (one_answer xs ord h.questions all i two.1)
 
       high : (i : ℕ) → IsHighEnd h.questions (length xs) i ⊎ ((true ≡ true) × ((0 < i) × Contradicts h.questions (i - 1)))
           → (i ≡ length xs) ⊎ AnswersAt ord xs i Greater
       high i (inl (inl e)) = inl e
-      high i (inl (inr p)) = inr (all_contains _ h.questions (i, Greater) all p.1)
+      high i (inl (inr p)) = inr (all i Greater p.1)
       high i (inr two) = absurd (one_answer xs ord h.questions all (i - 1) two.1.1)
 
       told : (r : Result ℕ ℕ) → Tells h.questions true 0 (length xs) r → IsLocalAnswer ord xs r
       told (Ok i) p =
           let here = subst (λ (l : List (ℕ × Ordering)). Contains l (i, Equal)) (sym p.1.1) (Contains-push p.1.0 (i, Equal)) in
-          all_contains _ h.questions (i, Equal) all here
+          all i Equal here
       told (Err i) (a, b, ends) = (low i ends.low_end, high i ends.high_end)
 
   -- what may be asked before a search may be asked after it, and is answered the same
@@ -243,15 +217,22 @@ module _ {F T : Type 0} (may : F → T → Type 0) (gives : F → T → Ordering
 
 -- a key function's run, seen as one of comparisons
 module _ {F T K : Type 0} (g : Mut F (Bor T × Unit {0}) K) (cmp : K → K → Ordering) (b : K) (xs : List T) where
-  key_run : (f : F) (qs : List (T × Ordering)) (t : F) → IsRun (TakesAt g) (ComparesKey g cmp b) f qs t → AllByRecursion
-      (λ q. Contains xs q.0) qs
+  -- the key behind an answer
+  abbrev Compared : T × Ordering → T × K → Type 0
+  Compared q k = (q.0 ≡ k.0) × (q.1 ≡ cmp k.1 b)
+
+  key_run : (f : F) (qs : List (T × Ordering)) (t : F) → IsRun (TakesAt g) (ComparesKey g cmp b) f qs t
+      → AllByRecursion (λ q. Contains xs q.0) qs
       → (ks : List (T × K)) × IsRun (TakesAt g) (CalledAt g) f ks t × AllByRecursion (λ k. Contains xs k.0) ks
       × ((key : T → K) → AllByRecursion (λ k. k.1 ≡ key k.0) ks → AllByRecursion (λ q. q.1 ≡ cmp (key q.0) b) qs)
-  key_run f [] t h all = ([], h, tt, λ key a. tt)
-  key_run f (q ∷ qs) t h all =
-      let rest = key_run h.1.0 qs t h.1.2 all.1 in
-      let c = h.1.1 in
-      ((q.0, c.0) ∷ rest.0, (h.0, (h.1.0, c.1, rest.1)), (all.0, rest.2), λ key a. (sym c.2 ∙ ap (λ (k : K). cmp k b) a.0, rest.3 key a.1))
+  key_run f qs t h all =
+      let k = translated_run _ _ (TakesAt g) (CalledAt g) Compared (λ s x o u m c. ((x, c.0), m, c.1, (refl, sym c.2))) f qs t h in (
+        k.0,
+        k.2,
+        all_when _ k.0 (λ r c. let q = beside_is Compared r qs k.0 k.1 c in subst (Contains xs) q.1.0 (all_contains _ qs q.0 all q.2)),
+        λ key a. all_when _ qs (λ q c. let r = is_beside Compared q qs k.0 k.1 c in
+        r.1.1 ∙ ap (λ (v : K). cmp v b) (all_contains _ k.0 r.0 a r.2) ∙ ap (λ x. cmp (key x) b) (sym r.1.0)),
+      )
 
   pub key_may : (f : F) → MayCall g xs f → MayAskAll (TakesAt g) (ComparesKey g cmp b) (Contains xs) f
   key_may f h qs t run all x at = let k = key_run f qs t run all in h k.0 t k.1 k.2 x at
