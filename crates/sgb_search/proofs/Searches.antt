@@ -3,6 +3,7 @@ pub mod Digits
 pub mod Halving
 pub mod Galloping
 pub mod SearchRuns
+pub mod Sides
 pub mod GroupSearches
 pub mod PlaceRuns
 pub mod SearchQueue

@@ -4,3 +4,4 @@ pub mod Calls
 pub mod Linear
 pub mod Searching
 pub mod Search
+pub mod Ranges

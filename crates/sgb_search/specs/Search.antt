@@ -88,6 +88,10 @@ module _ {F T K : Type 0} (g : Mut F (Bor T × Unit {0}) K) (xs : List T) where
   abbrev pub Computes : (T → K) → F → Type 0
   Computes h f = AnswersBy (TakesAt g) (CalledAt g) (Contains xs) h f
 
+-- a call of the function on x, whose answer is read as how x stands to what is sought
+abbrev pub CalledAs : {F T K : Type 0} → Mut F (Bor T × Unit {0}) K → (K → Ordering) → F → T → Ordering → F → Type 0
+CalledAs {F} {T} {K} g reads f x o h = (k : K) × CalledAt g f x k h × (reads k ≡ o)
+
 -- a call of the key function on x, and its key compared with b
 abbrev pub ComparesKey : {F T K : Type 0} → Mut F (Bor T × Unit {0}) K → (K → K → Ordering) → K → F → T → Ordering → F → Type 0
-ComparesKey {F} {T} {K} g cmp b f x o h = (k : K) × CalledAt g f x k h × (cmp k b ≡ o)
+ComparesKey g cmp b = CalledAs g (λ k. cmp k b)

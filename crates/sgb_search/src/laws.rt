@@ -2,12 +2,13 @@
 ghost use Rattle.std.specs.Prelude.{◌≡◌, ℕ, ◌+◌, ◌-◌, ◌^◌, ◌<◌, ◌≤◌, ◌++◌, Bool, List, Some, length, map, take, drop, nat_lt};
 ghost use Rattle.sgb_search.specs.Calls.{ComputesBy, IsCallableBy};
 ghost use Rattle.std.specs.Fn.{ComputesKey, TakesAt, TakesAtTwo, Called, CalledAtTwo};
-ghost use Rattle.std.specs.List.{AllByRecursion, Contains, slice_get};
-ghost use Rattle.std.specs.Ordering.{flip_args};
+ghost use Rattle.std.specs.List.{AllByRecursion, Contains, slice_get, count_by};
+ghost use Rattle.std.specs.Ordering.{flip_args, is_lt, is_eq};
 ghost use Rattle.std.specs.declared.cmp.Ordering.{Ordering};
 ghost use Rattle.std.specs.declared.cmp.Ordering.TheVariants.{Less, Greater};
 ghost use Rattle.sgb_search.specs.declared.end.End.{End};
 ghost use Rattle.sgb_search.specs.Searching.{digits};
+ghost use Rattle.sgb_search.specs.Ranges.{AsksRange};
 ghost use Rattle.sgb_search.specs.Split.{AreApart, neighbours, AreNeighbours, IsGrouped, IsSplit, concat, first, split, refused_pairs};
 ghost use Rattle.sgb_search.specs.Search.{MayCall, Computes, IsGap, IsLessEqualGreater, NeverDescends};
 ghost use Rattle.sgb_search.specs.Linear.{questions};
@@ -184,7 +185,7 @@ pub fn ascending_is_grouped<T, K: Ord>()
     ensures by_itself { (xs : List K) → NeverDescends K.cmp xs → IsGrouped K.eq xs }
 {}
 
-/// So is one that descends.
+/// A list that descends by a key is grouped for equality of that key, and one that descends for equality of its elements.
 pub fn descending_is_grouped<T, K: Ord>()
     ensures by_key { (key : T → K) (xs : List T) → NeverDescends (flip_args K.cmp) (map key xs)
         → IsGrouped (λ x y. K.eq (key x) (key y)) xs }
@@ -192,7 +193,7 @@ pub fn descending_is_grouped<T, K: Ord>()
 {}
 
 /// Of a list that ascends by a key, comparing the keys with any other answers `Less`, then `Equal`, then `Greater`: so a search
-/// for that key finds what is there. The same of one that ascends by itself.
+/// for that key finds what is there. So it is with elements that ascend by themselves.
 pub fn ascending_is_searchable<T, K: Ord>()
     ensures by_key { (key : T → K) (sought : K) (xs : List T) → NeverDescends K.cmp (map key xs)
         → IsLessEqualGreater (λ x. K.cmp (key x) sought) xs }
@@ -227,4 +228,13 @@ pub fn gap_parts<T>()
         → AllByRecursion (λ x. ord x ≡ Less) (take i xs) }
     ensures after { (ord : T → Ordering) (xs : List T) (i : ℕ) → IsGap ord xs i
         → AllByRecursion (λ x. ord x ≡ Greater) (drop i xs) }
+{}
+
+/// Of a slice of which a function's answers read as `Less`, then `Equal`, then `Greater`, the elements that a search for the range
+/// of the equal ones passes over are those that are `Less`.
+pub fn range_starts<T, K, F: FnMut(&T) -> K>(_f: &F)
+    ensures { (read : K → Ordering) (answer : T → K) (xs equals : List T) (f t : F) → Computes F.FnMut xs answer f
+        → IsLessEqualGreater (λ x. read (answer x)) xs
+        → (a : AsksRange F.FnMut (λ k. is_lt (read k)) (λ k. is_eq (read k)) xs f equals t)
+        → length a.before ≡ count_by (λ x. is_lt (read (answer x))) xs }
 {}

@@ -11,4 +11,5 @@ pub mod end;
 pub mod gallop;
 pub mod judge;
 pub mod laws;
+pub mod ranges;
 pub mod search;

@@ -13,8 +13,8 @@ use Rattle.std.specs.declared.cmp.Ordering.{Ordering}
 use Rattle.std.specs.declared.cmp.Ordering.TheVariants.{Less, Equal, Greater}
 use Rattle.sgb_search.specs.Judges.{IsRun, MayAskAll, AnswersBy}
 use Rattle.sgb_search.specs.Searching.{exponential, Contradicts, Tells, place_of, IsPlaceSearch, IsLowEnd, IsHighEnd, IsBetween}
-use Rattle.sgb_search.specs.Search.{AnswersAt, IsLocalAnswer, FindsIn, IsLessEqualGreater, MayCall, Computes, ComparesKey, WasAnswered, WasContradicted, ShowsAnswer, IsSearch}
-use Rattle.sgb_search.proofs.Lists.AllByRecursion.{all_contains, all_when}
+use Rattle.sgb_search.specs.Search.{AnswersAt, IsLocalAnswer, FindsIn, IsLessEqualGreater, MayCall, Computes, CalledAs, WasAnswered, WasContradicted, ShowsAnswer, IsSearch}
+use Rattle.sgb_search.proofs.Lists.AllByRecursion.{all_contains, all_each, all_when}
 use Rattle.sgb_search.proofs.Questions.Runs.{may_after, answers_after}
 use Rattle.sgb_search.proofs.Questions.Translated.{translated_run, is_beside, beside_is, last_beside}
 use Rattle.sgb_search.proofs.Searches.PartitionPoint.{less_count}
@@ -44,20 +44,6 @@ module _ {T : Type 0} (xs : List T) where
   read_asked i o rs qs h c =
       let q = is_beside ReadsOne (i, o) rs qs h c in
       (q.0.0, q.1.0, subst (λ p. Contains qs (q.0.0, p)) (sym q.1.1) q.2)
-
-  -- the same of an answer that ord gives
-  pub read_answer : (ord : T → Ordering) (rs : List (ℕ × Ordering)) (qs : List (T × Ordering)) → IsRead rs qs
-      → AllByRecursion (λ q. q.1 ≡ ord q.0) qs → (i : ℕ) (o : Ordering) → Contains rs (i, o) → AnswersAt ord xs i o
-  read_answer ord rs qs h k i o c =
-      let q = read_asked i o rs qs h c in (q.0, q.1, sym (all_contains _ qs (q.0, o) k q.2))
-
-  pub one_answer : (ord : T → Ordering) (rs : List (ℕ × Ordering)) → ((i : ℕ) (o : Ordering) → Contains rs (i, o) → AnswersAt ord xs i o)
-      → (i : ℕ) → Contradicts rs i → ⊥
-  one_answer ord rs h i (one, other, first, second, apart) =
-      let a = h i one first in
-      let b = h i other second in
-      let same : a.0 ≡ b.0 = sym (get_or_from_slice_get xs i a.0 a.0 a.1) ∙ get_or_from_slice_get xs i b.0 a.0 b.1 in
-      apart (sym a.2 ∙ ap ord same ∙ b.2)
 
 -- where the answers rise, a local boundary is the place between the Less and the Greater
 module _ {T : Type 0} (ord : T → Ordering) (xs : List T) where
@@ -134,10 +120,6 @@ module _ {F T : Type 0} (may : F → T → Type 0) (gives : F → T → Ordering
   may_places f h rs t run all i b =
       (b.1, λ x e. let q = read_run f rs t run in h q.0 t q.2 (read_elements xs rs q.0 q.1) x (contains_at xs i x e))
 
-  answers : (ord : T → Ordering) (f : F) → AnswersBy may gives (Contains xs) ord f → (rs : List (ℕ × Ordering)) (t : F)
-      → IsRun may_at called_at f rs t → (i : ℕ) (o : Ordering) → Contains rs (i, o) → AnswersAt ord xs i o
-  answers ord f h rs t run = let q = read_run f rs t run in read_answer xs ord rs q.0 q.1 (h.at q.0 t q.2 (read_elements xs rs q.0 q.1))
-
   pub search_run : (f : F) (r : Result ℕ ℕ) (t : F) → IsPlaceSearch may_at called_at exponential 0 (length xs) f r t
       → IsSearch may gives xs f r t
   search_run f r t h =
@@ -180,30 +162,41 @@ module _ {F T : Type 0} (may : F → T → Type 0) (gives : F → T → Ordering
           (k.0, k.1.0, k.2.0, k.3 ∙ ap (λ o. k.0 ++ (k.1.0, o) ∷ []) (sym k.2.1))
       shows (Err i) qs (a, b, ends) read = (low i qs read ends.low_end, high i qs read ends.high_end)
 
-  pub search_boundary : (f : F) (r : Result ℕ ℕ) (t : F) → IsPlaceSearch may_at called_at exponential 0 (length xs) f r t →
-      (ord : T → Ordering) → AnswersBy may gives (Contains xs) ord f → IsLocalAnswer ord xs r
-  search_boundary f r t h ord by = told r h.tells
+  -- what a search shows, where each answer is what ord gives
+  pub shows_boundary : (f : F) (r : Result ℕ ℕ) (t : F) → IsSearch may gives xs f r t → (ord : T → Ordering)
+      → AnswersBy may gives (Contains xs) ord f → IsLocalAnswer ord xs r
+  shows_boundary f r t h ord by = told r h.shows
     where
-      all : (i : ℕ) (o : Ordering) → Contains h.questions (i, o) → AnswersAt ord xs i o
-      all = answers ord f by h.questions t h.run
+      answered : (i : ℕ) (o : Ordering) → WasAnswered xs h.questions i o → AnswersAt ord xs i o
+      answered i o a = (a.0, a.1, sym (all_contains _ h.questions (a.0, o) (by.at h.questions t h.run h.elements) a.2))
 
-      low : (i : ℕ) → IsLowEnd h.questions 0 i ⊎ ((true ≡ true) × Contradicts h.questions i)
-          → (i ≡ 0) ⊎ ((0 < i) × AnswersAt ord xs (i - 1) Less)
-      low i (inl (inl e)) = inl e
-      low i (inl (inr p)) = inr (p.0, all (i - 1) Less p.1)
-      low i (inr two) = absurd (one_answer xs ord h.questions all i two.1)
+      one_answer : (i : ℕ) → WasContradicted xs h.questions i → ⊥
+      one_answer i (one, other, first, second, apart) =
+          let a = answered i one first in
+          let b = answered i other second in
+          let same : a.0 ≡ b.0 = sym (get_or_from_slice_get xs i a.0 a.0 a.1) ∙ get_or_from_slice_get xs i b.0 a.0 b.1 in
+          apart (sym a.2 ∙ ap ord same ∙ b.2)
 
-      high : (i : ℕ) → IsHighEnd h.questions (length xs) i ⊎ ((true ≡ true) × ((0 < i) × Contradicts h.questions (i - 1)))
-          → (i ≡ length xs) ⊎ AnswersAt ord xs i Greater
-      high i (inl (inl e)) = inl e
-      high i (inl (inr p)) = inr (all i Greater p.1)
-      high i (inr two) = absurd (one_answer xs ord h.questions all (i - 1) two.1.1)
+      told : (r : Result ℕ ℕ) → ShowsAnswer xs h.questions r → IsLocalAnswer ord xs r
+      told (Ok i) (front, x, at, last) =
+          answered i Equal (x, at, subst (λ l. Contains l (x, Equal)) (sym last) (Contains-push front (x, Equal)))
+      told (Err i) (low, high) = (below low, above high)
+        where
+          below : ((i ≡ 0) ⊎ ((0 < i) × WasAnswered xs h.questions (i - 1) Less)) ⊎ WasContradicted xs h.questions i
+              → (i ≡ 0) ⊎ ((0 < i) × AnswersAt ord xs (i - 1) Less)
+          below (inl (inl e)) = inl e
+          below (inl (inr p)) = inr (p.0, answered (i - 1) Less p.1)
+          below (inr two) = absurd (one_answer i two)
 
-      told : (r : Result ℕ ℕ) → Tells h.questions true 0 (length xs) r → IsLocalAnswer ord xs r
-      told (Ok i) p =
-          let here = subst (λ (l : List (ℕ × Ordering)). Contains l (i, Equal)) (sym p.1.1) (Contains-push p.1.0 (i, Equal)) in
-          all i Equal here
-      told (Err i) (a, b, ends) = (low i ends.low_end, high i ends.high_end)
+          above : ((i ≡ length xs) ⊎ WasAnswered xs h.questions i Greater) ⊎ ((0 < i) × WasContradicted xs h.questions (i - 1))
+              → (i ≡ length xs) ⊎ AnswersAt ord xs i Greater
+          above (inl (inl e)) = inl e
+          above (inl (inr a)) = inr (answered i Greater a)
+          above (inr two) = absurd (one_answer (i - 1) two.1)
+
+  pub search_boundary : (f : F) (r : Result ℕ ℕ) (t : F) → IsPlaceSearch may_at called_at exponential 0 (length xs) f r t
+      → (ord : T → Ordering) → AnswersBy may gives (Contains xs) ord f → IsLocalAnswer ord xs r
+  search_boundary f r t h = shows_boundary f r t (search_run f r t h)
 
   -- what may be asked before a search may be asked after it, and is answered the same
   pub may_go_on : (f : F) (r : Result ℕ ℕ) (t : F) → IsSearch may gives xs f r t → MayAskAll may gives (Contains xs) f
@@ -215,40 +208,56 @@ module _ {F T : Type 0} (may : F → T → Type 0) (gives : F → T → Ordering
   answers_go_on {answer} f r t h =
       answers_after may gives (Contains xs) (Contains xs) (λ x at. at) answer f h.questions t h.run h.elements
 
--- a key function's run, seen as one of comparisons
-module _ {F T K : Type 0} (g : Mut F (Bor T × Unit {0}) K) (cmp : K → K → Ordering) (b : K) (xs : List T) where
-  -- the key behind an answer
-  abbrev Compared : T × Ordering → T × K → Type 0
-  Compared q k = (q.0 ≡ k.0) × (q.1 ≡ cmp k.1 b)
+-- a run of calls, seen as one of answers that are read as orderings
+module _ {F T K : Type 0} (g : Mut F (Bor T × Unit {0}) K) (reads : K → Ordering) (xs : List T) where
+  -- the call behind an answer
+  abbrev IsOf : T × Ordering → T × K → Type 0
+  IsOf q k = (q.0 ≡ k.0) × (q.1 ≡ reads k.1)
 
-  key_run : (f : F) (qs : List (T × Ordering)) (t : F) → IsRun (TakesAt g) (ComparesKey g cmp b) f qs t
+  call_run : (f : F) (qs : List (T × Ordering)) (t : F) → IsRun (TakesAt g) (CalledAs g reads) f qs t
       → AllByRecursion (λ q. Contains xs q.0) qs
       → (ks : List (T × K)) × IsRun (TakesAt g) (CalledAt g) f ks t × AllByRecursion (λ k. Contains xs k.0) ks
-      × ((key : T → K) → AllByRecursion (λ k. k.1 ≡ key k.0) ks → AllByRecursion (λ q. q.1 ≡ cmp (key q.0) b) qs)
-  key_run f qs t h all =
-      let k = translated_run _ _ (TakesAt g) (CalledAt g) Compared (λ s x o u m c. ((x, c.0), m, c.1, (refl, sym c.2))) f qs t h in (
+      × ((key : T → K) → AllByRecursion (λ k. k.1 ≡ key k.0) ks → AllByRecursion (λ q. q.1 ≡ reads (key q.0)) qs)
+  call_run f qs t h all =
+      let k = translated_run _ _ (TakesAt g) (CalledAt g) IsOf (λ s x o u m c. ((x, c.0), m, c.1, (refl, sym c.2))) f qs t h in (
         k.0,
         k.2,
-        all_when _ k.0 (λ r c. let q = beside_is Compared r qs k.0 k.1 c in subst (Contains xs) q.1.0 (all_contains _ qs q.0 all q.2)),
-        λ key a. all_when _ qs (λ q c. let r = is_beside Compared q qs k.0 k.1 c in
-        r.1.1 ∙ ap (λ (v : K). cmp v b) (all_contains _ k.0 r.0 a r.2) ∙ ap (λ x. cmp (key x) b) (sym r.1.0)),
+        all_when _ k.0 (λ r c. let q = beside_is IsOf r qs k.0 k.1 c in subst (Contains xs) q.1.0 (all_contains _ qs q.0 all q.2)),
+        λ key a. all_when _ qs (λ q c. let r = is_beside IsOf q qs k.0 k.1 c in
+        r.1.1 ∙ ap reads (all_contains _ k.0 r.0 a r.2) ∙ ap (λ x. reads (key x)) (sym r.1.0)),
       )
 
-  pub key_may : (f : F) → MayCall g xs f → MayAskAll (TakesAt g) (ComparesKey g cmp b) (Contains xs) f
-  key_may f h qs t run all x at = let k = key_run f qs t run all in h k.0 t k.1 k.2 x at
+  -- an answer is read from a call
+  pub answers_read : (f : F) (qs : List (T × Ordering)) (t : F) → IsRun (TakesAt g) (CalledAs g reads) f qs t
+      → AllByRecursion (λ q. (k : K) × (q.1 ≡ reads k)) qs
+  answers_read f [] t h = tt
+  answers_read f (q ∷ qs) t h = ((h.1.1.0, sym h.1.1.2), answers_read h.1.0 qs t h.1.2)
 
-  pub key_answers : (f : F) (key : T → K) → Computes g xs key f → AnswersBy (TakesAt g) (ComparesKey g cmp b) (Contains xs)
-      (λ x. cmp (key x) b) f
-  key_answers f key h = record { at = λ qs t run all. let k = key_run f qs t run all in k.3 key (h.at k.0 t k.1 k.2) }
+  pub read_may : (f : F) → MayCall g xs f → MayAskAll (TakesAt g) (CalledAs g reads) (Contains xs) f
+  read_may f h qs t run all x at = let k = call_run f qs t run all in h k.0 t k.1 k.2 x at
 
-  pub key_may_go_on : (f : F) (r : Result ℕ ℕ) (t : F) → IsSearch (TakesAt g) (ComparesKey g cmp b) xs f r t → MayCall g xs f
+  pub read_answers : (f : F) (key : T → K) → Computes g xs key f → AnswersBy (TakesAt g) (CalledAs g reads) (Contains xs)
+      (λ x. reads (key x)) f
+  read_answers f key h = record { at = λ qs t run all. let k = call_run f qs t run all in k.3 key (h.at k.0 t k.1 k.2) }
+
+  -- after a search of the list, of a wider one too
+  module _ (wide : T → Type 0) (sub : (x : T) → Contains xs x → wide x) where
+    pub wide_may_go_on : (f : F) (r : Result ℕ ℕ) (t : F) → IsSearch (TakesAt g) (CalledAs g reads) xs f r t
+        → MayAskAll (TakesAt g) (CalledAt g) wide f → MayAskAll (TakesAt g) (CalledAt g) wide t
+    wide_may_go_on f r t h =
+        let k = call_run f h.questions t h.run h.elements in
+        may_after (TakesAt g) (CalledAt g) wide wide (λ x at. at) f k.0 t k.1 (all_each _ _ (λ q c. sub q.0 c) k.0 k.2)
+
+    pub wide_computes_go_on : (key : T → K) (f : F) (r : Result ℕ ℕ) (t : F) → IsSearch (TakesAt g) (CalledAs g reads) xs f r t
+        → AnswersBy (TakesAt g) (CalledAt g) wide key f → AnswersBy (TakesAt g) (CalledAt g) wide key t
+    wide_computes_go_on key f r t h =
+        let k = call_run f h.questions t h.run h.elements in
+        answers_after (TakesAt g) (CalledAt g) wide wide (λ x at. at) key f k.0 t k.1 (all_each _ _ (λ q c. sub q.0 c) k.0 k.2)
+
+  pub read_may_go_on : (f : F) (r : Result ℕ ℕ) (t : F) → IsSearch (TakesAt g) (CalledAs g reads) xs f r t → MayCall g xs f
       → MayCall g xs t
-  key_may_go_on f r t h =
-      let k = key_run f h.questions t h.run h.elements in
-      may_after (TakesAt g) (CalledAt g) (Contains xs) (Contains xs) (λ x at. at) f k.0 t k.1 k.2
+  read_may_go_on f r t h = wide_may_go_on (Contains xs) (λ x c. c) f r t h
 
-  pub key_computes_go_on : (key : T → K) (f : F) (r : Result ℕ ℕ) (t : F) → IsSearch (TakesAt g) (ComparesKey g cmp b) xs f r t
+  pub read_computes_go_on : (key : T → K) (f : F) (r : Result ℕ ℕ) (t : F) → IsSearch (TakesAt g) (CalledAs g reads) xs f r t
       → Computes g xs key f → Computes g xs key t
-  key_computes_go_on key f r t h =
-      let k = key_run f h.questions t h.run h.elements in
-      answers_after (TakesAt g) (CalledAt g) (Contains xs) (Contains xs) (λ x at. at) key f k.0 t k.1 k.2
+  read_computes_go_on key f r t h = wide_computes_go_on (Contains xs) (λ x c. c) key f r t h
