@@ -1,6 +1,7 @@
 //! Closures that capture, that count and that are handed in, and keys that are owned.
-use slice_group_by::{ExponentialGroupBy, GroupBy, LinearGroupBy, exponential_search_by};
-use std::cmp::Ordering;
+use slice_group_by::{
+    GroupBy, LinearGroupBy, exponential_equal_range_by, exponential_search_by,
+};
 
 /// How many stretches there are in which neighbours differ by at most `gap`.
 pub fn stretches(slice: &[u32], gap: u32) -> usize {
@@ -63,18 +64,7 @@ pub fn find_page(index: &[Entry], word: &str) -> Option<u32> {
     Some(index.get(place)?.page)
 }
 
-/// All entries of the word in a sorted index: a search that never finds ends at the first that is not below the word.
+/// All entries of the word in a sorted index.
 pub fn entries_of<'a>(index: &'a [Entry], word: &str) -> &'a [Entry] {
-    let place = exponential_search_by(index, |entry| {
-        if entry.word.as_str() < word {
-            Ordering::Less
-        } else {
-            Ordering::Greater
-        }
-    })
-    .unwrap_or_else(|place| place);
-    match ExponentialGroupBy::new(&index[place..], |a, b| a.word == b.word).next() {
-        Some(group) if group[0].word.as_str() == word => group,
-        _ => &[],
-    }
+    exponential_equal_range_by(index, |entry| entry.word.as_str().cmp(word))
 }

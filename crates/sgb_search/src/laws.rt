@@ -2,13 +2,13 @@
 ghost use Rattle.std.specs.Prelude.{◌≡◌, ℕ, ◌+◌, ◌-◌, ◌^◌, ◌<◌, ◌≤◌, ◌++◌, Bool, List, Some, length, map, take, drop, nat_lt};
 ghost use Rattle.sgb_search.specs.Calls.{ComputesBy, IsCallableBy};
 ghost use Rattle.std.specs.Fn.{ComputesKey, TakesAt, TakesAtTwo, Called, CalledAtTwo};
-ghost use Rattle.std.specs.List.{AllByRecursion, Contains, slice_get, count_by};
-ghost use Rattle.std.specs.Ordering.{flip_args, is_lt, is_eq};
+ghost use Rattle.std.specs.List.{AllByRecursion, Contains, slice_get, count_by, filter};
+ghost use Rattle.std.specs.Ordering.{flip_args, is_lt, is_eq, is_gt};
 ghost use Rattle.std.specs.declared.cmp.Ordering.{Ordering};
 ghost use Rattle.std.specs.declared.cmp.Ordering.TheVariants.{Less, Greater};
 ghost use Rattle.sgb_search.specs.declared.end.End.{End};
 ghost use Rattle.sgb_search.specs.Searching.{digits};
-ghost use Rattle.sgb_search.specs.Ranges.{AsksRange};
+ghost use Rattle.sgb_search.specs.Ranges.{AsksRange, IsRange};
 ghost use Rattle.sgb_search.specs.Split.{AreApart, neighbours, AreNeighbours, IsGrouped, IsSplit, concat, first, split, refused_pairs};
 ghost use Rattle.sgb_search.specs.Search.{MayCall, Computes, IsGap, IsLessEqualGreater, NeverDescends};
 ghost use Rattle.sgb_search.specs.Linear.{questions};
@@ -237,4 +237,13 @@ pub fn range_starts<T, K, F: FnMut(&T) -> K>(_f: &F)
         → IsLessEqualGreater (λ x. read (answer x)) xs
         → (a : AsksRange F.FnMut (λ k. is_lt (read k)) (λ k. is_eq (read k)) xs f equals t)
         → length a.before ≡ count_by (λ x. is_lt (read (answer x))) xs }
+{}
+
+/// A range of equal elements and what stands before and after it are what filters keep of the whole: the equal elements, those that
+/// are less, and those that are greater.
+pub fn range_parts<T>()
+    ensures whole { (ord : T → Ordering) (xs equals : List T) → IsRange ord xs equals
+        → xs ≡ filter (λ x. is_lt (ord x)) xs ++ (equals ++ filter (λ x. is_gt (ord x)) xs) }
+    ensures equal { (ord : T → Ordering) (xs equals : List T) → IsRange ord xs equals
+        → equals ≡ filter (λ x. is_eq (ord x)) xs }
 {}

@@ -4,7 +4,7 @@
 //! The definitions are in `specs/`, and are meant to be read first: `Split` (what the groups are, and a list from
 //! an end), `Judges` (what a list of questions does to the state of a judge, and what judges answer), `Calls`
 //! (what a call gives of a list), `Linear` (what a linear call asks), `Searching` (what a binary or exponential call asks),
-//! `Search` (what the searches of a slice find).
+//! `Search` (what the searches of a slice find), `Ranges` (where a slice parts, and the range of equal elements).
 #![tactic(auto)]
 
 pub mod end;

@@ -22,6 +22,8 @@ mod plans;
 #[cfg(test)]
 mod questions;
 #[cfg(test)]
+mod ranges;
+#[cfg(test)]
 mod searches;
 #[cfg(test)]
 mod units;

@@ -1,11 +1,11 @@
 -- Searches whose answers are two sides: they end at a place, which parts a list that is partitioned.
-use Rattle.std.specs.Prelude.{◌≡◌, ℕ, ◌≤◌, Bool, true, false, List, [], ◌∷◌, ◌++◌, length, Result, Ok, Err}
+use Rattle.std.specs.Prelude.{cond, ◌≡◌, ℕ, ◌≤◌, Bool, true, false, List, [], ◌∷◌, ◌++◌, length, Result, Ok, Err}
 use Rattle.std.proofs.Common.{refl, sym, ap, ◌∙◌, subst, arith}
 use Rattle.std.specs.Fn.{Mut, TakesAt}
 use Rattle.std.specs.Borrow.{Bor}
 use Rattle.std.specs.List.{AllByRecursion, Contains, count_by, filter, slice_index_or}
 use Rattle.std.specs.List.Sorted.{IsPartitionedBy, IsPartitionPoint}
-use Rattle.std.specs.Ordering.{ordering_index, is_lt, is_eq}
+use Rattle.std.specs.Ordering.{ordering_index, is_lt, is_eq, is_gt}
 use Rattle.std.specs.declared.cmp.Ordering.{Ordering}
 use Rattle.std.specs.declared.cmp.Ordering.TheVariants.{Less, Equal, Greater}
 use Rattle.std.proofs.Math.Seq.{take-append_seam, drop-append_seam}
@@ -168,20 +168,26 @@ module _ {T : Type 0} (p : T → Bool) where
   keeps_none [] h = refl
   keeps_none (x ∷ xs) h = rw (h.0) (keeps_none xs h.1)
 
-pub range_filters : {T : Type 0} → (ord : T → Ordering) (xs equals : List T) → IsRange ord xs equals
-    → equals ≡ filter (λ x. is_eq (ord x)) xs
-range_filters {T} ord xs equals r =
-    sym (ap (filter equal) r.whole ∙ filter-append equal r.before (equals ++ r.after) ∙ ap (λ l. l ++ filter equal (equals ++ r.after)) none
-    ∙ filter-append equal equals r.after ∙ ap (λ l. filter equal equals ++ l) none_after ∙ append-nil (filter equal equals) ∙ all)
-  where
-    equal : T → Bool
-    equal x = is_eq (ord x)
+-- what a filter keeps of a range: all of a part that passes, and none of another
+module _ {T : Type 0} (ord : T → Ordering) (xs equals : List T) (r : IsRange ord xs equals) (p : Ordering → Bool) where
+  kept : (o : Ordering) (ys : List T) → AllByRecursion (λ x. ord x ≡ o) ys → filter (λ x. p (ord x)) ys ≡ cond (p o) ys []
+  kept o ys h = by (p o) refl
+    where
+      by : (b : Bool) → p o ≡ b → filter (λ x. p (ord x)) ys ≡ cond b ys []
+      by true e = keeps_all (λ x. p (ord x)) ys (all_each _ _ (λ x same. ap p same ∙ e) ys h)
+      by false e = keeps_none (λ x. p (ord x)) ys (all_each _ _ (λ x same. ap p same ∙ e) ys h)
 
-    none : filter equal r.before ≡ []
-    none = keeps_none equal r.before (all_each _ _ (λ x e. ap is_eq e) r.before r.less)
+  filtered : filter (λ x. p (ord x)) xs ≡ cond (p Less) r.before [] ++ (cond (p Equal) equals [] ++ cond (p Greater) r.after [])
+  filtered =
+      ap (filter (λ x. p (ord x))) r.whole ∙ filter-append (λ x. p (ord x)) r.before (equals ++ r.after)
+      ∙ ap (λ l. filter (λ x. p (ord x)) r.before ++ l) (filter-append (λ x. p (ord x)) equals r.after)
+      ∙ (λ i. kept Less r.before r.less i ++ (kept Equal equals r.equal i ++ kept Greater r.after r.greater i))
 
-    all : filter equal equals ≡ equals
-    all = keeps_all equal equals (all_each _ _ (λ x e. ap is_eq e) equals r.equal)
+module _ {T : Type 0} (ord : T → Ordering) (xs equals : List T) (r : IsRange ord xs equals) where
+  pub range_filters : equals ≡ filter (λ x. is_eq (ord x)) xs
+  range_filters = sym (filtered ord xs equals r is_eq ∙ append-nil equals)
 
-    none_after : filter equal r.after ≡ []
-    none_after = keeps_none equal r.after (all_each _ _ (λ x e. ap is_eq e) r.after r.greater)
+  pub range_whole : xs ≡ filter (λ x. is_lt (ord x)) xs ++ (equals ++ filter (λ x. is_gt (ord x)) xs)
+  range_whole =
+      r.whole ∙ (λ i. sym (filtered ord xs equals r is_lt ∙ append-nil r.before) i
+      ++ (equals ++ sym (filtered ord xs equals r is_gt) i))

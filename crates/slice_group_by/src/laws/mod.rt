@@ -58,7 +58,8 @@ pub use sgb_search::laws::{
     ascending_is_grouped, ascending_is_searchable, callable_now, callable_now_on_pairs,
     callable_on_elements, callable_on_pairs, computes_on_char_pairs, computes_on_chars,
     computes_on_elements, computes_on_pairs, descending_is_grouped, digits_is_least,
-    equality_judges, first_group_agrees, gap_parts, one_split, parts_are_grouped, question_count, range_starts,
+    equality_judges, first_group_agrees, gap_parts, one_split, parts_are_grouped, question_count, range_parts,
+    range_starts,
 };
 pub use sorted::{is_sorted_for_groups, sorted_by_key_ascends, sorts_ascend};
 

@@ -1,39 +1,36 @@
-use Rattle.std.proofs.Common.{rules, ◌≡◌, ◌+◌, ◌^◌, ◌<◌, ◌++◌, length, not, nat_lt, sym, ap, ◌∙◌, arith, subst}
-use Rattle.std.proofs.lemmas.List.Kept.{IsNonDecreasingBy-filter}
-use Rattle.program_parts.specs.index_reader.Keys.{IsAscending, lower, of_key, at_least}
-use Rattle.program_parts.proofs.index_reader.Cuts.{cut_twice}
+use Rattle.std.proofs.Common.{rules, ◌≡◌, ◌+◌, ◌*◌, ◌≤◌, ◌++◌, length, arith, sym, ap, subst, ◌∙◌}
+use Rattle.std.proofs.lemmas.Fn.{answers_by}
+use Rattle.std.proofs.lemmas.List.Sums.{length-filter}
+use Rattle.std.specs.Ordering.{is_lt}
+use Rattle.slice_group_by.specs.Searching.{digits}
+use Rattle.program_parts.proofs.index_reader.Cuts.{stands, stands_rises, lower_is, of_key_is, at_least_is}
 use Rattle.program_parts.proofs.index_reader.lookup.entries_of.Goals as goal
 
-pub cut_at-found-requires : goal.cut_at-found-requires
-cut_at-found-requires c =
-    let others = rw c.from-limit.ensures at c.cut_at-skipped.ensures.others in
-    subst IsAscending (sym others)
-    (IsNonDecreasingBy-filter (λ e. e.key) (λ e. not (nat_lt e.key c.args.key)) c.args.index.now c.requires)
-
-pub overflow_add-result : goal.overflow_add-result
-overflow_add-result c =
-    let least = c.digits_is_least.ensures.least in
-    let m : length c.cut_at-skipped.result.lower.now < 2 ^ 64 = search rules in
-    let n : length c.cut_at-found.result.lower.now < 2 ^ 64 = search rules in
-    let d = least (length c.cut_at-skipped.result.lower.now) 64 m in
-    let e = least (length c.cut_at-found.result.lower.now) 64 n in
-    omega (arith, d, e, c.cut_at-skipped.ensures.comparisons, c.cut_at-found.ensures.comparisons)
-
-module _ (c : goal.After-result-1) where
-  exactly : c.cut_at-found.result.lower.now ≡ of_key c.args.key c.args.index.now
-  exactly =
-      let others = rw c.from-limit.ensures at c.cut_at-skipped.ensures.others in
-      rw c.from-limit.ensures at c.cut_at-found.ensures.lower ∙ ap (lower (c.args.key + 1)) others
-      ∙ (cut_twice c.args.key c.args.index.now).0
-
 pub returns-clause-exactly : goal.returns-clause-exactly
-returns-clause-exactly c = exactly c
+returns-clause-exactly c =
+    let computes = c.always_computes.ensures c.args.index.now (stands c.args.key) _
+    (answers_by _ _ (λ f. f.1 ≡ c.args.key) (λ f a r f' k i. search (rules, i)) _ (search rules)) in
+    c.exponential_equal_range_by_ref-entries.ensures.filter (stands c.args.key) computes (stands_rises c.args.key c.args.index.now c.requires)
+    ∙ of_key_is c.args.key c.args.index.now
 
 pub returns-clause-place : goal.returns-clause-place
 returns-clause-place c =
-    let others = rw c.from-limit.ensures at c.cut_at-skipped.ensures.others in
-    let higher = rw c.from-limit.ensures at c.cut_at-found.ensures.others ∙ ap (at_least (c.args.key + 1)) others
-    ∙ (cut_twice c.args.key c.args.index.now).1 in
-    let low = rw c.from-limit.ensures at c.cut_at-skipped.ensures.lower in
-    rw (low, higher) at (c.cut_at-skipped.ensures.covers
-    ∙ ap (λ ys. c.cut_at-skipped.result.lower.now ++ ys) c.cut_at-found.ensures.covers)
+    let computes = c.always_computes.ensures c.args.index.now (stands c.args.key) _
+    (answers_by _ _ (λ f. f.1 ≡ c.args.key) (λ f a r f' k i. search (rules, i)) _ (search rules)) in
+    c.range_parts.ensures.whole (stands c.args.key) c.args.index.now _ (c.exponential_equal_range_by_ref-entries.ensures.range
+    (stands c.args.key) computes (stands_rises c.args.key c.args.index.now c.requires))
+    ∙ (λ i. lower_is c.args.key c.args.index.now i
+    ++ (c.exponential_equal_range_by_ref-entries.result.now ++ at_least_is c.args.key c.args.index.now i))
+
+pub returns-clause-comparisons : goal.returns-clause-comparisons
+returns-clause-comparisons c =
+    let computes = c.always_computes.ensures c.args.index.now (stands c.args.key) _
+    (answers_by _ _ (λ f. f.1 ≡ c.args.key) (λ f a r f' k i. search (rules, i)) _ (search rules)) in
+    let asks = c.exponential_equal_range_by_ref-entries.ensures.questions in
+    let k = c.range_calls_count.ensures.range (λ f. f.0.now) (λ f. f.0.ghost_name) 1 (λ f h x a called. search rules) _ _ _ _ _ _ asks in
+    let passed = c.range_starts.ensures (λ o. o) (stands c.args.key) _ _ _ _ computes
+    (stands_rises c.args.key c.args.index.now c.requires) asks
+    ∙ sym (length-filter (λ e. is_lt (stands c.args.key e)) c.args.index.now) ∙ ap length (lower_is c.args.key c.args.index.now) in
+    let most = subst (λ n. c.exponential_equal_range_by_ref-entries.new.f.0.now
+    ≤ 2 * digits (n + 1) + 2 * digits (length c.exponential_equal_range_by_ref-entries.result.now + 1) + 2) passed (omega (arith, k.1)) in
+    search (rules, k.0, most)
