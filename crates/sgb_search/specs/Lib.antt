@@ -5,3 +5,4 @@ pub mod Linear
 pub mod Searching
 pub mod Search
 pub mod Ranges
+pub mod Seams

@@ -1,5 +1,5 @@
 //! Laws of the definitions. Each is a function that does nothing: its contract is the law, and a caller cites it.
-ghost use Rattle.std.specs.Prelude.{◌≡◌, ℕ, ◌+◌, ◌-◌, ◌^◌, ◌<◌, ◌≤◌, ◌++◌, Bool, List, Some, length, map, take, drop, nat_lt};
+ghost use Rattle.std.specs.Prelude.{cond, ◌≡◌, ℕ, ◌+◌, ◌-◌, ◌^◌, ◌<◌, ◌≤◌, ◌++◌, Bool, List, Some, length, map, take, drop, nat_lt};
 ghost use Rattle.sgb_search.specs.Calls.{ComputesBy, IsCallableBy};
 ghost use Rattle.std.specs.Fn.{ComputesKey, TakesAt, TakesAtTwo, Called, CalledAtTwo};
 ghost use Rattle.std.specs.List.{AllByRecursion, Contains, slice_get, count_by, filter};
@@ -9,7 +9,8 @@ ghost use Rattle.std.specs.declared.cmp.Ordering.TheVariants.{Less, Greater};
 ghost use Rattle.sgb_search.specs.declared.end.End.{End};
 ghost use Rattle.sgb_search.specs.Searching.{digits};
 ghost use Rattle.sgb_search.specs.Ranges.{AsksRange, IsRange};
-ghost use Rattle.sgb_search.specs.Split.{AreApart, neighbours, AreNeighbours, IsGrouped, IsSplit, concat, first, split, refused_pairs};
+ghost use Rattle.sgb_search.specs.Split.{AreApart, neighbours, AreNeighbours, IsGrouped, IsSplit, concat, first, last, without_last, split, refused_pairs};
+ghost use Rattle.sgb_search.specs.Seams.{is_accepted_across, seam};
 ghost use Rattle.sgb_search.specs.Search.{MayCall, Computes, IsGap, IsLessEqualGreater, NeverDescends};
 ghost use Rattle.sgb_search.specs.Linear.{questions};
 ghost use Rattle.sgb_search.specs.Judges.{IsRunOf, by_predicate, predicate_judge, CalledAtChar, by_key, key_judge, by_char_predicate, char_predicate_judge, by_char_key, char_key_judge, by_equality};
@@ -22,6 +23,17 @@ pub fn one_split<T>()
     ensures exists { (p : T → T → Bool) (xs : List T) → IsSplit p xs (split p xs) }
     ensures unique { (p : T → T → Bool) (xs : List T) (ps : List (List T)) → IsSplit p xs ps → ps ≡ split p xs }
     ensures count { (p : T → T → Bool) (xs : List T) → 0 < length xs → length (split p xs) ≡ refused_pairs p xs + 1 }
+{}
+
+/// The split of two lists, one after the other, is that of the one and that of the other, but that the last piece of the one and the
+/// first of the other are one piece where the pair across is accepted (`seam`). So whoever splits what comes in parts has to keep the
+/// last piece alone (`kept`), and whoever counts pieces part by part counts one too many at each accepted seam (`count`).
+pub fn splits_join<T>()
+    ensures seam { (p : T → T → Bool) (xs ys : List T) → split p (xs ++ ys) ≡ seam p (split p xs) (split p ys) }
+    ensures kept { (p : T → T → Bool) (xs ys group : List T) → last (split p xs) ≡ Some group
+        → split p (xs ++ ys) ≡ without_last (split p xs) ++ split p (group ++ ys) }
+    ensures count { (p : T → T → Bool) (xs ys : List T)
+        → length (split p (xs ++ ys)) + cond (is_accepted_across p xs ys) 1 0 ≡ length (split p xs) + length (split p ys) }
 {}
 
 /// How many neighbouring pairs a list has, and how many questions a linear call asks that takes g of its elements: g if

@@ -108,7 +108,7 @@ module _ {A : Type 0} (p : A → A → Bool) where
   put_before_push true x g gs h = refl
   put_before_push false x g gs h = refl
 
-  split_alone : (y : A) (ys : List A) → IsAccepted p (y ∷ ys) → split p (y ∷ ys) ≡ (y ∷ ys) ∷ []
+  pub split_alone : (y : A) (ys : List A) → IsAccepted p (y ∷ ys) → split p (y ∷ ys) ≡ (y ∷ ys) ∷ []
   split_alone y ys a = ap (split p) (sym (append-nil (y ∷ ys))) ∙ split_first y ys [] a (λ u v i j. cc j)
 
   pub split_last : (rest : List A) (y : A) (ys : List A) → IsAccepted p (y ∷ ys) → IsRefusedAcross p (rest, y ∷ ys)
@@ -132,7 +132,7 @@ module _ {A : Type 0} (p : A → A → Bool) where
   takes_nothing Back = (refl, refl)
 
   -- how many pieces there are
-  length-put_before : (b : Bool) (x : A) (g : List A) (gs : List (List A))
+  pub length-put_before : (b : Bool) (x : A) (g : List A) (gs : List (List A))
       → length (put_before p b x (g ∷ gs)) ≡ cond (not b) 1 0 + length (g ∷ gs)
   length-put_before true x g gs = omega arith
   length-put_before false x g gs = omega arith

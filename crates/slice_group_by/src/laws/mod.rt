@@ -59,7 +59,7 @@ pub use sgb_search::laws::{
     callable_on_elements, callable_on_pairs, computes_on_char_pairs, computes_on_chars,
     computes_on_elements, computes_on_pairs, descending_is_grouped, digits_is_least,
     equality_judges, first_group_agrees, gap_parts, one_split, parts_are_grouped, question_count, range_parts,
-    range_starts,
+    range_starts, splits_join,
 };
 pub use sorted::{is_sorted_for_groups, sorted_by_key_ascends, sorts_ascend};
 

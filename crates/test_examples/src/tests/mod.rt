@@ -9,6 +9,7 @@ mod families;
 mod joins;
 mod joins_by_key;
 mod loops;
+mod parts;
 mod pieces;
 mod plans;
 mod queues;
