@@ -1,10 +1,5 @@
 //! Linear groups, found by a scan along the neighbouring pairs.
-ghost use Rattle.std.specs.Prelude.{ℕ, ◌+◌, ◌<◌, ◌≤◌, length, slice_range};
-ghost use Rattle.sgb_search.specs.Calls.{IsCallableBy};
-ghost use Rattle.sgb_search.specs.declared.end.End.TheVariants.{Front, Back};
-ghost use Rattle.sgb_search.specs.Judges.{IsRun};
-ghost use Rattle.sgb_search.specs.Linear.{questions};
-ghost use Rattle.sgb_search.specs.Split.{AreNeighbours};
+ghost use Rattle.std.specs.Prelude.{length};
 
 use sgb_groups::debug::{DebugNames, Names};
 use sgb_groups::group_end::GroupEnd;
@@ -130,58 +125,10 @@ impl GroupEnd for Linear {
         judge: &mut J,
     ) -> usize {
         match end {
-            End::Front => first_len(slice, low, high, judge),
-            End::Back => last_len(slice, low, high, judge),
+            End::Front => judge.first_len(slice, low, high),
+            End::Back => judge.last_len(slice, low, high),
         }
     }
-}
-
-/// How many elements the first group has of the part of the slice from the place `low` up to, not including, `high`.
-#[inline]
-fn first_len<T, J: Judge<T>>(slice: &[T], low: usize, high: usize, judge: &mut J) -> usize
-    requires nonempty { low < high }
-    requires inside { high ≤ length slice.now }
-    requires callable { IsCallableBy AreNeighbours J.Judge
-        (record { remainder = slice_range slice.now low high; judge = judge.old }) }
-    ensures nonempty { 0 < result }
-    ensures within { low + result ≤ high }
-    ensures asked { IsRun J.may_ask J.answers judge.old (questions Front (slice_range slice.now low high) result) judge.new }
-{
-    let size = high - low;
-    let mut len = 1;
-    while len < size {
-        let next = low + len;
-        let together = judge.ask(&slice[next - 1], &slice[next]);
-        if !together {
-            return len;
-        }
-        len += 1;
-    }
-    len
-}
-
-/// How many elements the last group has of the part of the slice from the place `low` up to, not including, `high`.
-#[inline]
-fn last_len<T, J: Judge<T>>(slice: &[T], low: usize, high: usize, judge: &mut J) -> usize
-    requires nonempty { low < high }
-    requires inside { high ≤ length slice.now }
-    requires callable { IsCallableBy AreNeighbours J.Judge
-        (record { remainder = slice_range slice.now low high; judge = judge.old }) }
-    ensures nonempty { 0 < result }
-    ensures within { low + result ≤ high }
-    ensures asked { IsRun J.may_ask J.answers judge.old (questions Back (slice_range slice.now low high) result) judge.new }
-{
-    let size = high - low;
-    let mut len = 1;
-    while len < size {
-        let start = high - len;
-        let together = judge.ask(&slice[start - 1], &slice[start]);
-        if !together {
-            return len;
-        }
-        len += 1;
-    }
-    len
 }
 
 impl<P> DebugNames<PredicateJudge<P>> for Linear {

@@ -3,8 +3,8 @@ use Rattle.std.specs.Prelude.{slice_range}
 use Rattle.sgb_search.specs.Split.{neighbours}
 use Rattle.sgb_search.proofs.Questions.Runs.{may_now, may_next}
 use Rattle.sgb_search.proofs.Linear.Scanning.{accepted_more, refused_next, accepted_all}
-use Rattle.sgb_groups.proofs.Parts.{neighbours_in, front_pair_in, pairs_in}
-use Rattle.sgb_linear_group.proofs.linear_group.first_len.Goals as goal
+use Rattle.sgb_search.proofs.Linear.ScannedParts.{neighbours_in, front_pair_in, pairs_in}
+use Rattle.sgb_search.proofs.judge.Judge.first_len.Goals as goal
 
 pub ask-together-requires : goal.ask-together-requires
 ask-together-requires g c =
