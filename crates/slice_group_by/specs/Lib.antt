@@ -11,6 +11,7 @@ pub use Rattle.sgb_search.specs.Calls
 pub use Rattle.sgb_search.specs.Linear
 pub use Rattle.sgb_search.specs.Searching
 pub use Rattle.sgb_search.specs.Search
+pub use Rattle.sgb_numbers.specs.Numbers
 pub use Rattle.sgb_groups.specs.Gives
 pub use Rattle.sgb_linear_str_group.specs.Texts
 pub use Rattle.sgb_linear_str_group.specs.TextsMut

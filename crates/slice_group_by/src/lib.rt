@@ -34,11 +34,12 @@ pub use sgb_exponential_group::exponential_group::{
 };
 pub use sgb_linear_group::linear_group::{
     LinearGroup, LinearGroupBy, LinearGroupByKey, LinearGroupByKeyMut, LinearGroupByMut,
-    LinearGroupMut,
+    LinearGroupMut, LinearNumberGroup, LinearNumberGroupMut,
 };
 pub use sgb_linear_str_group::by_equality::{LinearStrGroup, LinearStrGroupMut};
 pub use sgb_linear_str_group::by_key::{LinearStrGroupByKey, LinearStrGroupByKeyMut};
 pub use sgb_linear_str_group::by_predicate::{LinearStrGroupBy, LinearStrGroupByMut};
+pub use sgb_numbers::lanes::Lanes;
 pub use sgb_search::search::{
     exponential_search, exponential_search_by, exponential_search_by_key,
     exponential_search_by_key_ref, exponential_search_by_ref,
