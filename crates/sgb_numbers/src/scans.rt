@@ -23,8 +23,7 @@ pub(crate) fn first_like<T: Lanes>(slice: &[T], low: usize, high: usize) -> usiz
     if near < NEAR {
         return near;
     }
-    let far = skip_like(number, slice, low + NEAR, high);
-    like_from(number, slice, low, far - low, high - low)
+    like_by_vectors(number, slice, low + NEAR, high) - low
 }
 
 /// How many elements from the place `low` on are equal to the number, `most` at most, where the first `len` are.
@@ -44,15 +43,16 @@ fn like_from<T: PartialEq>(number: &T, slice: &[T], low: usize, len: usize, most
     all
 }
 
-/// A place from `low` on before which all elements are equal to the number, by vectors. What is left before `high` is found one
-/// by one.
+/// The first place from `low` on whose element is not equal to the number, or `high`: by vectors, and one by one where less than a
+/// vector is left.
 #[inline]
-fn skip_like<T: Lanes>(number: &T, slice: &[T], low: usize, high: usize) -> usize
+fn like_by_vectors<T: Lanes>(number: &T, slice: &[T], low: usize, high: usize) -> usize
     requires order { low ≤ high }
     requires inside { high ≤ length slice.now }
     ensures low { low ≤ result }
     ensures high { result ≤ high }
     ensures like { AreLike T.eq number.now slice.now low result }
+    ensures unlike { result < high → T.eq (slice_index_or slice.now result number.now) number.now ≡ false }
 {
     let mut place = low;
     while 16 <= high - place {
@@ -62,7 +62,7 @@ fn skip_like<T: Lanes>(number: &T, slice: &[T], low: usize, high: usize) -> usiz
         }
         place += 16;
     }
-    place
+    place + like_from(number, slice, place, 0, high - place)
 }
 
 /// How many elements up to the last before the place `high` are equal to that one, from the place `low` on.
@@ -80,8 +80,7 @@ pub(crate) fn last_like<T: Lanes>(slice: &[T], low: usize, high: usize) -> usize
     if near < NEAR {
         return near;
     }
-    let far = skip_like_back(number, slice, low, high - NEAR);
-    like_upto(number, slice, high, high - far, high - low)
+    high - like_back_by_vectors(number, slice, low, high - NEAR)
 }
 
 /// How many last elements before the place `high` are equal to the number, `most` at most, where the last `len` are.
@@ -102,15 +101,16 @@ fn like_upto<T: PartialEq>(number: &T, slice: &[T], high: usize, len: usize, mos
     all
 }
 
-/// A place up to `high` from which on all elements are equal to the number, by vectors. What is left from `low` on is found one
-/// by one.
+/// The place behind the last element before `high` that is not equal to the number, or `low`: by vectors, and one by one where
+/// less than a vector is left.
 #[inline]
-fn skip_like_back<T: Lanes>(number: &T, slice: &[T], low: usize, high: usize) -> usize
+fn like_back_by_vectors<T: Lanes>(number: &T, slice: &[T], low: usize, high: usize) -> usize
     requires order { low ≤ high }
     requires inside { high ≤ length slice.now }
     ensures low { low ≤ result }
     ensures high { result ≤ high }
     ensures like { AreLike T.eq number.now slice.now result high }
+    ensures unlike { low < result → T.eq (slice_index_or slice.now (result - 1) number.now) number.now ≡ false }
 {
     let mut place = high;
     while 16 <= place - low {
@@ -120,5 +120,5 @@ fn skip_like_back<T: Lanes>(number: &T, slice: &[T], low: usize, high: usize) ->
         }
         place -= 16;
     }
-    place
+    place - like_upto(number, slice, place, 0, place - low)
 }

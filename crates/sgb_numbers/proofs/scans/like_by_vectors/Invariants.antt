@@ -1,6 +1,6 @@
 use Rattle.std.proofs.Common.{◌-◌, ◌≤◌}
 use Rattle.sgb_numbers.specs.Alike.{AreLike}
-use Rattle.sgb_numbers.proofs.scans.skip_like.Given as goal
+use Rattle.sgb_numbers.proofs.scans.like_by_vectors.Given as goal
 
 abbrev pub invariant-loop-place : goal.invariant-loop-place
 invariant-loop-place g l = record {

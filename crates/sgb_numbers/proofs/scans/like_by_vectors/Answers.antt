@@ -1,6 +1,6 @@
 use Rattle.std.proofs.Common.{arith, rules}
-use Rattle.sgb_numbers.proofs.Sixteen.{like_then, lanes_before, like_before, like_all}
-use Rattle.sgb_numbers.proofs.scans.skip_like.Goals as goal
+use Rattle.sgb_numbers.proofs.Sixteen.{like_then, lanes_before, like_before, like_all, lowest_set, unlike_lane}
+use Rattle.sgb_numbers.proofs.scans.like_by_vectors.Goals as goal
 
 pub overflow_add-result : goal.overflow_add-result
 overflow_add-result g c =
@@ -28,3 +28,12 @@ loop-place-preserved g c = record {
       (like_all g.T.PartialEq.eq c.args.number.now c.args.slice.now c.loop-place.place (omega arith) _ c.unlike-unlike.ensures
       (omega arith));
 }
+
+pub returns-then-unlike-ne0-clause-unlike : goal.returns-then-unlike-ne0-clause-unlike
+returns-then-unlike-ne0-clause-unlike g c before =
+    let eq = g.T.PartialEq.eq in
+    let number = c.args.number.now in
+    let xs = c.args.slice.now in
+    let place = c.loop-place.place in
+    let set = lowest_set eq number xs place (omega arith) _ c.unlike-unlike.ensures (omega arith) in
+    unlike_lane eq number xs place (omega arith) _ c.unlike-unlike.ensures _ set
