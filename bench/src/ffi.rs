@@ -31,6 +31,22 @@ writing! {
     exponential_by_key_mut_front exponential_by_key_mut_back
 }
 
+/// A walk over numbers of this type, as C has it.
+pub type Walk<T> = unsafe extern "C" fn(*const T, usize) -> usize;
+
+macro_rules! numbers {
+    ($($type:ident $front:ident $back:ident;)*) => { extern "C" {
+        $(pub fn $front(xs: *const $type, len: usize) -> usize; pub fn $back(xs: *const $type, len: usize) -> usize;)*
+    } };
+}
+
+numbers! {
+    u8 number_u8_front number_u8_back;
+    u32 number_u32_front number_u32_back;
+    u64 number_u64_front number_u64_back;
+    i32 number_i32_front number_i32_back;
+}
+
 extern "C" {
     pub fn text_front(bytes: *const u8, len: usize) -> usize;
     pub fn text_back(bytes: *const u8, len: usize) -> usize;

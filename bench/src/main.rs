@@ -85,6 +85,37 @@ fn writing(rounds: usize, what: &str, ours: ffi::Write, name: &str, peer: fn(&mu
     }
 }
 
+const NUMBER_LENGTHS: [Lengths; 6] = [
+    Lengths::Each(1),
+    Lengths::Around(8),
+    Lengths::Each(8),
+    Lengths::Around(100),
+    Lengths::Each(1000),
+    Lengths::Each(100_000),
+];
+
+/// Groups of equal numbers of one type, which are found by vectors; `of` makes a number of an even one that ascends.
+fn numbers<T: PartialEq>(rounds: usize, name: &str, of: fn(u32) -> T, walks: [ffi::Walk<T>; 2]) {
+    let peers: [(&str, &str, fn(&[T]) -> usize); 2] =
+        [("front", "`chunk_by`", peers::chunk_by_of), ("back", "`chunk_by(..).rev()`", peers::chunk_by_rev_of)];
+    for ((end, peer_name, peer), walk) in peers.into_iter().zip(walks) {
+        head(&format!("Linear by vectors, {name}, {end}"), "an element", peer_name);
+        for lengths in NUMBER_LENGTHS {
+            let xs: Vec<T> = slice(COUNT, lengths).into_iter().map(of).collect();
+            let ours = || unsafe { walk(xs.as_ptr(), xs.len()) };
+            assert_eq!(ours(), peer(&xs), "{name}");
+            row(&lengths.name(), COUNT, &in_turn(rounds, &mut [&mut || ours(), &mut || peer(&xs)]));
+        }
+    }
+}
+
+fn all_numbers(rounds: usize) {
+    numbers(rounds, "u8", |x| x as u8, [ffi::number_u8_front, ffi::number_u8_back]);
+    numbers(rounds, "u32", |x| x, [ffi::number_u32_front, ffi::number_u32_back]);
+    numbers(rounds, "u64", u64::from, [ffi::number_u64_front, ffi::number_u64_back]);
+    numbers(rounds, "i32", |x| x as i32, [ffi::number_i32_front, ffi::number_i32_back]);
+}
+
 /// The texts of a row: of characters of one byte, and of one to four.
 const KINDS: [(bool, &str); 2] = [(false, "ASCII"), (true, "one to four bytes a character")];
 
@@ -309,6 +340,7 @@ fn main() {
         writing(rounds, &format!("{name} for writing, front"), walks[0], "`chunk_by_mut`", peers[0]);
         writing(rounds, &format!("{name} for writing, back"), walks[1], "`chunk_by_mut(..).rev()`", peers[1]);
     }
+    all_numbers(rounds);
     texts(rounds);
     searches(rounds);
     joins(rounds);

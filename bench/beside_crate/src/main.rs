@@ -69,6 +69,21 @@ const TEXTS: [Walk<ffi::Text, fn(&str) -> usize>; 2] = walks! { &str,
     "Texts" text_front text_back linear_group();
 };
 
+/// Groups of equal numbers of one type, which the library finds by vectors; `of` makes a number of an even one that ascends.
+fn numbers<T: PartialEq>(rounds: usize, name: &str, of: fn(u32) -> T, walks: [ffi::Walk<T>; 2]) {
+    let peers: [(&str, fn(&[T]) -> usize); 2] =
+        [("front", |xs| lengths!(xs.linear_group())), ("back", |xs| lengths!(xs.linear_group().rev()))];
+    for ((end, theirs), walk) in peers.into_iter().zip(walks) {
+        head(&format!("Linear by vectors, {name}, {end}"), "an element");
+        for lengths in [1, 8, 1000, 100_000].map(Lengths::Each).into_iter().chain([8, 100].map(Lengths::Around)) {
+            let xs: Vec<T> = slice(COUNT, lengths).into_iter().map(of).collect();
+            let ours = || unsafe { walk(xs.as_ptr(), xs.len()) };
+            assert_eq!(ours(), theirs(&xs), "{name}");
+            row(&lengths.name(), COUNT, &in_turn(rounds, &mut [&mut || ours(), &mut || theirs(&xs)]));
+        }
+    }
+}
+
 fn head(what: &str, unit: &str) {
     println!("\n## {what}\n\nNanoseconds {unit}, beside the crate.\n");
     println!("| input | least | median | crate least | crate median | ratio, least | ratio, median |");
@@ -109,6 +124,10 @@ fn main() {
             row(&lengths.name(), COUNT, &in_turn(rounds, &mut [&mut ours, &mut || theirs(&mut ys)]));
         }
     }
+    numbers(rounds, "u8", |x| x as u8, [ffi::number_u8_front, ffi::number_u8_back]);
+    numbers(rounds, "u32", |x| x, [ffi::number_u32_front, ffi::number_u32_back]);
+    numbers(rounds, "u64", u64::from, [ffi::number_u64_front, ffi::number_u64_back]);
+    numbers(rounds, "i32", |x| x as i32, [ffi::number_i32_front, ffi::number_i32_back]);
     for (what, ours, theirs) in TEXTS {
         for (mixed, kind) in [(false, "ASCII"), (true, "one to four bytes a character")] {
             head(&format!("{what}, {kind}"), "a character");

@@ -12,7 +12,7 @@ use slice_group_by::{
     BinaryGroupMut, ExponentialGroup, ExponentialGroupBy, ExponentialGroupByKey,
     ExponentialGroupByKeyMut, ExponentialGroupByMut, ExponentialGroupMut, LinearGroup,
     LinearGroupBy, LinearGroupByKey, LinearGroupByKeyMut, LinearGroupByMut, LinearGroupMut,
-    LinearStrGroup, LinearStrGroupMut, MergeJoin, exponential_search,
+    LinearNumberGroup, LinearStrGroup, LinearStrGroupMut, MergeJoin, exponential_search,
 };
 
 macro_rules! lengths {
@@ -96,6 +96,46 @@ pub extern "C" fn linear_back(xs: &[u32]) -> usize {
 #[unsafe(no_mangle)]
 pub extern "C" fn linear_mut_back(xs: &mut [u32]) -> usize {
     lengths!(LinearGroupMut::new(xs).rev())
+}
+
+#[unsafe(no_mangle)]
+pub extern "C" fn number_u8_front(xs: &[u8]) -> usize {
+    lengths!(LinearNumberGroup::new(xs))
+}
+
+#[unsafe(no_mangle)]
+pub extern "C" fn number_u8_back(xs: &[u8]) -> usize {
+    lengths!(LinearNumberGroup::new(xs).rev())
+}
+
+#[unsafe(no_mangle)]
+pub extern "C" fn number_u32_front(xs: &[u32]) -> usize {
+    lengths!(LinearNumberGroup::new(xs))
+}
+
+#[unsafe(no_mangle)]
+pub extern "C" fn number_u32_back(xs: &[u32]) -> usize {
+    lengths!(LinearNumberGroup::new(xs).rev())
+}
+
+#[unsafe(no_mangle)]
+pub extern "C" fn number_u64_front(xs: &[u64]) -> usize {
+    lengths!(LinearNumberGroup::new(xs))
+}
+
+#[unsafe(no_mangle)]
+pub extern "C" fn number_u64_back(xs: &[u64]) -> usize {
+    lengths!(LinearNumberGroup::new(xs).rev())
+}
+
+#[unsafe(no_mangle)]
+pub extern "C" fn number_i32_front(xs: &[i32]) -> usize {
+    lengths!(LinearNumberGroup::new(xs))
+}
+
+#[unsafe(no_mangle)]
+pub extern "C" fn number_i32_back(xs: &[i32]) -> usize {
+    lengths!(LinearNumberGroup::new(xs).rev())
 }
 
 #[unsafe(no_mangle)]

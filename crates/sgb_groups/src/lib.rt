@@ -4,6 +4,7 @@
 
 pub mod by_equality;
 pub mod by_key;
+pub mod by_number;
 pub mod by_predicate;
 pub mod debug;
 pub mod group_end;

@@ -1,15 +1,11 @@
 //! Linear groups, found by a scan along the neighbouring pairs.
-ghost use Rattle.std.specs.Prelude.{ℕ, ◌+◌, ◌<◌, ◌≤◌, length, slice_range};
-ghost use Rattle.sgb_search.specs.Calls.{IsCallableBy};
-ghost use Rattle.sgb_search.specs.declared.end.End.TheVariants.{Front, Back};
-ghost use Rattle.sgb_search.specs.Judges.{IsRun};
-ghost use Rattle.sgb_search.specs.Linear.{questions};
-ghost use Rattle.sgb_search.specs.Split.{AreNeighbours};
+ghost use Rattle.std.specs.Prelude.{length};
 
 use sgb_groups::debug::{DebugNames, Names};
 use sgb_groups::group_end::GroupEnd;
 use sgb_groups::groups::SliceGroups;
 use sgb_groups::groups_mut::SliceGroupsMut;
+use sgb_numbers::number_judge::NumberJudge;
 use sgb_search::end::End;
 use sgb_search::judge::{EqualityJudge, Judge, KeyJudge, PredicateJudge};
 
@@ -23,6 +19,16 @@ use sgb_search::judge::{EqualityJudge, Judge, KeyJudge, PredicateJudge};
 /// groups.next_back(); // None
 /// ```
 pub type LinearGroup<'a, T> = LinearGroups<'a, T, EqualityJudge>;
+
+/// An iterator over the groups of equal numbers of a slice: the groups of `LinearGroup`, found by vectors, sixteen numbers at a
+/// time.
+///
+/// ```
+/// let mut groups = LinearNumberGroup::new(&[1, 1, 1, 3, 3, 2, 2, 2]);
+/// groups.next();      // Some([1, 1, 1])
+/// groups.next_back(); // Some([2, 2, 2])
+/// ```
+pub type LinearNumberGroup<'a, T> = LinearGroups<'a, T, NumberJudge>;
 
 /// An iterator over the groups of a slice by a predicate, which is asked about neighbours, the left one first.
 ///
@@ -56,6 +62,17 @@ pub type LinearGroupByKey<'a, T, F, K> = LinearGroups<'a, T, KeyJudge<F, K>>;
 /// ```
 pub type LinearGroupMut<'a, T> = LinearGroupsMut<'a, T, EqualityJudge>;
 
+/// An iterator over the groups of equal numbers of a slice for writing, found by vectors.
+///
+/// ```
+/// let mut array = [1, 1, 2, 3, 3];
+/// let mut groups = LinearNumberGroupMut::new(&mut array);
+/// if let Some(group) = groups.next() {
+///     group.fill(7); // array is [7, 7, 2, 3, 3]
+/// }
+/// ```
+pub type LinearNumberGroupMut<'a, T> = LinearGroupsMut<'a, T, NumberJudge>;
+
 /// An iterator over the groups of a slice by a predicate for writing. The predicate is asked about neighbours, the left one
 /// first, as they are when the call is made.
 ///
@@ -85,7 +102,7 @@ pub type LinearGroupByKeyMut<'a, T, F, K> = LinearGroupsMut<'a, T, KeyJudge<F, K
 /// A call asks about the neighbouring pairs of the remainder from its end on, the left element first from both ends, up
 /// to the first pair that the judge refuses. So a group of g elements costs g questions, or g - 1 if nothing remains after
 /// it. A list of calls asks about no pair twice. A call reads the elements that it asks about and no others, and so takes time
-/// by its questions.
+/// by its questions. `NumberJudge` alone answers for many pairs at once, and may read a vector beyond the group.
 pub type LinearGroups<'a, T, J> = SliceGroups<'a, T, J, Linear>;
 
 /// An iterator over the groups of a slice for writing, that asks what `LinearGroups` asks.
@@ -130,58 +147,10 @@ impl GroupEnd for Linear {
         judge: &mut J,
     ) -> usize {
         match end {
-            End::Front => first_len(slice, low, high, judge),
-            End::Back => last_len(slice, low, high, judge),
+            End::Front => judge.first_len(slice, low, high),
+            End::Back => judge.last_len(slice, low, high),
         }
     }
-}
-
-/// How many elements the first group has of the part of the slice from the place `low` up to, not including, `high`.
-#[inline]
-fn first_len<T, J: Judge<T>>(slice: &[T], low: usize, high: usize, judge: &mut J) -> usize
-    requires nonempty { low < high }
-    requires inside { high ≤ length slice.now }
-    requires callable { IsCallableBy AreNeighbours J.Judge
-        (record { remainder = slice_range slice.now low high; judge = judge.old }) }
-    ensures nonempty { 0 < result }
-    ensures within { low + result ≤ high }
-    ensures asked { IsRun J.may_ask J.answers judge.old (questions Front (slice_range slice.now low high) result) judge.new }
-{
-    let size = high - low;
-    let mut len = 1;
-    while len < size {
-        let next = low + len;
-        let together = judge.ask(&slice[next - 1], &slice[next]);
-        if !together {
-            return len;
-        }
-        len += 1;
-    }
-    len
-}
-
-/// How many elements the last group has of the part of the slice from the place `low` up to, not including, `high`.
-#[inline]
-fn last_len<T, J: Judge<T>>(slice: &[T], low: usize, high: usize, judge: &mut J) -> usize
-    requires nonempty { low < high }
-    requires inside { high ≤ length slice.now }
-    requires callable { IsCallableBy AreNeighbours J.Judge
-        (record { remainder = slice_range slice.now low high; judge = judge.old }) }
-    ensures nonempty { 0 < result }
-    ensures within { low + result ≤ high }
-    ensures asked { IsRun J.may_ask J.answers judge.old (questions Back (slice_range slice.now low high) result) judge.new }
-{
-    let size = high - low;
-    let mut len = 1;
-    while len < size {
-        let start = high - len;
-        let together = judge.ask(&slice[start - 1], &slice[start]);
-        if !together {
-            return len;
-        }
-        len += 1;
-    }
-    len
 }
 
 impl<P> DebugNames<PredicateJudge<P>> for Linear {

@@ -2,3 +2,4 @@
 pub mod LinearPairs
 pub mod LinearQueue
 pub mod Scanning
+pub mod ScannedParts

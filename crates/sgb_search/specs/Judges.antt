@@ -1,37 +1,15 @@
--- Runs of questions, and what judges may be asked and what they answer. A question is a pair: of a linear call the left element first, of a
--- binary or exponential one the outermost.
-use Rattle.std.specs.Prelude.{◌≡◌, ℕ, ◌+◌, ◌≤◌, Bool, true, List, [], ◌∷◌, length}
-use Rattle.std.specs.List.{AllByRecursion}
+-- What judges may be asked and what they answer. A question is a pair: of a linear call the left element first, of a binary or exponential
+-- one the outermost.
+use Rattle.std.specs.Prelude.{◌≡◌, ℕ, ◌+◌, ◌≤◌, Bool, true}
 use Rattle.std.specs.Borrow.{Bor}
 use Rattle.std.specs.Fn.{Takes, TakesAt, TakesAtTwo, Called, CalledAt, CalledAtTwo, AlwaysReturns, Mut}
+pub use Rattle.sgb_search.specs.Runs.{IsRun, IsRunOf, MayAskAll, AnswersBy}
 use Rattle.sgb_search.specs.declared.judge.Judge.{Ghosts}
 use Rattle.sgb_search.specs.declared.judge.PredicateJudge.{PredicateJudge}
 use Rattle.sgb_search.specs.declared.judge.KeyJudge.{KeyJudge}
 use Rattle.sgb_search.specs.declared.judge.CharPredicateJudge.{CharPredicateJudge}
 use Rattle.sgb_search.specs.declared.judge.CharKeyJudge.{CharKeyJudge}
 use Rattle.sgb_search.specs.declared.judge.EqualityJudge.{EqualityJudge}
-
--- A run speaks of the states of a judge, a comparator or a key function, and so holds of each call that its state can tell: code that is
--- generic in the judge is held to it by a judge that keeps a list of its calls.
-
--- may s q: in the state s the question q may be asked; gives s q a t: the answer may be a, and then the state is t
-module _ {S Q A : Type 0} (may : S → Q → Type 0) (gives : S → Q → A → S → Type 0) where
-  -- from s to t: each pair is a question and its answer, asked in the state in which the one before it ended, and allowed there
-  abbrev pub IsRun : S → List (Q × A) → S → Type 0
-  IsRun s [] t = t ≡ s
-  IsRun s (r ∷ rs) t = may s r.0 × ((u : S) × gives s r.0 r.1 u × IsRun u rs t)
-
-  -- some run of n questions leads from s to t
-  abbrev pub IsRunOf : ℕ → S → S → Type 0
-  IsRunOf n s t = (rs : List (Q × A)) × IsRun s rs t × (length rs ≡ n)
-
-  -- in every state that runs of allowed questions reach, each allowed question may be asked
-  abbrev pub MayAskAll : (Q → Type 0) → S → Type 0
-  MayAskAll allowed s = (rs : List (Q × A)) (t : S) → IsRun s rs t → AllByRecursion (λ r. allowed r.0) rs → (q : Q) → allowed q → may t q
-
-  -- each allowed question has the one answer, in every state that runs of allowed questions reach
-  pub record AnswersBy (allowed : Q → Type 0) (answer : Q → A) (s : S) : Type 0 where
-    pub at : (rs : List (Q × A)) (t : S) → IsRun s rs t → AllByRecursion (λ r. allowed r.0) rs → AllByRecursion (λ r. r.1 ≡ answer r.0) rs
 
 -- some number of questions was asked from q to r: at most what is due at q less what is due at r, and just that number where exact
 pub record AsksWithin {Q : Type 0} (asked : Q → Q → ℕ → Type 0) (due : Q → ℕ) (exact : Bool) (q r : Q) : Type 0 where

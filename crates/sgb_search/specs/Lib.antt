@@ -1,4 +1,6 @@
 pub mod Split
+pub mod Runs
+pub mod Questions
 pub mod Judges
 pub mod Calls
 pub mod Linear

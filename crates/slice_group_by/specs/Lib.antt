@@ -13,6 +13,7 @@ pub use Rattle.sgb_search.specs.Searching
 pub use Rattle.sgb_search.specs.Search
 pub use Rattle.sgb_search.specs.Ranges
 pub use Rattle.sgb_search.specs.Seams
+pub use Rattle.sgb_numbers.specs.Numbers
 pub use Rattle.sgb_groups.specs.Gives
 pub use Rattle.sgb_linear_str_group.specs.Texts
 pub use Rattle.sgb_linear_str_group.specs.TextsMut

@@ -3,7 +3,7 @@ ghost use Rattle.std.specs.Prelude.{◌≡◌, map, nat_eq, IfOk};
 ghost use Rattle.slice_group_by.specs.Split.{split};
 ghost use Rattle.program_parts.specs.run_length_coder.Runs.{copies, decoded};
 
-use slice_group_by::LinearGroup;
+use slice_group_by::LinearNumberGroup;
 use slice_group_by::laws::{equal_pieces_are_copies, one_split, sees_pieces};
 use std::alloc::{AllocError, Global};
 use std::{fmt, iter};
@@ -26,7 +26,7 @@ pub fn encode(alloc: Global, bytes: &[u8]) -> Result<Vec<Run>, AllocError>
     ensures decodes { IfOk result (λ runs. decoded runs.items ≡ bytes.now) }
     ensures longest { IfOk result (λ runs. map copies runs.items ≡ split nat_eq bytes.now) }
 {
-    let groups = LinearGroup::new(bytes);
+    let groups = LinearNumberGroup::new(bytes);
     sees_pieces(&groups);
     one_split::<u8>();
     equal_pieces_are_copies::<u8>();

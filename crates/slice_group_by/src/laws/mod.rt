@@ -41,7 +41,7 @@ pub use counts::{
     calls_ask, comparisons_count, key_calls_count, linear_counts, mapped_calls_ask,
     questions_count, range_calls_count, search_asks,
 };
-pub use families::{chunk_by_agrees, families_agree, groups_end_locally};
+pub use families::{chunk_by_agrees, families_agree, groups_end_locally, numbers_agree};
 pub use judged::{Judged, Lends, OfText};
 pub use pieces::{
     equal_pieces_are_copies, partitioned_pieces, pieces_add_up, pieces_begin_as_dedup,
@@ -51,6 +51,7 @@ pub use plans::{Plan, refute};
 use queue::GroupQueue;
 pub use ranks::rank_groups;
 use sgb_linear_group::linear_group::Linear;
+pub use sgb_numbers::laws::number_judges;
 use sgb_search::judge::Judge;
 pub use sgb_search::laws::{
     always_callable, always_callable_apart, always_callable_char_key, always_callable_chars,

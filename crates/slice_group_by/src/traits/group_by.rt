@@ -3,6 +3,7 @@ ghost use Rattle.std.specs.Prelude.{◌≡◌, Bool};
 ghost use Rattle.sgb_search.specs.Calls.{ComputesBy, IsCallableBy};
 ghost use Rattle.std.specs.Fn.{ComputesOnPairs, ComputesKey};
 ghost use Rattle.sgb_search.specs.Judges.{by_predicate, predicate_judge, by_key, key_judge, by_equality};
+ghost use Rattle.sgb_numbers.specs.Numbers.{by_number};
 ghost use Rattle.sgb_search.specs.Split.{IsGrouped, AreApart, AreNeighbours};
 ghost use Rattle.sgb_search.specs.Linear.{IsSettled};
 ghost use Rattle.sgb_search.specs.Searching.{IsSettledApart};
@@ -13,7 +14,10 @@ use sgb_binary_group::binary_group::{BinaryGroup, BinaryGroupBy, BinaryGroupByKe
 use sgb_exponential_group::exponential_group::{
     ExponentialGroup, ExponentialGroupBy, ExponentialGroupByKey,
 };
-use sgb_linear_group::linear_group::{LinearGroup, LinearGroupBy, LinearGroupByKey};
+use sgb_linear_group::linear_group::{
+    LinearGroup, LinearGroupBy, LinearGroupByKey, LinearNumberGroup,
+};
+use sgb_numbers::lanes::Lanes;
 
 /// Groups of neighbouring elements, for reading.
 ///
@@ -69,6 +73,18 @@ pub trait GroupBy<T>: Elements<T> {
         ensures settled { IsSettled (by_equality T.eq) (groups_of result) T.eq }
     {
         LinearGroup::new(self.as_slice())
+    }
+
+    /// Groups of equal numbers, found by vectors: those of `linear_group`.
+    #[inline]
+    fn linear_number_group(&self) -> LinearNumberGroup<'_, T>
+    where
+        T: Lanes,
+        ensures remainder { (groups_of result).remainder ≡ Self.items self.now }
+        ensures callable { IsCallableBy AreNeighbours (by_number T.eq) (groups_of result) }
+        ensures settled { IsSettled (by_number T.eq) (groups_of result) T.eq }
+    {
+        LinearNumberGroup::new(self.as_slice())
     }
 
     /// Groups by a key, found by halving: equal keys should stand side by side.

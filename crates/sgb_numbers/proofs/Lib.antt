@@ -1,0 +1,4 @@
+mod Sixteen
+mod SignedBits
+mod Neighbours
+pub mod Judged

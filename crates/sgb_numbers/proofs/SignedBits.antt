@@ -1,0 +1,39 @@
+-- A signed number that fits its type, and the bits that a vector holds of it.
+use Rattle.std.proofs.Common.{◌≡◌, ℕ, ◌+◌, ◌-◌, ◌%◌, ◌^◌, ◌<◌, ◌≤◌, not, cond, List, [], ◌∷◌, length, map, get_or, replicate, eqb, int_eq, ℤ, of_z, to_z, refl, sym, ap, ap₂, ◌∙◌, arith, inl, inr}
+use Rattle.std.proofs.lemmas.Bool.{eqb-true, eq-eqb, false_from_ne_true, cases_Bool, false≢true}
+use Rattle.std.proofs.lemmas.Bool.Decides.{Decides-int_eq}
+use Rattle.std.proofs.lemmas.Int.{to_z-of_z}
+use Rattle.std.proofs.lemmas.List.{length-map}
+use Rattle.std.proofs.lemmas.Simd.{map-map, length-chunk, get_or-chunk, bitmask_splat, Each1-from_get_or}
+use Rattle.std.specs.Int.{Width}
+use Rattle.std.specs.Int.RustNames.{FitsSigned}
+use Rattle.std.specs.Simd.Lanes.{Each1, zip2, chunk, mask_l, top}
+use mir.Val.{bits, hbits}
+
+module _ (w : Width) (e : ℤ) (here : FitsSigned w e) where
+  same_bits : (x : ℤ) → FitsSigned w x → not (eqb (of_z w x) (of_z w e)) ≡ not (int_eq x e)
+  same_bits x there =
+      let back = λ (same : of_z w x ≡ of_z w e). sym (to_z-of_z w x there) ∙ ap (to_z w) same ∙ to_z-of_z w e here in
+      elim (cases_Bool (int_eq x e)) [
+        | inl alike ↦ ap not (eq-eqb (of_z w x) (of_z w e) (ap (of_z w) ((Decides-int_eq x e).0 alike)) ∙ sym alike)
+        | inr apart ↦ ap not
+            (false_from_ne_true _ (λ equal. false≢true (sym apart ∙ (Decides-int_eq x e).1 (back (eqb-true (of_z w x) (of_z w e) equal))))
+            ∙ sym apart)
+      ]
+
+  all_bits : (xs : List ℤ) → Each1 (FitsSigned w) xs → map (λ x. not (eqb (of_z w x) (of_z w e))) xs ≡ map (λ x. not (int_eq x e)) xs
+  all_bits [] fits = refl
+  all_bits (x ∷ xs) fits = ap₂ (λ b bs. b ∷ bs) (same_bits x fits.0) (all_bits xs fits.1)
+
+  -- the mask of sixteen signed numbers
+  pub signed_mask : (xs : List ℤ) (at : ℕ) → at + 16 ≤ length xs
+      → ((k : ℕ) (d : ℤ) → at ≤ k → k < at + 16 → FitsSigned w (get_or xs k d))
+      → mask_l (map (top (hbits w)) (zip2 (λ a b. cond (not (eqb a b)) (2 ^ bits w - 1) 0) (map (of_z w) (chunk at 16 xs)) (replicate 16 (of_z w e)))) % 2 ^ 64
+      ≡ mask_l (map (λ x. not (int_eq x e)) (chunk at 16 xs))
+  signed_mask xs at room fits =
+      let v = chunk at 16 xs in
+      let long = length-chunk at 16 xs room in
+      let each = Each1-from_get_or (FitsSigned w) v e
+      (λ i l. rw (get_or-chunk at 16 xs i e (omega arith)) (fits (at + i) e (omega arith) (omega arith))) in
+      bitmask_splat w (λ a b. not (eqb a b)) (map (of_z w) v) 16 (of_z w e) (length-map v (of_z w) ∙ long) (omega arith)
+      ∙ ap mask_l (map-map (λ x. not (eqb x (of_z w e))) (of_z w) v ∙ all_bits v each)

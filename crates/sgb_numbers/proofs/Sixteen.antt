@@ -1,0 +1,100 @@
+-- From the mask of sixteen elements to the elements.
+use Rattle.std.proofs.Common.{◌≡◌, ℕ, suc, ◌+◌, ◌-◌, ◌*◌, ◌/◌, ◌%◌, ◌^◌, ◌<◌, ◌≤◌, cond, pow_mono, Bool, true, false, not, inl, inr, w64, List, length, map, get_or, ap, ◌∙◌, subst, sym, arith, ⊎_elim}
+use Rattle.std.proofs.lemmas.Bool.{not-false, not-true, cases_lt, cases_Bool, cond-true, cond-false, false_from_ne_true}
+use Rattle.std.proofs.lemmas.Simd.{length-chunk, get_or-chunk, bit_mask_l, mask_l-lt, trailing_mask_l, run_in_chunk_le, run_in_chunk_fails, none_from_empty_mask}
+use Rattle.std.proofs.lemmas.List.{get_or-map, length-map}
+use Rattle.std.proofs.Math.Nat.{div-eq_of_lt, div-eq_of_lt-le, two-pow-succ}
+use Rattle.std.proofs.lemmas.Nat.Bits.{bit_at-trailing_zeros}
+use Rattle.std.specs.List.{prefix_len}
+use Rattle.std.specs.Simd.Lanes.{mask_l, chunk}
+use lib.Count.{count_trailing_zeros}
+use Rattle.sgb_numbers.specs.Alike.{AreLike}
+
+-- after a stretch of like elements another
+pub like_then : {T : Type 0} (eq : T → T → Bool) (e : T) (xs : List T) (i j k : ℕ) → AreLike eq e xs i j → AreLike eq e xs j k
+    → AreLike eq e xs i k
+like_then eq e xs i j k front back =
+    record { at = λ n low high. ⊎_elim (λ below. front.at n low below) (λ from. back.at n from high) (cases_lt n j) }
+
+module _ {T : Type 0} (eq : T → T → Bool) (e : T) (xs : List T) (at : ℕ) (room : at + 16 ≤ length xs) (m : ℕ)
+    (mask : m ≡ mask_l (map (λ y. not (eq y e)) (chunk at 16 xs))) where
+  abbrev differs : T → Bool
+  differs y = not (eq y e)
+
+  abbrev lanes : List T
+  lanes = chunk at 16 xs
+
+  long : length (map differs lanes) ≡ 16
+  long = length-map lanes differs ∙ length-chunk at 16 xs room
+
+  lane_read : (k : ℕ) → k < 16 → get_or (map differs lanes) k false ≡ differs (get_or lanes k e)
+  lane_read k few = get_or-map differs lanes k e false (omega (arith, length-chunk at 16 xs room))
+
+  counted : 0 < m → count_trailing_zeros 64 m ≡ prefix_len (λ y. not (differs y)) (chunk at 16 xs)
+  counted some =
+      ap (count_trailing_zeros 64) mask
+      ∙ trailing_mask_l differs 64 (chunk at 16 xs) (omega (arith, length-chunk at 16 xs room)) (omega arith)
+
+  pub lanes_before : 0 < m → count_trailing_zeros 64 m ≤ 16
+  lanes_before some = run_in_chunk_le differs xs at 16 _ e room (counted some)
+
+  pub like_before : 0 < m → AreLike eq e xs at (at + count_trailing_zeros 64 m)
+  like_before some =
+      record { at = λ k low high. not-false _ (run_in_chunk_fails differs xs at 16 _ e room (counted some) k low high) }
+
+  pub like_all : m ≡ 0 → AreLike eq e xs at (at + 16)
+  like_all none =
+      record { at = λ k low high. not-false _ (none_from_empty_mask differs xs at 16 e room (sym mask ∙ none) k low high) }
+
+  -- a bit that is set
+  module _ (i : ℕ) (set : m / 2 ^ i % 2 ≡ 1) where
+    pub lane_below : i < 16
+    lane_below =
+        let small : m < 2 ^ 16 = subst (λ n. m < 2 ^ n) long (omega (arith, mask_l-lt (map differs lanes))) in
+        ⊎_elim (λ l. l) (λ l.
+        let clear = ap (λ x. x % 2) (div-eq_of_lt {n = m} {m = 2 ^ i} (omega (arith, small, pow_mono {i = 16} {j = i} l))) in
+        absurd (omega (arith, set, clear))) (cases_lt i 16)
+
+    pub unlike_lane : eq (get_or xs (at + i) e) e ≡ false
+    unlike_lane =
+        let bit : cond (get_or (map differs lanes) i false) 1 0 ≡ 1 =
+        sym (bit_mask_l (map differs lanes) i) ∙ ap (λ n. n / 2 ^ i % 2) (sym mask) ∙ set in
+        let marked : get_or (map differs lanes) i false ≡ true =
+        elim (cases_Bool (get_or (map differs lanes) i false)) [
+          | inl marks ↦ marks
+          | inr clear ↦ absurd (omega (arith, bit, cond-false {A = ℕ} (get_or (map differs lanes) i false) 1 0 clear))
+        ] in
+        not-true _ (ap differs (sym (get_or-chunk at 16 xs i e lane_below)) ∙ sym (lane_read i lane_below) ∙ marked)
+
+  -- the lowest bit that is set
+  pub lowest_set : 0 < m → m / 2 ^ count_trailing_zeros 64 m % 2 ≡ 1
+  lowest_set some =
+      let small : m < 2 ^ 16 = subst (λ n. m < 2 ^ n) long (omega (arith, mask_l-lt (map differs lanes))) in
+      (bit_at-trailing_zeros w64 m some (omega arith)).1
+
+  -- r: the highest bit that is set
+  module _ (r : ℕ) (least : 2 ^ r ≤ m) (most : m < 2 * 2 ^ r) where
+    pub highest_set : m / 2 ^ r % 2 ≡ 1
+    highest_set = ap (λ x. x % 2) (div-eq_of_lt-le {k = 1} (2 ^ r) {m = m} (omega arith) (omega arith))
+
+    clear_above : (k : ℕ) → r < k → m / 2 ^ k % 2 ≡ 0
+    clear_above k l =
+        let a : m < 2 ^ k = omega (arith, two-pow-succ r, pow_mono {i = suc r} {j = k} (omega arith)) in
+        ap (λ x. x % 2) (div-eq_of_lt a)
+
+    lane_above : (k : ℕ) → r < k → k < 16 → differs (get_or xs (at + k) e) ≡ false
+    lane_above k l few =
+        let bit : cond (get_or (map differs lanes) k false) 1 0 ≡ 0 =
+        sym (bit_mask_l (map differs lanes) k) ∙ ap (λ n. n / 2 ^ k % 2) (sym mask) ∙ clear_above k l in
+        let unset : get_or (map differs lanes) k false ≡ false =
+        false_from_ne_true _ (λ set. absurd (omega (arith, bit, cond-true {A = ℕ} (get_or (map differs lanes) k false) 1 0 set))) in
+        ap differs (sym (get_or-chunk at 16 xs k e few)) ∙ sym (lane_read k few) ∙ unset
+
+    pub like_after : AreLike eq e xs (at + suc r) (at + 16)
+    like_after =
+        record {
+          at =
+              λ k low high.
+              let back : at + (k - at) ≡ k = omega arith in
+              not-false _ (subst (λ n. differs (get_or xs n e) ≡ false) back (lane_above (k - at) (omega arith) (omega arith)));
+        }

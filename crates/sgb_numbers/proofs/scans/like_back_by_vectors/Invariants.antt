@@ -1,0 +1,13 @@
+use Rattle.std.proofs.Common.{◌≤◌}
+use Rattle.sgb_numbers.specs.Alike.{AreLike}
+use Rattle.sgb_numbers.proofs.scans.like_back_by_vectors.Given as goal
+
+abbrev pub invariant-loop-place : goal.invariant-loop-place
+invariant-loop-place g l = record {
+  low : l.low ≤ l.place;
+  high : l.place ≤ l.high;
+  like : AreLike g.T.PartialEq.eq l.number l.slice l.place l.high;
+}
+
+abbrev pub decreases-loop-place : goal.decreases-loop-place
+decreases-loop-place g l = l.place

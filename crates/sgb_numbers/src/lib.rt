@@ -1,0 +1,8 @@
+//! Numbers compared by vectors, sixteen at a time, and the judge of equal numbers.
+#![tactic(auto)]
+
+pub mod lanes;
+pub mod laws;
+pub mod number_judge;
+mod scans;
+mod signed;

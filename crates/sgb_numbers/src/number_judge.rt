@@ -1,0 +1,33 @@
+//! The judge of equal numbers.
+use crate::lanes::Lanes;
+use crate::scans::{first_like, last_like};
+use sgb_search::judge::Judge;
+
+/// Asks `==` of numbers, and answers for many neighbouring pairs at once. It may always be asked.
+///
+/// Its answers are those of `==`. It counts nothing: how often it compares, no contract says.
+#[derive(Drop)]
+pub struct NumberJudge {}
+
+impl<T: Lanes> Judge<T> for NumberJudge {
+    ghost use Rattle.sgb_numbers.specs.Numbers.{by_number};
+
+    ghost may_ask = { (by_number T.eq).may_ask };
+
+    ghost answers = { (by_number T.eq).answers };
+
+    #[inline]
+    fn ask(&mut self, first: &T, second: &T) -> bool {
+        first == second
+    }
+
+    #[inline]
+    fn first_len(&mut self, slice: &[T], low: usize, high: usize) -> usize {
+        first_like(slice, low, high)
+    }
+
+    #[inline]
+    fn last_len(&mut self, slice: &[T], low: usize, high: usize) -> usize {
+        last_like(slice, low, high)
+    }
+}

@@ -1,0 +1,124 @@
+//! How many elements at an end of a part of a slice are equal to the one there. A number is compared with the one at the end, and
+//! not with its neighbour: equality is symmetric and transitive, so that the two say the same.
+ghost use Rattle.std.specs.Prelude.{◌≡◌, ◌+◌, ◌-◌, ◌<◌, ◌≤◌, false, length, slice_index_or};
+ghost use Rattle.sgb_numbers.specs.Alike.{AreLike, IsFirstLen, IsLastLen};
+
+use crate::lanes::Lanes;
+
+// So many are compared one by one first: groups are often as short. A part with less than a vector after these has no other.
+const NEAR: usize = 9;
+
+/// How many elements from the place `low` on are equal to the one there, before the place `high`.
+#[inline]
+pub(crate) fn first_like<T: Lanes>(slice: &[T], low: usize, high: usize) -> usize
+    requires nonempty { low < high }
+    requires inside { high ≤ length slice.now }
+    ensures { IsFirstLen T.eq slice.now low high result }
+{
+    let number = &slice[low];
+    if high - low < NEAR + 16 {
+        return like_from(number, slice, low, 1, high - low);
+    }
+    let near = like_from(number, slice, low, 1, NEAR);
+    if near < NEAR {
+        return near;
+    }
+    like_by_vectors(number, slice, low + NEAR, high) - low
+}
+
+/// How many elements from the place `low` on are equal to the number, `most` at most, where the first `len` are.
+#[inline]
+fn like_from<T: PartialEq>(number: &T, slice: &[T], low: usize, len: usize, most: usize) -> usize
+    requires order { len ≤ most }
+    requires inside { low + most ≤ length slice.now }
+    ensures low { len ≤ result }
+    ensures high { result ≤ most }
+    ensures like { AreLike T.eq number.now slice.now (low + len) (low + result) }
+    ensures unlike { result < most → T.eq (slice_index_or slice.now (low + result) number.now) number.now ≡ false }
+{
+    let mut all = len;
+    while all < most && slice[low + all] == *number {
+        all += 1;
+    }
+    all
+}
+
+/// The first place from `low` on whose element is not equal to the number, or `high`: by vectors, and one by one where less than a
+/// vector is left.
+#[inline]
+fn like_by_vectors<T: Lanes>(number: &T, slice: &[T], low: usize, high: usize) -> usize
+    requires order { low ≤ high }
+    requires inside { high ≤ length slice.now }
+    ensures low { low ≤ result }
+    ensures high { result ≤ high }
+    ensures like { AreLike T.eq number.now slice.now low result }
+    ensures unlike { result < high → T.eq (slice_index_or slice.now result number.now) number.now ≡ false }
+{
+    let mut place = low;
+    while 16 <= high - place {
+        let unlike = T::unlike(number, slice, place);
+        if unlike != 0 {
+            return place + unlike.trailing_zeros() as usize;
+        }
+        place += 16;
+    }
+    place + like_from(number, slice, place, 0, high - place)
+}
+
+/// How many elements up to the last before the place `high` are equal to that one, from the place `low` on.
+#[inline]
+pub(crate) fn last_like<T: Lanes>(slice: &[T], low: usize, high: usize) -> usize
+    requires nonempty { low < high }
+    requires inside { high ≤ length slice.now }
+    ensures { IsLastLen T.eq slice.now low high result }
+{
+    let number = &slice[high - 1];
+    if high - low < NEAR + 16 {
+        return like_upto(number, slice, high, 1, high - low);
+    }
+    let near = like_upto(number, slice, high, 1, NEAR);
+    if near < NEAR {
+        return near;
+    }
+    high - like_back_by_vectors(number, slice, low, high - NEAR)
+}
+
+/// How many last elements before the place `high` are equal to the number, `most` at most, where the last `len` are.
+#[inline]
+fn like_upto<T: PartialEq>(number: &T, slice: &[T], high: usize, len: usize, most: usize) -> usize
+    requires order { len ≤ most }
+    requires room { most ≤ high }
+    requires inside { high ≤ length slice.now }
+    ensures low { len ≤ result }
+    ensures high { result ≤ most }
+    ensures like { AreLike T.eq number.now slice.now (high - result) (high - len) }
+    ensures unlike { result < most → T.eq (slice_index_or slice.now (high - result - 1) number.now) number.now ≡ false }
+{
+    let mut all = len;
+    while all < most && slice[high - all - 1] == *number {
+        all += 1;
+    }
+    all
+}
+
+/// The place behind the last element before `high` that is not equal to the number, or `low`: by vectors, and one by one where
+/// less than a vector is left.
+#[inline]
+fn like_back_by_vectors<T: Lanes>(number: &T, slice: &[T], low: usize, high: usize) -> usize
+    requires order { low ≤ high }
+    requires inside { high ≤ length slice.now }
+    ensures low { low ≤ result }
+    ensures high { result ≤ high }
+    ensures like { AreLike T.eq number.now slice.now result high }
+    ensures unlike { low < result → T.eq (slice_index_or slice.now (result - 1) number.now) number.now ≡ false }
+{
+    let mut place = high;
+    while 16 <= place - low {
+        let unlike = T::unlike(number, slice, place - 16);
+        if unlike != 0 {
+            return place - 15 + unlike.ilog2() as usize;
+        }
+        place -= 16;
+    }
+    place - like_upto(number, slice, place, 0, place - low)
+}
