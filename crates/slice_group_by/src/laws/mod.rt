@@ -51,6 +51,10 @@ pub use plans::{Plan, refute};
 use queue::GroupQueue;
 pub use ranks::rank_groups;
 use sgb_linear_group::linear_group::Linear;
+pub use sgb_merge_join::laws::{
+    always_compares, merge_is_unique, merge_parts_join, merges_ask, merges_count, merges_exist,
+    merges_may_go_on, parts_or_empty, sees_merge, sees_merge_by_keys, semi_joins_are_filters,
+};
 use sgb_search::judge::Judge;
 pub use sgb_search::laws::{
     always_callable, always_callable_apart, always_callable_char_key, always_callable_chars,
