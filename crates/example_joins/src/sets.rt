@@ -1,9 +1,8 @@
 //! Sets of numbers, as slices that ascend strictly.
 ghost use Rattle.std.specs.Prelude.{◌≡◌, ◌↔◌, ℕ, not, ◌⊎◌, IfOk};
 ghost use Rattle.std.specs.List.{Contains, filter};
-ghost use Rattle.std.specs.List.Sorted.{IsStrictlySortedBy};
 ghost use Rattle.std.specs.Ordering.{nat_cmp};
-ghost use Rattle.slice_group_by.specs.JoinKinds.{has_partner};
+ghost use Rattle.slice_group_by.specs.JoinKinds.{AlwaysAscends, has_partner};
 
 use slice_group_by::MergeJoinBy;
 use slice_group_by::laws::{sees_merge_in_order, semi_joins_are_filters, unions_ascend};
@@ -11,9 +10,9 @@ use std::alloc::{AllocError, Global};
 
 /// The numbers that stand on the left or on the right.
 pub fn union(alloc: Global, left: &[u32], right: &[u32]) -> Result<Vec<u32>, AllocError>
-    requires left { IsStrictlySortedBy nat_cmp left.now }
-    requires right { IsStrictlySortedBy nat_cmp right.now }
-    ensures ascends { IfOk result (λ v. IsStrictlySortedBy nat_cmp v.items) }
+    requires left { AlwaysAscends nat_cmp left.now }
+    requires right { AlwaysAscends nat_cmp right.now }
+    ensures ascends { IfOk result (λ v. AlwaysAscends nat_cmp v.items) }
     ensures all { IfOk result (λ v. (x : ℕ) → Contains v.items x ↔ (Contains left.now x ⊎ Contains right.now x)) }
 {
     unions_ascend::<u32>();
@@ -24,8 +23,8 @@ pub fn union(alloc: Global, left: &[u32], right: &[u32]) -> Result<Vec<u32>, All
 
 /// The numbers that stand on the left and on the right.
 pub fn intersection(alloc: Global, left: &[u32], right: &[u32]) -> Result<Vec<u32>, AllocError>
-    requires left { IsStrictlySortedBy nat_cmp left.now }
-    requires right { IsStrictlySortedBy nat_cmp right.now }
+    requires left { AlwaysAscends nat_cmp left.now }
+    requires right { AlwaysAscends nat_cmp right.now }
     ensures { IfOk result (λ v. v.items ≡ filter (has_partner nat_cmp right.now) left.now) }
 {
     unions_ascend::<u32>();
@@ -39,8 +38,8 @@ pub fn intersection(alloc: Global, left: &[u32], right: &[u32]) -> Result<Vec<u3
 
 /// The numbers that stand on the left and not on the right.
 pub fn difference(alloc: Global, left: &[u32], right: &[u32]) -> Result<Vec<u32>, AllocError>
-    requires left { IsStrictlySortedBy nat_cmp left.now }
-    requires right { IsStrictlySortedBy nat_cmp right.now }
+    requires left { AlwaysAscends nat_cmp left.now }
+    requires right { AlwaysAscends nat_cmp right.now }
     ensures { IfOk result (λ v. v.items ≡ filter (λ x. not (has_partner nat_cmp right.now x)) left.now) }
 {
     unions_ascend::<u32>();
@@ -57,10 +56,10 @@ pub fn union_of_three(
     second: &[u32],
     third: &[u32],
 ) -> Result<Vec<u32>, AllocError>
-    requires first { IsStrictlySortedBy nat_cmp first.now }
-    requires second { IsStrictlySortedBy nat_cmp second.now }
-    requires third { IsStrictlySortedBy nat_cmp third.now }
-    ensures ascends { IfOk result (λ v. IsStrictlySortedBy nat_cmp v.items) }
+    requires first { AlwaysAscends nat_cmp first.now }
+    requires second { AlwaysAscends nat_cmp second.now }
+    requires third { AlwaysAscends nat_cmp third.now }
+    ensures ascends { IfOk result (λ v. AlwaysAscends nat_cmp v.items) }
     ensures all { IfOk result
         (λ v. (x : ℕ) → Contains v.items x ↔ (Contains first.now x ⊎ Contains second.now x ⊎ Contains third.now x)) }
 {

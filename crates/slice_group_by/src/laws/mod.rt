@@ -35,7 +35,7 @@ pub mod sorted;
 pub mod texts;
 
 pub use crate::join::{
-    joins_may_go_on, pairs_ascend, pairs_match, partners_are_unique, sees_pairs,
+    joins_may_go_on, merges_agree, pairs_ascend, pairs_match, partners_are_unique, sees_pairs,
 };
 pub use counts::{
     calls_ask, comparisons_count, key_calls_count, linear_counts, mapped_calls_ask,

@@ -1,6 +1,5 @@
 use Rattle.std.proofs.Common.{rules, refl, sym, subst, flat_map, IfOk, ◌≡◌, ◌⊎◌, inl, inr, List, ℕ, ◌<◌}
 use Rattle.std.specs.List.{Contains}
-use Rattle.std.specs.List.Sorted.{IsStrictlySortedBy}
 use Rattle.std.specs.Ordering.{nat_cmp, MatchOrdering}
 use Rattle.std.specs.declared.cmp.Ordering.TheVariants.{Equal}
 use Rattle.std.proofs.lemmas.Fn.{always_returns_same}
@@ -11,7 +10,7 @@ use Rattle.std.proofs.lemmas.Cmp.{ranked}
 use Rattle.std.proofs.lemmas.Result.{IfOk-weaker}
 use Rattle.slice_group_by.specs.EitherOrBoth.{EitherOrBoth}
 use Rattle.slice_group_by.specs.Merge.{IsMerge}
-use Rattle.slice_group_by.specs.JoinKinds.{once}
+use Rattle.slice_group_by.specs.JoinKinds.{AlwaysAscends, once}
 use Rattle.example_joins.proofs.sets.union.Goals as goal
 
 -- all parts of the merge, of which the vector has each element once
@@ -34,7 +33,7 @@ seen c =
 pub returns-clause-ascends : goal.returns-clause-ascends
 returns-clause-ascends c =
     let k = seen c in
-    IfOk-weaker c.collect.result _ _ (λ v e. subst (IsStrictlySortedBy nat_cmp) (sym e)
+    IfOk-weaker c.collect.result _ _ (λ v e. subst (AlwaysAscends nat_cmp) (sym e)
     (c.unions_ascend.ensures.strictly c.args.left.now c.args.right.now k.0 c.requires.left c.requires.right k.1)) k.2
 
 -- what is equal to a number is that number
