@@ -174,14 +174,30 @@ fn searches(rounds: usize) {
 }
 
 fn joins(rounds: usize) {
-    head("Merge join", "an element of the longer side", "a linear merge");
-    let many: Vec<u32> = (0..1_000_000).collect();
-    let few: Vec<u32> = (0..10).map(|x| 100_000 * x + 7).collect();
-    for (name, left) in [("10 keys against 10^6 elements", &few), ("10^6 against 10^6", &many)] {
-        let ours = || unsafe { ffi::merge_join(left.as_ptr(), left.len(), many.as_ptr(), many.len()) };
-        assert_eq!(ours(), peers::linear_merge(left, &many));
-        row(name, many.len(), &in_turn(rounds.min(15), &mut [&mut || ours(), &mut || peers::linear_merge(left, &many)]));
+    let ours: [(&str, ffi::Join); 2] =
+        [("Merge join", ffi::merge_join), ("Merge join by a comparator", ffi::merge_join_by)];
+    for (what, join) in ours {
+        head(what, "an element of the longer side", "a linear merge");
+        for (name, left, right) in sides() {
+            let ours = || unsafe { join(left.as_ptr(), left.len(), right.as_ptr(), right.len()) };
+            assert_eq!(ours(), peers::linear_merge(&left, &right));
+            row(name, right.len(), &in_turn(rounds.min(15), &mut [&mut || ours(), &mut || peers::linear_merge(&left, &right)]));
+        }
     }
+}
+
+/// The two sides of each join that is timed.
+fn sides() -> [(&'static str, Vec<u32>, Vec<u32>); 5] {
+    let many: Vec<u32> = (0..1_000_000).collect();
+    let keys = |count: u32| (0..count).map(|x| 1_000_000 / count * x + 7).collect();
+    let eights = slice(1_000_000, Lengths::Each(8));
+    [
+        ("10 keys against 10^6 elements", keys(10), many.clone()),
+        ("1000 keys against 10^6", keys(1_000), many.clone()),
+        ("100000 keys against 10^6", keys(100_000), many.clone()),
+        ("10^6 against 10^6, groups of 1", many.clone(), many),
+        ("10^6 against 10^6, groups of 8", eights.clone(), eights),
+    ]
 }
 
 /// Time an element from 10^3 to 10^7 elements, in groups of eight, and of one; and the same of texts in groups of one character.

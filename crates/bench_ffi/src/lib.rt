@@ -12,7 +12,8 @@ use slice_group_by::{
     BinaryGroupMut, ExponentialGroup, ExponentialGroupBy, ExponentialGroupByKey,
     ExponentialGroupByKeyMut, ExponentialGroupByMut, ExponentialGroupMut, LinearGroup,
     LinearGroupBy, LinearGroupByKey, LinearGroupByKeyMut, LinearGroupByMut, LinearGroupMut,
-    LinearNumberGroup, LinearStrGroup, LinearStrGroupMut, MergeJoin, exponential_search,
+    LinearNumberGroup, LinearStrGroup, LinearStrGroupMut, MergeJoin, MergeJoinBy,
+    exponential_search,
 };
 
 macro_rules! lengths {
@@ -346,6 +347,19 @@ pub extern "C" fn merge_join(left: &[u32], right: &[u32]) -> usize {
     for (group, partner) in MergeJoin::new(left, itself, right, itself) {
         sum = sum.wrapping_mul(31).wrapping_add(group.len());
         sum = sum.wrapping_mul(31).wrapping_add(partner.len());
+    }
+    sum
+}
+
+/// The lengths of the parts of both sides of a join of them by a comparator.
+#[unsafe(no_mangle)]
+pub extern "C" fn merge_join_by(left: &[u32], right: &[u32]) -> usize {
+    let mut sum = 0usize;
+    for part in MergeJoinBy::new(left, right, |x: &u32, y: &u32| x.cmp(y)) {
+        if let Some((group, partner)) = part.both() {
+            sum = sum.wrapping_mul(31).wrapping_add(group.len());
+            sum = sum.wrapping_mul(31).wrapping_add(partner.len());
+        }
     }
     sum
 }

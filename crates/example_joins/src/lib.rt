@@ -2,6 +2,9 @@
 #![tactic(auto)]
 
 pub mod alone;
+pub mod kinds;
 pub mod matches;
 pub mod names;
 pub mod parts;
+pub mod sets;
+pub mod visits;

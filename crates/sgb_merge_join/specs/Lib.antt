@@ -1,4 +1,4 @@
-pub mod EitherOrBoth
+pub mod Values
 pub mod Merge
 pub mod Asking
 pub mod Examples

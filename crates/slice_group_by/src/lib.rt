@@ -39,12 +39,13 @@ pub use sgb_linear_group::linear_group::{
 pub use sgb_linear_str_group::by_equality::{LinearStrGroup, LinearStrGroupMut};
 pub use sgb_linear_str_group::by_key::{LinearStrGroupByKey, LinearStrGroupByKeyMut};
 pub use sgb_linear_str_group::by_predicate::{LinearStrGroupBy, LinearStrGroupByMut};
+pub use sgb_merge_join::{EitherOrBoth, MergeJoinBy};
+pub use sgb_numbers::lanes::Lanes;
 pub use sgb_search::ranges::{
     exponential_equal_range, exponential_equal_range_by, exponential_equal_range_by_key,
     exponential_equal_range_by_key_ref, exponential_equal_range_by_ref,
     exponential_partition_point, exponential_partition_point_ref,
 };
-pub use sgb_numbers::lanes::Lanes;
 pub use sgb_search::search::{
     exponential_search, exponential_search_by, exponential_search_by_key,
     exponential_search_by_key_ref, exponential_search_by_ref,

@@ -1,6 +1,6 @@
 //! What a part gives by its methods.
-use sgb_merge_join::EitherOrBoth;
-use sgb_merge_join::EitherOrBoth::{Both, Left, Right};
+use slice_group_by::EitherOrBoth;
+use slice_group_by::EitherOrBoth::{Both, Left, Right};
 
 const PARTS: [EitherOrBoth<u8, char>; 3] = [Left(1), Right('a'), Both(2, 'b')];
 

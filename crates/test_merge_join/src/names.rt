@@ -1,6 +1,6 @@
 //! Joins by names that the rows own, and joins of every kind.
-use sgb_merge_join::EitherOrBoth::{Both, Left, Right};
-use sgb_merge_join::MergeJoinBy;
+use slice_group_by::EitherOrBoth::{Both, Left, Right};
+use slice_group_by::MergeJoinBy;
 
 #[test]
 fn by_owned_names(rt: HostRuntime) {

@@ -2,8 +2,11 @@
 ghost use Rattle.std.specs.Prelude.{◌≡◌, IfOk, string_bytes};
 
 use example_joins::alone::count_alone;
+use example_joins::kinds::{absent, common_groups, present};
 use example_joins::matches::count_matches;
 use example_joins::names::{Person, Visit, count_visits};
+use example_joins::sets::{difference, intersection, union, union_of_three};
+use example_joins::visits::visits_of_each;
 use std::alloc::{AllocError, Global};
 
 fn person(alloc: Global, name: &str) -> Result<Person, AllocError>
@@ -52,4 +55,60 @@ fn of_owned_names(rt: HostRuntime) {
 fn of_numbers(rt: HostRuntime) {
     assert!(rt; count_alone(&[1, 1, 2, 4, 4, 5], &[2, 3, 5]) == 4);
     assert!(rt; count_matches(&[1, 2, 2, 5], &[2, 2, 2, 3, 5]) == 7);
+}
+
+fn visits_are_joined(alloc: Global) -> Result<bool, AllocError> {
+    let people = [person(alloc, "Ann")?, person(alloc, "Bo")?];
+    let visits = [
+        visit(alloc, "Al")?,
+        visit(alloc, "Ann")?,
+        visit(alloc, "Ann")?,
+    ];
+    let joined = visits_of_each(alloc, &people, &visits)?;
+    let counts = [2, 0];
+    Ok(
+        joined
+            .iter()
+            .map(|entry| entry.1.len())
+            .eq(counts.iter().copied()),
+    )
+}
+
+#[test]
+fn of_visits_by_name(rt: HostRuntime) {
+    assert!(rt; visits_are_joined(rt.alloc()) == Ok(true));
+}
+
+fn are<T: PartialEq + Drop>(found: Result<Vec<T>, AllocError>, wanted: &[T]) -> bool {
+    match found {
+        Ok(found) => found.as_slice() == wanted,
+        Err(_) => false,
+    }
+}
+
+#[test]
+fn of_every_kind(rt: HostRuntime) {
+    let alloc = rt.alloc();
+    let left = [1, 1, 2, 4, 4, 5];
+    let right = [2, 3, 5, 5];
+    assert!(rt; are(absent(alloc, &left, &right), &[&1, &1, &4, &4]));
+    assert!(rt; are(present(alloc, &left, &right), &[&2, &5]));
+    let groups: [(&[u32], &[u32]); 2] = [(&[2], &[2]), (&[5], &[5, 5])];
+    assert!(rt; are(common_groups(alloc, &left, &right), &groups));
+}
+
+#[test]
+fn of_sets(rt: HostRuntime) {
+    let alloc = rt.alloc();
+    let left = [1, 2, 4, 5];
+    let right = [2, 3, 5, 6];
+    assert!(rt; are(union(alloc, &left, &right), &[1, 2, 3, 4, 5, 6]));
+    assert!(rt; are(intersection(alloc, &left, &right), &[2, 5]));
+    assert!(rt; are(difference(alloc, &left, &right), &[1, 4]));
+    assert!(rt;
+        are(
+            union_of_three(alloc, &left, &right, &[0, 3, 9]),
+            &[0, 1, 2, 3, 4, 5, 6, 9]
+        )
+    );
 }

@@ -35,7 +35,7 @@ pub mod sorted;
 pub mod texts;
 
 pub use crate::join::{
-    joins_may_go_on, pairs_ascend, pairs_match, partners_are_unique, sees_pairs,
+    joins_may_go_on, merges_agree, pairs_ascend, pairs_match, partners_are_unique, sees_pairs,
 };
 pub use counts::{
     calls_ask, comparisons_count, key_calls_count, linear_counts, mapped_calls_ask,
@@ -51,6 +51,11 @@ pub use plans::{Plan, refute};
 use queue::GroupQueue;
 pub use ranks::rank_groups;
 use sgb_linear_group::linear_group::Linear;
+pub use sgb_merge_join::laws::{
+    always_compares, joins_find_partners, merge_is_unique, merge_parts_join, merges_ask,
+    merges_count, merges_exist, merges_may_go_on, parts_or_empty, sees_merge, sees_merge_by_keys,
+    sees_merge_in_order, semi_joins_are_filters, unions_ascend,
+};
 pub use sgb_numbers::laws::number_judges;
 use sgb_search::judge::Judge;
 pub use sgb_search::laws::{
@@ -59,8 +64,8 @@ pub use sgb_search::laws::{
     ascending_is_grouped, ascending_is_searchable, callable_now, callable_now_on_pairs,
     callable_on_elements, callable_on_pairs, computes_on_char_pairs, computes_on_chars,
     computes_on_elements, computes_on_pairs, descending_is_grouped, digits_is_least,
-    equality_judges, first_group_agrees, gap_parts, one_split, parts_are_grouped, question_count, range_parts,
-    range_starts, splits_join,
+    equality_judges, first_group_agrees, gap_parts, one_split, parts_are_grouped, question_count,
+    range_parts, range_starts, splits_join,
 };
 pub use sorted::{is_sorted_for_groups, sorted_by_key_ascends, sorts_ascend};
 

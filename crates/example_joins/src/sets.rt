@@ -1,0 +1,68 @@
+//! Sets of numbers, as slices that ascend strictly.
+ghost use Rattle.std.specs.Prelude.{◌≡◌, ◌↔◌, ℕ, not, ◌⊎◌, IfOk};
+ghost use Rattle.std.specs.List.{Contains, filter};
+ghost use Rattle.std.specs.Ordering.{nat_cmp};
+ghost use Rattle.slice_group_by.specs.JoinKinds.{AlwaysAscends, has_partner};
+
+use slice_group_by::MergeJoinBy;
+use slice_group_by::laws::{sees_merge_in_order, semi_joins_are_filters, unions_ascend};
+use std::alloc::{AllocError, Global};
+
+/// The numbers that stand on the left or on the right.
+pub fn union(alloc: Global, left: &[u32], right: &[u32]) -> Result<Vec<u32>, AllocError>
+    requires left { AlwaysAscends nat_cmp left.now }
+    requires right { AlwaysAscends nat_cmp right.now }
+    ensures ascends { IfOk result (λ v. AlwaysAscends nat_cmp v.items) }
+    ensures all { IfOk result (λ v. (x : ℕ) → Contains v.items x ↔ (Contains left.now x ⊎ Contains right.now x)) }
+{
+    unions_ascend::<u32>();
+    let join = MergeJoinBy::new(left, right, |x: &u32, y: &u32| x.cmp(y));
+    sees_merge_in_order(&join);
+    join.flat_map(|part| part.once()).copied().collect(alloc)
+}
+
+/// The numbers that stand on the left and on the right.
+pub fn intersection(alloc: Global, left: &[u32], right: &[u32]) -> Result<Vec<u32>, AllocError>
+    requires left { AlwaysAscends nat_cmp left.now }
+    requires right { AlwaysAscends nat_cmp right.now }
+    ensures { IfOk result (λ v. v.items ≡ filter (has_partner nat_cmp right.now) left.now) }
+{
+    unions_ascend::<u32>();
+    semi_joins_are_filters::<u32, u32>();
+    let join = MergeJoinBy::new(left, right, |x: &u32, y: &u32| x.cmp(y));
+    sees_merge_in_order(&join);
+    join.flat_map(|part| part.partnered())
+        .copied()
+        .collect(alloc)
+}
+
+/// The numbers that stand on the left and not on the right.
+pub fn difference(alloc: Global, left: &[u32], right: &[u32]) -> Result<Vec<u32>, AllocError>
+    requires left { AlwaysAscends nat_cmp left.now }
+    requires right { AlwaysAscends nat_cmp right.now }
+    ensures { IfOk result (λ v. v.items ≡ filter (λ x. not (has_partner nat_cmp right.now x)) left.now) }
+{
+    unions_ascend::<u32>();
+    semi_joins_are_filters::<u32, u32>();
+    let join = MergeJoinBy::new(left, right, |x: &u32, y: &u32| x.cmp(y));
+    sees_merge_in_order(&join);
+    join.flat_map(|part| part.alone()).copied().collect(alloc)
+}
+
+/// The numbers that stand in one of three slices at least.
+pub fn union_of_three(
+    alloc: Global,
+    first: &[u32],
+    second: &[u32],
+    third: &[u32],
+) -> Result<Vec<u32>, AllocError>
+    requires first { AlwaysAscends nat_cmp first.now }
+    requires second { AlwaysAscends nat_cmp second.now }
+    requires third { AlwaysAscends nat_cmp third.now }
+    ensures ascends { IfOk result (λ v. AlwaysAscends nat_cmp v.items) }
+    ensures all { IfOk result
+        (λ v. (x : ℕ) → Contains v.items x ↔ (Contains first.now x ⊎ Contains second.now x ⊎ Contains third.now x)) }
+{
+    let two = union(alloc, first, second)?;
+    union(alloc, &two, third)
+}
