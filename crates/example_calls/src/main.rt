@@ -7,6 +7,7 @@ mod closures;
 mod first_page;
 mod inputs;
 mod loops;
+mod numbers;
 mod rest;
 mod returned;
 
@@ -44,6 +45,12 @@ fn main(rt: HostRuntime) -> io::Result<()> {
     println!(rt;
         "loops: {shared:?} {longer} {equal} {:?}",
         loops::two_and_rest(&runs)
+    )?;
+
+    println!(rt;
+        "numbers: {} {}",
+        numbers::longest_equal(&[1u8, 1, 1, 2, 2]),
+        numbers::longest_equal(&[0.5f64, 2.5])
     )?;
 
     let near = [1, 2, 4, 9, 9, 20];
