@@ -5,7 +5,7 @@ ghost use Rattle.std.specs.Ordering.{nat_cmp};
 ghost use Rattle.slice_group_by.specs.JoinKinds.{AlwaysAscends, has_partner};
 
 use slice_group_by::MergeJoinBy;
-use slice_group_by::laws::{sees_merge_in_order, semi_joins_are_filters, unions_ascend};
+use slice_group_by::laws::{sees_merge_in_order, unions_ascend};
 use std::alloc::{AllocError, Global};
 
 /// The numbers that stand on the left or on the right.
@@ -28,7 +28,6 @@ pub fn intersection(alloc: Global, left: &[u32], right: &[u32]) -> Result<Vec<u3
     ensures { IfOk result (λ v. v.items ≡ filter (has_partner nat_cmp right.now) left.now) }
 {
     unions_ascend::<u32>();
-    semi_joins_are_filters::<u32, u32>();
     let join = MergeJoinBy::new(left, right, |x: &u32, y: &u32| x.cmp(y));
     sees_merge_in_order(&join);
     join.flat_map(|part| part.partnered())
@@ -43,7 +42,6 @@ pub fn difference(alloc: Global, left: &[u32], right: &[u32]) -> Result<Vec<u32>
     ensures { IfOk result (λ v. v.items ≡ filter (λ x. not (has_partner nat_cmp right.now x)) left.now) }
 {
     unions_ascend::<u32>();
-    semi_joins_are_filters::<u32, u32>();
     let join = MergeJoinBy::new(left, right, |x: &u32, y: &u32| x.cmp(y));
     sees_merge_in_order(&join);
     join.flat_map(|part| part.alone()).copied().collect(alloc)

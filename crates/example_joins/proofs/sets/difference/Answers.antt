@@ -1,5 +1,4 @@
 use Rattle.std.proofs.Common.{rules, subst, IfOk, ◌≡◌}
-use Rattle.std.specs.Ordering.{nat_cmp}
 use Rattle.std.proofs.lemmas.Fn.{always_returns_same}
 use Rattle.std.proofs.lemmas.Iterator.{YieldsList-from_slice, items_from_collect}
 use Rattle.std.proofs.lemmas.Iterator.Consumers.{YieldsList-at, YieldsList-from_copied}
@@ -9,13 +8,10 @@ use Rattle.example_joins.proofs.sets.difference.Goals as goal
 
 pub returns : goal.returns
 returns c =
-    let left = c.args.left.now in
-    let right = c.args.right.now in
-    let seen = c.sees_merge_in_order.ensures c.new-join.result left right _ c.new-join.ensures.sides
-    (c.unions_ascend.ensures.never left c.requires.left) (c.unions_ascend.ensures.never right c.requires.right)
-    (always_returns_same _ _ _ (λ a r f' k. search rules)) in
-    subst (λ l. IfOk c.collect.result (λ v. v.items ≡ l)) (c.semi_joins_are_filters.ensures.anti nat_cmp left right seen.0 seen.1)
-    (items_from_collect _ c.collect.ensures.ran (YieldsList-from_copied (YieldsList-at c.copied.ensures.source
+    let seen = c.sees_merge_in_order.ensures _ _ _ _ c.new-join.ensures.sides (c.unions_ascend.ensures.never _ c.requires.left)
+    (c.unions_ascend.ensures.never _ c.requires.right) (always_returns_same _ _ _ (λ a r f' k. search rules)) in
+    subst (λ l. IfOk c.collect.result (λ v. v.items ≡ l)) seen.4 (items_from_collect _ c.collect.ensures.ran
+    (YieldsList-from_copied (YieldsList-at c.copied.ensures.source
     (YieldsList-from_flat_map _ _ _ (λ y. y.now) alone _ (λ x u q k. (search rules, λ j b. YieldsList-from_slice _ (search rules)))
     (YieldsList-at c.flat_map.ensures.source seen.2) c.flat_map.ensures.closure c.flat_map.ensures.front c.flat_map.ensures.back
     c.flat_map.ensures.done))))
