@@ -35,7 +35,8 @@ impl<'a, T: Lanes, C: GroupEnd> SliceGroupsMut<'a, T, NumberJudge, C> {
         ensures remainder { result.remainder ≡ slice.old }
         ensures callable { IsCallableBy (C.allowed T) (by_number T.eq) (groups_of_mut result) }
         ensures computes { ComputesBy (C.allowed T) (by_number T.eq) (groups_of_mut result) T.eq }
-        ensures settled { C.fits T T.eq slice.old → C.settled T NumberJudge (by_number T.eq) (groups_of_mut result) T.eq }
+        ensures settled { C.fits T T.eq slice.old
+            → C.settled T NumberJudge (by_number T.eq) (groups_of_mut result) T.eq }
         ensures loans { NothingOut slice.entry.ghost_name result.loans }
     {
         SliceGroupsMut::with_judge(slice, NumberJudge {})

@@ -176,5 +176,8 @@ module _ {S T : Type 0} (eq : T → T → Bool) (laws : IsPartialEquivalence eq)
             ((r.like e).at (low + k) (omega (arith, long, r.within)) (omega (arith, long)));
       })
       (λ e more.
-      rw (last e, get_or-range xs low high (length part - n - 1) (high - n - 1) e (omega (arith, long, r.within)) (omega (arith, r.nonempty)))
+      rw (
+        last e,
+        get_or-range xs low high (length part - n - 1) (high - n - 1) e (omega (arith, long, r.within)) (omega (arith, r.nonempty)),
+      )
       (r.unlike e (omega (arith, long))))

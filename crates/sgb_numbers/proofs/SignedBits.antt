@@ -28,7 +28,8 @@ module _ (w : Width) (e : ℤ) (here : FitsSigned w e) where
   -- the mask of sixteen signed numbers
   pub signed_mask : (xs : List ℤ) (at : ℕ) → at + 16 ≤ length xs
       → ((k : ℕ) (d : ℤ) → at ≤ k → k < at + 16 → FitsSigned w (get_or xs k d))
-      → mask_l (map (top (hbits w)) (zip2 (λ a b. cond (not (eqb a b)) (2 ^ bits w - 1) 0) (map (of_z w) (chunk at 16 xs)) (replicate 16 (of_z w e)))) % 2 ^ 64
+      → mask_l (map (top (hbits w)) (zip2 (λ a b. cond (not (eqb a b)) (2 ^ bits w - 1) 0)
+      (map (of_z w) (chunk at 16 xs)) (replicate 16 (of_z w e)))) % 2 ^ 64
       ≡ mask_l (map (λ x. not (int_eq x e)) (chunk at 16 xs))
   signed_mask xs at room fits =
       let v = chunk at 16 xs in

@@ -7,7 +7,7 @@ use std::simd::prelude::*;
 
 /// A type of numbers that are compared by vectors: sixteen elements of a slice with one number at a time.
 pub trait Lanes: PartialEq {
-    /// The places from `at` on, sixteen of them, whose elements are not equal to the number: bit k is set for the place `at + k`.
+    /// Which of sixteen elements from the place `at` on are not equal to the number: bit k is set for that at `at + k`.
     fn unlike(number: &Self, slice: &[Self], at: usize) -> u64
         requires { at + 16 ≤ length slice.now }
         ensures { result ≡ mask_l (map (λ y. not (Self.eq y number.now)) (chunk at 16 slice.now)) };

@@ -1,11 +1,13 @@
-//! How many elements at an end of a part of a slice are equal to the one there. A number is compared with the one at the end, and
-//! not with its neighbour: equality is symmetric and transitive, so that the two say the same.
+//! How many elements at an end of a part of a slice are equal to the one there.
+//!
+//! A number is compared with the one at the end, and not with its neighbour: equality is symmetric and transitive, so that
+//! the two say the same.
 ghost use Rattle.std.specs.Prelude.{◌≡◌, ◌+◌, ◌-◌, ◌<◌, ◌≤◌, false, length, slice_index_or};
 ghost use Rattle.sgb_numbers.specs.Alike.{AreLike, IsFirstLen, IsLastLen};
 
 use crate::lanes::Lanes;
 
-// So many are compared one by one first: groups are often as short. A part with less than a vector after these has no other.
+// So many are compared one by one first: groups are often as short.
 const NEAR: usize = 9;
 
 /// How many elements from the place `low` on are equal to the one there, before the place `high`.
@@ -43,8 +45,8 @@ fn like_from<T: PartialEq>(number: &T, slice: &[T], low: usize, len: usize, most
     all
 }
 
-/// The first place from `low` on whose element is not equal to the number, or `high`: by vectors, and one by one where less than a
-/// vector is left.
+/// The first place from `low` on whose element is not equal to the number, or `high`: by vectors, and one by one where less
+/// than a vector is left.
 #[inline]
 fn like_by_vectors<T: Lanes>(number: &T, slice: &[T], low: usize, high: usize) -> usize
     requires order { low ≤ high }
@@ -101,8 +103,8 @@ fn like_upto<T: PartialEq>(number: &T, slice: &[T], high: usize, len: usize, mos
     all
 }
 
-/// The place behind the last element before `high` that is not equal to the number, or `low`: by vectors, and one by one where
-/// less than a vector is left.
+/// The place behind the last element before `high` that is not equal to the number, or `low`: by vectors, and one by one
+/// where less than a vector is left.
 #[inline]
 fn like_back_by_vectors<T: Lanes>(number: &T, slice: &[T], low: usize, high: usize) -> usize
     requires order { low ≤ high }

@@ -2,7 +2,7 @@
 use slice_group_by::{Lanes, LinearGroup, LinearGroupMut, LinearNumberGroup, LinearNumberGroupMut};
 use test_calls::{len_of, len_of_mut};
 
-/// Calls at the back where the bit of `turns` is set, and at the front where it is not, from the lowest bit on and over again.
+/// Calls at the back where the bit of `turns` is set, and at the front where it is not, from the lowest bit on.
 pub fn agree<T: Lanes>(slice: &[T], turns: u8) -> bool {
     let mut numbers = LinearNumberGroup::new(slice);
     let mut elements = LinearGroup::new(slice);
@@ -46,7 +46,7 @@ pub fn agree_at_all_ends<T: Lanes>(slice: &[T]) -> bool {
     agree(slice, 0) && agree(slice, 255) && agree(slice, 0b10101010) && agree(slice, 0b01100100)
 }
 
-/// Whether they do on each part at the front, where the elements up to each place are made `low` in turn, and none at first.
+/// Whether they do on each part at the front, where no element is `low`, then the first, and at last all.
 pub fn agree_with_one_boundary<T: Lanes + Copy>(low: T, slice: &mut [T]) -> bool {
     for boundary in 0..slice.len() {
         if !agree_on_fronts(slice) {

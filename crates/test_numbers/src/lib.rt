@@ -1,4 +1,4 @@
-//! Tests of groups of equal numbers, from outside: beside groups of equal elements, which ask about one pair after another.
+//! Cases of groups of equal numbers, beside groups of equal elements, which ask about one pair after another.
 #![tactic(auto)]
 
 #[cfg(test)]

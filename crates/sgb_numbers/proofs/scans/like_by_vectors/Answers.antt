@@ -4,20 +4,23 @@ use Rattle.sgb_numbers.proofs.scans.like_by_vectors.Goals as goal
 
 pub overflow_add-result : goal.overflow_add-result
 overflow_add-result g c =
-    let few = lanes_before g.T.PartialEq.eq c.args.number.now c.args.slice.now c.loop-place.place (omega arith) _ c.unlike-unlike.ensures (omega arith) in
+    let few = lanes_before g.T.PartialEq.eq c.args.number.now c.args.slice.now c.loop-place.place (omega arith) _
+    c.unlike-unlike.ensures (omega arith) in
     search rules
 
 pub returns-then-unlike-ne0-clause-high : goal.returns-then-unlike-ne0-clause-high
 returns-then-unlike-ne0-clause-high g c =
     omega (
       arith,
-      lanes_before g.T.PartialEq.eq c.args.number.now c.args.slice.now c.loop-place.place (omega arith) _ c.unlike-unlike.ensures (omega arith),
+      lanes_before g.T.PartialEq.eq c.args.number.now c.args.slice.now c.loop-place.place (omega arith) _
+          c.unlike-unlike.ensures (omega arith),
     )
 
 pub returns-then-unlike-ne0-clause-like : goal.returns-then-unlike-ne0-clause-like
 returns-then-unlike-ne0-clause-like g c =
     like_then _ _ _ _ _ _ c.loop-place.invariant.like
-    (like_before g.T.PartialEq.eq c.args.number.now c.args.slice.now c.loop-place.place (omega arith) _ c.unlike-unlike.ensures (omega arith))
+    (like_before g.T.PartialEq.eq c.args.number.now c.args.slice.now c.loop-place.place (omega arith) _ c.unlike-unlike.ensures
+    (omega arith))
 
 pub loop-place-preserved : goal.loop-place-preserved
 loop-place-preserved g c = record {
