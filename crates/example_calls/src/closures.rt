@@ -1,7 +1,5 @@
 //! Closures that capture, that count and that are handed in, and keys that are owned.
-use slice_group_by::{
-    GroupBy, LinearGroupBy, exponential_equal_range_by, exponential_search_by,
-};
+use slice_group_by::{GroupBy, LinearGroupBy, exponential_equal_range_by, exponential_search_by};
 
 /// How many stretches there are in which neighbours differ by at most `gap`.
 pub fn stretches(slice: &[u32], gap: u32) -> usize {

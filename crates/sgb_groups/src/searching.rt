@@ -3,6 +3,7 @@
 ghost use Rattle.std.specs.Prelude.{◌≡◌, ◌+◌, ◌-◌, ◌<◌, ◌≤◌, Bool, length};
 ghost use Rattle.sgb_search.specs.Judges.{MayAskAll};
 ghost use Rattle.sgb_search.specs.Searching.{SearchCost, SearchRun, IsPlaceSearch, MayAskAt, AnsweredAt, as_ordering, IsBetween};
+
 use crate::group_end::GroupEnd;
 use crate::groups::SliceGroups;
 use crate::groups_mut::SliceGroupsMut;

@@ -7,6 +7,7 @@ ghost use Rattle.std.specs.Iterator.{UpTo};
 ghost use Rattle.std.specs.Iterator.SizeHint.{IsWithinCount};
 ghost use Rattle.sgb_search.specs.declared.end.End.TheVariants.{Front, Back};
 ghost use Rattle.sgb_linear_str_group.specs.Texts.{text_between, text_groups_of, text_groups_to_come, in_characters};
+
 use crate::scan::split_group;
 use sgb_search::end::End;
 use sgb_search::judge::Judge;

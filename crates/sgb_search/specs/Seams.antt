@@ -1,5 +1,5 @@
 -- What joins the pieces of two lists to those of the two, one after the other.
-use Rattle.std.specs.Prelude.{Bool, true, false, cond, List, [], ◌∷◌, ◌++◌, Option, Some}
+use Rattle.std.specs.Prelude.{Bool, false, cond, List, [], ◌∷◌, ◌++◌, Option, Some}
 use Rattle.sgb_search.specs.Split.{first, last}
 
 module _ {A : Type 0} (p : A → A → Bool) where

@@ -3,6 +3,7 @@ ghost use Rattle.std.specs.Prelude.{ℕ, ◌≤◌};
 ghost use Rattle.sgb_search.specs.Judges.{MayAskAll};
 ghost use Rattle.std.specs.declared.cmp.Ordering.{Ordering};
 ghost use Rattle.sgb_search.specs.Searching.{binary, exponential, IsPlaceSearch, IsBracket, IsBetween};
+
 use std::cmp::Ordering;
 
 /// Places that can each be compared with what is sought, by a question to an asker, which the question may change.

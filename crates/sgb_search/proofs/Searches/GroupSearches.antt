@@ -123,8 +123,14 @@ module _ {J T : Type 0} (judge : Ghosts J T) (xs : List T) (base : ℕ) where
         upper (inl p) = inl (beyond high i n p)
         upper (inr (a, (p, c))) =
             let before = both_ways (i - 1) c in
-            inr (a, (omega (arith, p), subst
-            (λ (k : ℕ). ContradictsAt xs qs k) {x = i - 1 - base + 1} {y = i - base + 1 - 1} (omega (arith, p)) before))
+            inr (
+              a,
+              (
+                omega (arith, p),
+                subst
+                    (λ (k : ℕ). ContradictsAt xs qs k) {x = i - 1 - base + 1} {y = i - base + 1 - 1} (omega (arith, p)) before,
+              ),
+            )
 
     ends_by : (both : Bool) (high : ℕ) (r : Result ℕ ℕ) → high - base + 1 ≡ length xs → Tells rs both base high r
         → EndsBy xs both qs (place_of r - base + 1)

@@ -224,7 +224,7 @@ module _ {F T K : Type 0} (g : Mut F (Bor T × Unit {0}) K) (reads : K → Order
         k.2,
         all_when _ k.0 (λ r c. let q = beside_is IsOf r qs k.0 k.1 c in subst (Contains xs) q.1.0 (all_contains _ qs q.0 all q.2)),
         λ key a. all_when _ qs (λ q c. let r = is_beside IsOf q qs k.0 k.1 c in
-        r.1.1 ∙ ap reads (all_contains _ k.0 r.0 a r.2) ∙ ap (λ x. reads (key x)) (sym r.1.0)),
+            r.1.1 ∙ ap reads (all_contains _ k.0 r.0 a r.2) ∙ ap (λ x. reads (key x)) (sym r.1.0)),
       )
 
   -- an answer is read from a call

@@ -1,8 +1,8 @@
 -- The split of two lists, one after the other, is that of the one and that of the other, joined at the seam.
-use Rattle.std.proofs.Common.{◌≡◌, ℕ, ◌+◌, ◌<◌, Bool, true, false, cond, List, [], ◌∷◌, ◌++◌, length, Some, refl, sym, ap, ◌∙◌, subst, arith}
+use Rattle.std.proofs.Common.{◌≡◌, ℕ, ◌+◌, Bool, true, false, cond, List, [], ◌∷◌, ◌++◌, length, Some, refl, sym, ap, ◌∙◌, subst, arith}
 use Rattle.std.specs.Prelude.{◌≢◌, not}
 use Rattle.std.specs.List.{AllByRecursion}
-use Rattle.sgb_search.specs.Split.{first, last, without_last, put_before, split, IsAccepted}
+use Rattle.sgb_search.specs.Split.{last, without_last, put_before, split, IsAccepted}
 use Rattle.sgb_search.specs.Seams.{is_accepted_across, join_first, seam}
 use Rattle.sgb_search.proofs.Splits.Split.{split_begins, split_is, split_alone, length-put_before}
 
