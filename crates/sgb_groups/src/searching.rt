@@ -8,7 +8,7 @@ use crate::group_end::GroupEnd;
 use crate::groups::SliceGroups;
 use crate::groups_mut::SliceGroupsMut;
 use sgb_search::end::End;
-use sgb_search::gallop::Places;
+use sgb_search::gallop::{Places, before_end};
 use sgb_search::judge::Judge;
 use std::cmp::Ordering;
 use std::marker::PhantomData;
@@ -136,17 +136,5 @@ impl<'a, T, J: Judge<T>> Places<J> for FromBack<'a, T> {
     fn compare(&self, judge: &mut J, place: usize) -> Ordering {
         let last = self.high - 1;
         before_end(judge.ask(&self.slice[last], &self.slice[last - 1 - place]))
-    }
-}
-
-// The elements that are accepted lie before the end of the group.
-#[inline]
-fn before_end(accepted: bool) -> Ordering
-    ensures { result ≡ as_ordering accepted }
-{
-    if accepted {
-        Ordering::Less
-    } else {
-        Ordering::Greater
     }
 }

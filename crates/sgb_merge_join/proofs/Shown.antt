@@ -4,7 +4,7 @@ use Rattle.std.proofs.Common.{refl, ap, subst, arith, inl, inr, zero, suc}
 use Rattle.std.specs.List.{Contains}
 use Rattle.std.specs.declared.cmp.Ordering.{Ordering}
 use Rattle.sgb_merge_join.specs.Asking.{WasWanted, WasOther, ShowsEnd}
-use Rattle.sgb_merge_join.proofs.Merging.{contains_head, contains_tail}
+use Rattle.sgb_search.proofs.Lists.Contained.{contains_head, contains_tail}
 
 module _ {A B : Type 0} (wanted : Ordering) (zs : List (A × B)) where
   -- with more questions the same is shown

@@ -1,8 +1,8 @@
 //! Halving and galloping over places, in either direction.
-ghost use Rattle.std.specs.Prelude.{ℕ, ◌≤◌};
+ghost use Rattle.std.specs.Prelude.{◌≡◌, ℕ, ◌≤◌};
 ghost use Rattle.sgb_search.specs.Judges.{MayAskAll};
 ghost use Rattle.std.specs.declared.cmp.Ordering.{Ordering};
-ghost use Rattle.sgb_search.specs.Searching.{binary, exponential, IsPlaceSearch, IsBracket, IsBetween};
+ghost use Rattle.sgb_search.specs.Searching.{as_ordering, binary, exponential, place_of, IsPlaceSearch, IsBracket, IsBetween};
 
 use std::cmp::Ordering;
 
@@ -18,6 +18,28 @@ pub trait Places<A> {
     fn compare(&self, asker: &mut A, place: usize) -> Ordering
         requires { may_compare asker.old self.now place }
         ensures { compares asker.old self.now place result asker.new };
+}
+
+/// How a place compares with the end of those that belong to what is searched: it lies before it, or beyond it.
+#[inline]
+pub fn before_end(belongs: bool) -> Ordering
+    ensures { result ≡ as_ordering belongs }
+{
+    if belongs {
+        Ordering::Less
+    } else {
+        Ordering::Greater
+    }
+}
+
+/// The place that a search gives, found or not.
+#[inline]
+pub fn place_of(found: Result<usize, usize>) -> usize
+    ensures { result ≡ place_of found }
+{
+    match found {
+        Ok(place) | Err(place) => place,
+    }
 }
 
 /// Halves the places from `low` up to, not including, `high` until one answers `Equal` or none is left.

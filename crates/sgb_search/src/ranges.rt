@@ -6,11 +6,11 @@ ghost use Rattle.std.specs.List.Sorted.{IsPartitionedBy, IsPartitionPoint};
 ghost use Rattle.std.specs.Ordering.{is_lt, is_eq};
 ghost use Rattle.std.specs.Fn.{TakesAt};
 ghost use Rattle.std.specs.declared.cmp.Ordering.{Ordering};
-ghost use Rattle.sgb_search.specs.Searching.{as_ordering, place_of};
+ghost use Rattle.sgb_search.specs.Searching.{as_ordering};
 ghost use Rattle.sgb_search.specs.Search.{MayCall, Computes, CalledAs, IsSearch, IsLocalBoundary, IsLessEqualGreater, NeverDescends};
 ghost use Rattle.sgb_search.specs.Ranges.{IsRange, IsLocalRange, AsksPartition, AsksRange};
 
-use crate::gallop::{Places, gallop};
+use crate::gallop::{Places, before_end, gallop, place_of};
 use std::cmp::Ordering;
 
 // A side of a place in a slice, to which an element belongs by what a function answers of it.
@@ -91,18 +91,6 @@ impl<'a, B: Ord + Drop> Side<B> for EqualKey<'a, B> {
     }
 }
 
-// How an element stands to the place, by its side of it.
-#[inline]
-fn ordering_of(is_before: bool) -> Ordering
-    ensures { result ≡ as_ordering is_before }
-{
-    if is_before {
-        Ordering::Less
-    } else {
-        Ordering::Greater
-    }
-}
-
 // The elements of a slice, each on its side of the place.
 #[derive(Drop)]
 struct Sided<'a, T, S> {
@@ -119,17 +107,7 @@ impl<'a, T, K, S: Side<K>, F: FnMut(&T) -> K> Places<F> for Sided<'a, T, S> {
 
     #[inline]
     fn compare(&self, asker: &mut F, place: usize) -> Ordering {
-        ordering_of(self.side.is_before(asker(&self.slice[place])))
-    }
-}
-
-// The place that a search gives.
-#[inline]
-fn place_of(found: Result<usize, usize>) -> usize
-    ensures { result ≡ place_of found }
-{
-    match found {
-        Ok(place) | Err(place) => place,
+        before_end(self.side.is_before(asker(&self.slice[place])))
     }
 }
 

@@ -2,8 +2,8 @@
 use Rattle.std.specs.Prelude.{◌≡◌, List, [], ◌∷◌, ◌++◌, refl}
 use Rattle.std.proofs.Common.{zero, suc, ap, subst, arith}
 use Rattle.std.specs.List.{AllZip, Contains}
-use Rattle.std.proofs.lemmas.List.Elements.{Contains-append_right}
 use Rattle.sgb_search.specs.Judges.{IsRun}
+use Rattle.sgb_search.proofs.Lists.Contained.{contains_head, contains_tail}
 
 module _ {S Q A P B : Type 0} (may : S → Q → Type 0) (gives : S → Q → A → S → Type 0) (may' : S → P → Type 0)
     (gives' : S → P → B → S → Type 0) (reads : Q × A → P × B → Type 0) where
@@ -18,24 +18,24 @@ module _ {S Q A P B : Type 0} (may : S → Q → Type 0) (gives : S → Q → A 
       (o.0 ∷ rest.0, (o.3, rest.1), (o.1, (h.1.0, o.2, rest.2)))
 
 -- of two lists of which R holds, place by place
-module _ {X Y : Type 0} (R : X → Y → Type 0) where
-  -- what is in one list has beside it something of the other
-  pub is_beside : (x : X) (xs : List X) (ys : List Y) → AllZip R xs ys → Contains xs x → (y : Y) × R x y × Contains ys y
-  is_beside x [] ys h c = absurd (omega (arith, c.1))
-  is_beside x (z ∷ xs) [] h c = absurd h
-  is_beside x (z ∷ xs) (y ∷ ys) h (zero, l, e) = (y, subst (λ w. R w y) e h.0, (0, omega arith, refl))
-  is_beside x (z ∷ xs) (y ∷ ys) h (suc k, l, e) =
-      let later = is_beside x xs ys h.1 (k, omega (arith, l), e) in
-      (later.0, later.1, Contains-append_right (y ∷ []) ys later.0 later.2)
+turned : {X Y : Type 0} (R : X → Y → Type 0) (xs : List X) (ys : List Y) → AllZip R xs ys → AllZip (λ y x. R x y) ys xs
+turned R [] [] h = tt
+turned R [] (y ∷ ys) h = absurd h
+turned R (x ∷ xs) [] h = absurd h
+turned R (x ∷ xs) (y ∷ ys) h = (h.0, turned R xs ys h.1)
 
+-- what is in one list has beside it something of the other
+pub is_beside : {X Y : Type 0} (R : X → Y → Type 0) (x : X) (xs : List X) (ys : List Y) → AllZip R xs ys → Contains xs x
+    → (y : Y) × R x y × Contains ys y
+is_beside R x [] ys h c = absurd (omega (arith, c.1))
+is_beside R x (z ∷ xs) [] h c = absurd h
+is_beside R x (z ∷ xs) (y ∷ ys) h (zero, l, e) = (y, subst (λ w. R w y) e h.0, contains_head y ys)
+is_beside R x (z ∷ xs) (y ∷ ys) h (suc k, l, e) =
+    let later = is_beside R x xs ys h.1 (k, omega (arith, l), e) in (later.0, later.1, contains_tail y ys later.0 later.2)
+
+module _ {X Y : Type 0} (R : X → Y → Type 0) where
   pub beside_is : (y : Y) (xs : List X) (ys : List Y) → AllZip R xs ys → Contains ys y → (x : X) × R x y × Contains xs x
-  beside_is y [] [] h c = absurd (omega (arith, c.1))
-  beside_is y (x ∷ xs) [] h c = absurd h
-  beside_is y [] (z ∷ ys) h c = absurd h
-  beside_is y (x ∷ xs) (z ∷ ys) h (zero, l, e) = (x, subst (λ w. R x w) e h.0, (0, omega arith, refl))
-  beside_is y (x ∷ xs) (z ∷ ys) h (suc k, l, e) =
-      let later = beside_is y xs ys h.1 (k, omega (arith, l), e) in
-      (later.0, later.1, Contains-append_right (x ∷ []) xs later.0 later.2)
+  beside_is y xs ys h = is_beside (λ v x. R x v) y ys xs (turned R xs ys h)
 
   pub last_beside : (front : List X) (x : X) (ys : List Y) → AllZip R (front ++ x ∷ []) ys
       → (front' : List Y) × (y : Y) × R x y × (ys ≡ front' ++ y ∷ [])

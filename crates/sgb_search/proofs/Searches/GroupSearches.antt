@@ -10,6 +10,7 @@ use Rattle.sgb_search.specs.declared.judge.Judge.{Ghosts}
 use Rattle.sgb_search.specs.Judges.{IsRun, MayAskAll}
 use Rattle.sgb_search.specs.Searching.{SearchCost, IsWithin, IsOutward, IsAskedAt, ContradictsAt, IsInner, IsBeyond, EndsBy, SearchRun, IsLowEnd, IsHighEnd, Contradicts, Tells, TellsBoundary, place_of, IsPlaceSearch, as_ordering, IsBetween}
 use Rattle.sgb_search.proofs.Lists.AllByRecursion.{all_each, all_when}
+use Rattle.sgb_search.proofs.Searches.SearchRuns.{never_equal}
 use Rattle.sgb_search.proofs.Questions.Translated.{translated_run, is_beside, beside_is}
 
 same_answer : (a b : Bool) → as_ordering a ≡ as_ordering b → a ≡ b
@@ -17,10 +18,6 @@ same_answer true true e = refl
 same_answer true false e = cc
 same_answer false true e = cc
 same_answer false false e = refl
-
-never_equal_ordering : (b : Bool) → Equal ≡ as_ordering b → ⊥
-never_equal_ordering true e = cc
-never_equal_ordering false e = cc
 
 -- a search among the places of xs after its first, where base is the place of the element after the first
 module _ {J T : Type 0} (judge : Ghosts J T) (xs : List T) (base : ℕ) where
@@ -79,8 +76,8 @@ module _ {J T : Type 0} (judge : Ghosts J T) (xs : List T) (base : ℕ) where
         let a = like_asked rs qs like i (as_ordering b) c in
         subst (λ (v : Bool). IsAskedAt xs qs (i - base + 1) v) (same_answer a.0 b (sym a.1)) a.2
 
-    never_equal : (i : ℕ) → Contains rs (i, Equal) → ⊥
-    never_equal i c = let a = like_asked rs qs like i Equal c in never_equal_ordering a.0 a.1
+    equal_nowhere : (i : ℕ) → Contains rs (i, Equal) → ⊥
+    equal_nowhere i c = let a = like_asked rs qs like i Equal c in never_equal a.0 (sym a.1)
 
     both_ways : (i : ℕ) → Contradicts rs i → ContradictsAt xs qs (i - base + 1)
     both_ways i (one, other, first, second, apart) =
@@ -135,7 +132,7 @@ module _ {J T : Type 0} (judge : Ghosts J T) (xs : List T) (base : ℕ) where
     ends_by : (both : Bool) (high : ℕ) (r : Result ℕ ℕ) → high - base + 1 ≡ length xs → Tells rs both base high r
         → EndsBy xs both qs (place_of r - base + 1)
     ends_by both high (Ok i) n t =
-        absurd (never_equal i (subst (λ (l : List (ℕ × Ordering)). Contains l (i, Equal)) (sym t.1.1) (Contains-push t.1.0 (i, Equal))))
+        absurd (equal_nowhere i (subst (λ (l : List (ℕ × Ordering)). Contains l (i, Equal)) (sym t.1.1) (Contains-push t.1.0 (i, Equal))))
     ends_by both high (Err i) n t = ends_there both high i n t.2
 
   within_same : (cost : SearchCost) (n n' g g' m m' : ℕ) → n ≡ n' → g ≡ g' → m ≡ m' → IsWithin cost n g m → IsWithin cost n' g' m'

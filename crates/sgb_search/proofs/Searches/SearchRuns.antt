@@ -1,5 +1,5 @@
 -- From a run over places to a run over elements.
-use Rattle.std.specs.Prelude.{◌≡◌, ℕ, ◌+◌, ◌-◌, ◌<◌, ◌≤◌, List, [], ◌∷◌, ◌++◌, length, ◌⊎◌, true, refl, Result, Ok, Err, Some}
+use Rattle.std.specs.Prelude.{Bool, false, ◌≡◌, ℕ, ◌+◌, ◌-◌, ◌<◌, ◌≤◌, List, [], ◌∷◌, ◌++◌, length, ◌⊎◌, true, refl, Result, Ok, Err, Some}
 use Rattle.std.specs.List.Sorted.{IsBinarySearchResult, IsNonDecreasingBy, IsPartitionPoint}
 use Rattle.std.specs.Ordering.{ordering_index}
 use Rattle.std.proofs.Common.{get_or, sym, ap, subst, arith, ◌∙◌, inl, inr}
@@ -12,13 +12,18 @@ use Rattle.std.specs.Borrow.{Bor}
 use Rattle.std.specs.declared.cmp.Ordering.{Ordering}
 use Rattle.std.specs.declared.cmp.Ordering.TheVariants.{Less, Equal, Greater}
 use Rattle.sgb_search.specs.Judges.{IsRun, MayAskAll, AnswersBy}
-use Rattle.sgb_search.specs.Searching.{exponential, Contradicts, Tells, place_of, IsPlaceSearch, IsLowEnd, IsHighEnd, IsBetween}
+use Rattle.sgb_search.specs.Searching.{as_ordering, exponential, Contradicts, Tells, place_of, IsPlaceSearch, IsLowEnd, IsHighEnd, IsBetween}
 use Rattle.sgb_search.specs.Search.{AnswersAt, IsLocalAnswer, FindsIn, IsLessEqualGreater, MayCall, Computes, CalledAs, WasAnswered, WasContradicted, ShowsAnswer, IsSearch}
 use Rattle.sgb_search.proofs.Lists.AllByRecursion.{all_contains, all_each, all_when}
 use Rattle.sgb_search.proofs.Questions.Runs.{may_after, answers_after}
 use Rattle.sgb_search.proofs.Questions.Translated.{translated_run, is_beside, beside_is, last_beside}
 use Rattle.sgb_search.proofs.Searches.PartitionPoint.{less_count}
 use Rattle.sgb_search.proofs.Searches.Digits.{digits_mono}
+
+-- an answer that tells a side is never Equal
+pub never_equal : (b : Bool) → as_ordering b ≡ Equal → ⊥
+never_equal true e = cc
+never_equal false e = cc
 
 module _ {T : Type 0} (xs : List T) where
   pub contains_at : (i : ℕ) (x : T) → slice_get xs i ≡ Some x → Contains xs x

@@ -15,13 +15,10 @@ use Rattle.std.proofs.lemmas.List.Sorted.{IsNonDecreasingBy-drop}
 use Rattle.sgb_search.specs.Searching.{as_ordering, place_of, Tells}
 use Rattle.sgb_search.specs.Search.{IsLocalAnswer, IsLocalBoundary, IsLessEqualGreater, CalledAs, IsSearch}
 use Rattle.sgb_search.specs.Ranges.{IsRange, IsLocalRange}
+use Rattle.sgb_search.proofs.Lists.Filters.{keeps_all, keeps_none}
 use Rattle.sgb_search.proofs.Lists.AllByRecursion.{all_contains, all_each, all_when, all_of_rest}
 use Rattle.sgb_search.proofs.Searches.PartitionPoint.{taken, dropped, less_count}
-use Rattle.sgb_search.proofs.Searches.SearchRuns.{answers_read, region}
-
-pub never_equal : (b : Bool) → as_ordering b ≡ Equal → ⊥
-never_equal true e = cc
-never_equal false e = cc
+use Rattle.sgb_search.proofs.Searches.SearchRuns.{answers_read, region, never_equal}
 
 -- no answer is Equal, so such a search gives `Err`
 module _ {F T K : Type 0} (g : Mut F (Bor T × Unit {0}) K) (passes : K → Bool) (xs : List T) where
@@ -30,7 +27,8 @@ module _ {F T K : Type 0} (g : Mut F (Bor T × Unit {0}) K) (passes : K → Bool
   ends_at f (Err i) t h = refl
   ends_at f (Ok i) t h =
       let last = h.shows in
-      let asked : Contains h.questions (last.1, Equal) = subst (λ l. Contains l (last.1, Equal)) (sym last.3) (Contains-push last.0 (last.1, Equal)) in
+      let asked : Contains h.questions (last.1, Equal) = subst (λ l. Contains l (last.1, Equal)) (sym last.3)
+      (Contains-push last.0 (last.1, Equal)) in
       let k = all_contains _ h.questions (last.1, Equal) (answers_read g (λ k. as_ordering (passes k)) xs f h.questions t h.run) asked in
       absurd (never_equal (passes k.0) (sym k.1))
 
@@ -80,8 +78,8 @@ module _ {T : Type 0} (p : T → Bool) (xs : List T) where
       less_count (λ x. as_ordering (p x)) xs i l (region (λ x. as_ordering (p x)) xs (Err i) b (partitioned_rises h))
       ∙ (λ j. count_by (λ x. side_is (p x) j) xs)
 
-pub parts_list : {T : Type 0} (p : T → Bool) (first second : List T) → IsLocalBoundary (λ x. as_ordering (p x)) (first ++ second) (length first)
-    → IsPartitionedBy p (first ++ second) → AllByRecursion (λ x. p x ≡ true) first × AllByRecursion (λ x. p x ≡ false) second
+pub parts_list : {T : Type 0} (p : T → Bool) (first second : List T)
+    → IsLocalBoundary (λ x. as_ordering (p x)) (first ++ second) (length first) → IsPartitionedBy p (first ++ second) → AllByRecursion (λ x. p x ≡ true) first × AllByRecursion (λ x. p x ≡ false) second
 parts_list p first second b h =
     let at = parts_at p (first ++ second) (length first) b h in (
       subst (AllByRecursion (λ x. p x ≡ true)) (take-append_seam first second) (taken _ (first ++ second) (length first) at.0),
@@ -158,24 +156,14 @@ module _ {T : Type 0} (ord : T → Ordering) where
       two : AllByRecursion (λ x. is_eq (ord x) ≡ true) equals × AllByRecursion (λ x. is_eq (ord x) ≡ false) r.after
       two = parts_list (λ x. is_eq (ord x)) equals r.after r.upto (equal_first (equals ++ r.after) later one.1)
 
--- the elements of a range are those that a filter keeps
-module _ {T : Type 0} (p : T → Bool) where
-  keeps_all : (xs : List T) → AllByRecursion (λ x. p x ≡ true) xs → filter p xs ≡ xs
-  keeps_all [] h = refl
-  keeps_all (x ∷ xs) h = rw (h.0, keeps_all xs h.1) refl
-
-  keeps_none : (xs : List T) → AllByRecursion (λ x. p x ≡ false) xs → filter p xs ≡ []
-  keeps_none [] h = refl
-  keeps_none (x ∷ xs) h = rw (h.0) (keeps_none xs h.1)
-
 -- what a filter keeps of a range: all of a part that passes, and none of another
 module _ {T : Type 0} (ord : T → Ordering) (xs equals : List T) (r : IsRange ord xs equals) (p : Ordering → Bool) where
   kept : (o : Ordering) (ys : List T) → AllByRecursion (λ x. ord x ≡ o) ys → filter (λ x. p (ord x)) ys ≡ cond (p o) ys []
   kept o ys h = by (p o) refl
     where
       by : (b : Bool) → p o ≡ b → filter (λ x. p (ord x)) ys ≡ cond b ys []
-      by true e = keeps_all (λ x. p (ord x)) ys (all_each _ _ (λ x same. ap p same ∙ e) ys h)
-      by false e = keeps_none (λ x. p (ord x)) ys (all_each _ _ (λ x same. ap p same ∙ e) ys h)
+      by true e = keeps_all (λ x. p (ord x)) ys (λ x c. ap p (all_contains _ ys x h c) ∙ e)
+      by false e = keeps_none (λ x. p (ord x)) ys (λ x c. ap p (all_contains _ ys x h c) ∙ e)
 
   filtered : filter (λ x. p (ord x)) xs ≡ cond (p Less) r.before [] ++ (cond (p Equal) equals [] ++ cond (p Greater) r.after [])
   filtered =

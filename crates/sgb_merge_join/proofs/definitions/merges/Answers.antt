@@ -7,7 +7,7 @@ use Rattle.std.specs.declared.cmp.Ordering.TheVariants.{Less, Equal, Greater}
 use Rattle.sgb_search.proofs.Lists.AllByRecursion.{all_contains}
 use Rattle.sgb_merge_join.specs.Examples.{stair}
 use Rattle.sgb_merge_join.specs.Merge.{AllStand}
-use Rattle.sgb_merge_join.proofs.Merging.{contains_head, contains_tail}
+use Rattle.sgb_search.proofs.Lists.Contained.{contains_head, contains_tail}
 use Rattle.sgb_merge_join.proofs.Converse as converse
 use Rattle.sgb_merge_join.proofs.definitions.merges.Goals as goal
 

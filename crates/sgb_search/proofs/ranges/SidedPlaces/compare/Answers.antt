@@ -10,6 +10,6 @@ returns g c = (
   (
     c.asker.result,
     record { shown = _; shows = sym c.index-self-place.is; called = c.asker.ensures },
-    ap as_ordering (sym c.is_before.ensures) ∙ sym c.ordering_of.ensures,
+    ap as_ordering (sym c.is_before.ensures) ∙ sym c.before_end.ensures,
   ),
 )
