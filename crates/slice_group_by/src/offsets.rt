@@ -2,6 +2,7 @@
 ghost use Rattle.std.specs.Prelude.{◌≡◌, ℕ, ◌+◌, ◌<◌, ◌^◌, List, length, map, Some};
 ghost use Rattle.std.specs.Iterator.{Yields, at_most};
 ghost use Rattle.std.specs.List.{AllByRecursion};
+ghost use Rattle.std.proofs.lemmas.Iterator.{YieldsList};
 ghost use Rattle.sgb_search.specs.Calls.{Place, StandsAt};
 ghost use Rattle.sgb_search.specs.declared.end.End.{End};
 ghost use Rattle.slice_group_by.specs.declared.offsets.WithOffsets.{WithOffsets};
@@ -69,7 +70,8 @@ pub fn with_offsets<Q: Offsets>(groups: Q) -> WithOffsets<Q>
 }
 
 /// Where the groups stand that calls at one end give: each in the input at its offset, whatever the judge answers. From the front
-/// an offset is the sum of the lengths of the groups before it.
+/// an offset is the sum of the lengths of the groups before it (`front`), as a loop or an adapter sees them (`yields`, which takes what
+/// `sees_pieces` says of the groups).
 pub fn groups_stand<Q: Offsets>(_groups: &WithOffsets<Q>)
     ensures each { (e : End) (q t : WithOffsets Q) (items : List (ℕ × Q.Item))
         → Yields (GivesWithOffset Q.place Q.left Q.units Q.gives e) q items t
@@ -78,6 +80,10 @@ pub fn groups_stand<Q: Offsets>(_groups: &WithOffsets<Q>)
         → Yields (GivesWithOffset Q.place Q.left Q.units Q.gives Front) q items t
         → map (λ x. (x.0, Q.units x.1)) items
         ≡ with_offsets (Q.place (groups_under q)).offset (map (λ x. Q.units x.1) items) }
+    ensures yields { (q : WithOffsets Q) (parts : List (List Q.Unit))
+        → YieldsList (GivesWithOffset Q.place Q.left Q.units Q.gives Front) (λ x. Q.units x.1) q parts
+        → YieldsList (GivesWithOffset Q.place Q.left Q.units Q.gives Front) (λ x. (x.0, Q.units x.1)) q
+        (with_offsets (Q.place (groups_under q)).offset parts) }
 {}
 
 impl<Q: Offsets + Drop> Iterator for WithOffsets<Q> {

@@ -1,6 +1,6 @@
 -- Where the groups stand in the input that calls give.
 use Rattle.std.proofs.Common.{◌≡◌, ℕ, ◌+◌, ◌<◌, ◌^◌, List, [], ◌∷◌, length, Option, Some, map, refl, sym, ap, ◌∙◌, subst, arith, length-append}
-use Rattle.std.specs.Iterator.{Yields}
+use Rattle.std.specs.Iterator.{Yields, AlwaysYields}
 use Rattle.std.specs.List.{AllByRecursion}
 use Rattle.sgb_search.specs.Calls.{Place, StandsAt, place_after}
 use Rattle.sgb_search.specs.declared.end.End.{End}
@@ -64,3 +64,19 @@ module _ {Q I U : Type 0} (place : Q → Place U) (left : Q → List U) (units :
       let next : (place y.0.groups).offset ≡ (place q.groups).offset + length (units x.1) = ap (λ (r : Place U). r.offset) moves in
       ap (λ l. (x.0, units x.1) ∷ l) (front_offsets y.0 t xs y.2 ∙ ap (λ n. with_offsets n (map (λ x. units x.1) xs)) next)
       ∙ ap (λ n. (n, units x.1) ∷ with_offsets ((place q.groups).offset + length (units x.1)) (map (λ x. units x.1) xs)) start
+
+  -- what always yields parts yields each with its offset
+  pub yields_offsets : (q : WithOffsets Q) (ps : List (List U)) → AlwaysYields (steps Front) (λ x. units x.1) q ps
+      → AlwaysYields (steps Front) (λ x. (x.0, units x.1)) q (with_offsets (place q.groups).offset ps)
+  yields_offsets q [] h = h
+  yields_offsets q (part ∷ ps) h = (
+    h.0,
+    λ x j g.
+        let k = h.1 x j g in
+        let moves = (takes Front q.groups x.1 j.groups g.0).moves in
+        let next : (place j.groups).offset ≡ (place q.groups).offset + length part =
+        ap (λ (r : Place U). r.offset) moves ∙ ap (λ (l : List U). (place q.groups).offset + length l) k.0 in (
+          λ i. (g.1.start i, k.0 i),
+          subst (λ (n : ℕ). AlwaysYields (steps Front) (λ x. (x.0, units x.1)) j (with_offsets n ps)) next (yields_offsets j ps k.1),
+        ),
+  )
