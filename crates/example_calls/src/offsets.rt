@@ -1,5 +1,5 @@
 //! Where groups begin and end in their input.
-use slice_group_by::{LinearGroupBy, LinearStrGroupByKey, with_offsets};
+use slice_group_by::{LinearGroupBy, LinearGroupByKey, LinearStrGroupByKey, with_offsets};
 use std::alloc::{AllocError, Global};
 use std::io;
 
@@ -32,6 +32,13 @@ pub fn words(alloc: Global, text: &str) -> Result<Vec<(usize, usize)>, AllocErro
     Ok(spans)
 }
 
+/// The groups of rows of one key, each with the key.
+pub fn keyed(alloc: Global, rows: &[(u32, u64)]) -> Result<Vec<(u32, &[(u32, u64)])>, AllocError> {
+    LinearGroupByKey::new(rows, |row: &(u32, u64)| row.0)
+        .map(|group| (group[0].0, group))
+        .collect(alloc)
+}
+
 /// The last run of a slice, and the row at which it begins.
 pub fn last_run(slice: &[u32]) -> Option<(usize, &[u32])> {
     with_offsets(LinearGroupBy::new(slice, |a, b| a == b)).next_back()
@@ -42,7 +49,8 @@ pub fn print_all(rt: &(impl Print + AllocGlobal)) -> io::Result<()> {
     let sessions = sessions(rt.alloc(), &[0, 40, 90, 1000, 1030, 5000], 60)?;
     let words = words(rt.alloc(), "to be, or é not")?;
     println!(rt;
-        "offsets: {sessions:?} {words:?} {:?}",
-        last_run(&[1, 1, 2, 2, 2])
+        "offsets: {sessions:?} {words:?} {:?} {}",
+        last_run(&[1, 1, 2, 2, 2]),
+        keyed(rt.alloc(), &[(7, 1), (7, 2), (8, 3)])?.len()
     )
 }
