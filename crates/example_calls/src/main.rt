@@ -8,6 +8,7 @@ mod first_page;
 mod inputs;
 mod loops;
 mod numbers;
+mod offsets;
 mod rest;
 mod returned;
 
@@ -52,6 +53,8 @@ fn main(rt: HostRuntime) -> io::Result<()> {
         numbers::longest_equal(&[1u8, 1, 1, 2, 2]),
         numbers::longest_equal(&[0.5f64, 2.5])
     )?;
+
+    offsets::print_all(&rt)?;
 
     let near = [1, 2, 4, 9, 9, 20];
     let counts = (

@@ -7,6 +7,7 @@ pub mod closures;
 pub mod equal_groups;
 pub mod families;
 pub mod loops;
+pub mod offsets;
 pub mod plans;
 pub mod texts;
 pub mod writers;

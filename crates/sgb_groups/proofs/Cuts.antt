@@ -5,8 +5,9 @@ use Rattle.std.specs.Prelude.{option_copied, slice_range}
 use Rattle.std.specs.Borrow.{Bor}
 use Rattle.sgb_search.specs.declared.end.End.{End}
 use Rattle.sgb_search.specs.declared.end.End.TheVariants.{Front, Back}
-use Rattle.sgb_search.specs.Calls.{CallAt, IsGroupAt, between}
+use Rattle.sgb_search.specs.Calls.{CallAt, IsGroupAt, between, place_after}
 use Rattle.sgb_search.proofs.Lists.Between.{between_places, places_between}
+use Rattle.sgb_search.proofs.Lists.Places.{from_low, moved}
 use Rattle.sgb_search.proofs.Lists.Ranges.{length-range}
 use Rattle.sgb_groups.specs.declared.groups.SliceGroups.{SliceGroups}
 use Rattle.sgb_groups.specs.Gives.{groups_of, Gives, lies_within}
@@ -16,7 +17,7 @@ module _ {T J C : Type 0} (asks : End → List T → ℕ → J → J → Type 0)
   pub call : (e : End) (s : SliceGroups T J C) (o : Option (Bor (List T))) (t : SliceGroups T J C) → Gives asks e s o t
       → CallAt asks e (groups_of s) (option_copied o) (groups_of t)
   call e s None t h = (h.0, ap groups_of h.1)
-  call e s (Some x) t h = h
+  call e s (Some x) t h = h.call
 
 -- a place of a list is one that lies in it or at its end
 pub place_within : {T : Type 0} (xs : List T) (n : ℕ) → lies_within xs n ≡ true → n ≤ length xs
@@ -39,6 +40,14 @@ order_of_part xs low high more =
     let places = places_between (lies_within xs) xs low high more in
     let inside = place_within xs high places.high_is in
     (omega (arith, more, ap length (part_is xs low high places.order inside), length-range xs low high places.order inside), inside)
+
+-- a group of n elements at the front of such a part leaves the place behind it
+pub moved_behind : {T : Type 0} (xs : List T) (low high n : ℕ) → high ≤ length xs → low + n ≤ high
+    → from_low xs (low + n) ≡ place_after Front (length (slice_range xs low (low + n))) (from_low xs low)
+moved_behind xs low high n inside within =
+    moved xs low n (omega arith)
+    ∙ ap (λ (k : ℕ). place_after Front k (from_low xs low)) {x = n} {y = length (slice_range xs low (low + n))}
+    (omega (arith, length-range xs low (low + n) (omega arith) (omega arith)))
 
 -- a group of n elements at an end of such a part
 module _ {T J : Type 0} (asks : End → List T → ℕ → J → J → Type 0) (xs : List T) (low high : ℕ) (j k : J)

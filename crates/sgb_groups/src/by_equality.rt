@@ -1,7 +1,7 @@
 //! Groups by `==` of the elements, for reading and for writing.
 ghost use Rattle.std.specs.Prelude.{◌≡◌, ◌<◌};
 ghost use Rattle.sgb_search.specs.declared.judge.EqualityJudge.{EqualityJudge};
-ghost use Rattle.sgb_search.specs.Calls.{IsCallableBy, ComputesBy};
+ghost use Rattle.sgb_search.specs.Calls.{IsCallableBy, ComputesBy, at_start};
 ghost use Rattle.sgb_search.specs.Judges.{by_equality};
 ghost use Rattle.sgb_loans.specs.Loans.{NothingOut};
 
@@ -11,7 +11,7 @@ use crate::groups_mut::SliceGroupsMut;
 use sgb_search::judge::EqualityJudge;
 
 impl<'a, T: PartialEq, C: GroupEnd> SliceGroups<'a, T, EqualityJudge, C> {
-    ghost use Rattle.sgb_groups.specs.Gives.{groups_of};
+    ghost use Rattle.sgb_groups.specs.Gives.{groups_of, place_of};
 
     /// All groups of equal elements of the slice, which are still to come. Nothing is asked yet.
     ///
@@ -20,6 +20,7 @@ impl<'a, T: PartialEq, C: GroupEnd> SliceGroups<'a, T, EqualityJudge, C> {
     #[inline]
     pub fn new(slice: &'a [T]) -> Self
         ensures remainder { (groups_of result).remainder ≡ slice.now }
+        ensures place { place_of result ≡ at_start slice.now }
         ensures asked { result.judge.asked ≡ 0 }
         ensures callable { IsCallableBy (C.allowed T) (by_equality T.eq) (groups_of result) }
         ensures computes { ComputesBy (C.allowed T) (by_equality T.eq) (groups_of result) T.eq }

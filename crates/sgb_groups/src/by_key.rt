@@ -2,7 +2,7 @@
 ghost use Rattle.std.specs.Prelude.{◌≡◌, ◌<◌, ◌+◌};
 ghost use Rattle.std.specs.Fn.{ComputesKey};
 ghost use Rattle.sgb_search.specs.declared.judge.KeyJudge.{KeyJudge};
-ghost use Rattle.sgb_search.specs.Calls.{IsCallableBy, ComputesBy};
+ghost use Rattle.sgb_search.specs.Calls.{IsCallableBy, ComputesBy, at_start};
 ghost use Rattle.sgb_search.specs.Judges.{by_key, key_judge};
 ghost use Rattle.sgb_loans.specs.Loans.{NothingOut};
 
@@ -14,7 +14,7 @@ use sgb_search::judge::KeyJudge;
 type ByKey<'a, T, F, K, C> = SliceGroups<'a, T, KeyJudge<F, K>, C>;
 
 impl<'a, T, K: PartialEq + Drop, F: FnMut(&T) -> K, C: GroupEnd> ByKey<'a, T, F, K, C> {
-    ghost use Rattle.sgb_groups.specs.Gives.{groups_of};
+    ghost use Rattle.sgb_groups.specs.Gives.{groups_of, place_of};
 
     /// All groups of the slice by the key, which are still to come. Nothing is asked yet.
     ///
@@ -33,6 +33,7 @@ impl<'a, T, K: PartialEq + Drop, F: FnMut(&T) -> K, C: GroupEnd> ByKey<'a, T, F,
         requires { IsCallableBy (C.allowed T) (by_key F.FnMut K.eq)
             (record { remainder = slice.now; judge = key_judge func }) }
         ensures remainder { (groups_of result).remainder ≡ slice.now }
+        ensures place { place_of result ≡ at_start slice.now }
         ensures judge { result.judge ≡ key_judge func }
         ensures callable { IsCallableBy (C.allowed T) (by_key F.FnMut K.eq) (groups_of result) }
         ensures computes { (key : T → K) → ComputesKey F.FnMut key func

@@ -2,7 +2,7 @@
 ghost use Rattle.std.specs.Prelude.{◌≡◌};
 ghost use Rattle.sgb_numbers.specs.declared.number_judge.NumberJudge.{NumberJudge};
 ghost use Rattle.sgb_numbers.specs.Numbers.{by_number};
-ghost use Rattle.sgb_search.specs.Calls.{IsCallableBy, ComputesBy};
+ghost use Rattle.sgb_search.specs.Calls.{IsCallableBy, ComputesBy, at_start};
 ghost use Rattle.sgb_loans.specs.Loans.{NothingOut};
 
 use crate::group_end::GroupEnd;
@@ -12,12 +12,13 @@ use sgb_numbers::lanes::Lanes;
 use sgb_numbers::number_judge::NumberJudge;
 
 impl<'a, T: Lanes, C: GroupEnd> SliceGroups<'a, T, NumberJudge, C> {
-    ghost use Rattle.sgb_groups.specs.Gives.{groups_of};
+    ghost use Rattle.sgb_groups.specs.Gives.{groups_of, place_of};
 
     /// All groups of equal numbers of the slice, which are still to come. Nothing is compared yet.
     #[inline]
     pub fn new(slice: &'a [T]) -> Self
         ensures remainder { (groups_of result).remainder ≡ slice.now }
+        ensures place { place_of result ≡ at_start slice.now }
         ensures callable { IsCallableBy (C.allowed T) (by_number T.eq) (groups_of result) }
         ensures computes { ComputesBy (C.allowed T) (by_number T.eq) (groups_of result) T.eq }
         ensures settled { C.fits T T.eq slice.now → C.settled T NumberJudge (by_number T.eq) (groups_of result) T.eq }

@@ -2,7 +2,7 @@
 ghost use Rattle.std.specs.Prelude.{◌≡◌, ◌<◌, Bool};
 ghost use Rattle.std.specs.Fn.{ComputesOnPairs};
 ghost use Rattle.sgb_search.specs.declared.judge.PredicateJudge.{PredicateJudge};
-ghost use Rattle.sgb_search.specs.Calls.{IsCallableBy, ComputesBy};
+ghost use Rattle.sgb_search.specs.Calls.{IsCallableBy, ComputesBy, at_start};
 ghost use Rattle.sgb_search.specs.Judges.{by_predicate, predicate_judge};
 ghost use Rattle.sgb_loans.specs.Loans.{NothingOut};
 
@@ -12,7 +12,7 @@ use crate::groups_mut::SliceGroupsMut;
 use sgb_search::judge::PredicateJudge;
 
 impl<'a, T, P: FnMut(&T, &T) -> bool, C: GroupEnd> SliceGroups<'a, T, PredicateJudge<P>, C> {
-    ghost use Rattle.sgb_groups.specs.Gives.{groups_of};
+    ghost use Rattle.sgb_groups.specs.Gives.{groups_of, place_of};
 
     /// All groups of the slice by the predicate, which are still to come. Nothing is asked yet.
     ///
@@ -30,6 +30,7 @@ impl<'a, T, P: FnMut(&T, &T) -> bool, C: GroupEnd> SliceGroups<'a, T, PredicateJ
         requires { IsCallableBy (C.allowed T) (by_predicate P.FnMut)
             (record { remainder = slice.now; judge = predicate_judge predicate }) }
         ensures remainder { (groups_of result).remainder ≡ slice.now }
+        ensures place { place_of result ≡ at_start slice.now }
         ensures judge { result.judge ≡ predicate_judge predicate }
         ensures callable { IsCallableBy (C.allowed T) (by_predicate P.FnMut) (groups_of result) }
         ensures computes { (p : T → T → Bool) → ComputesOnPairs P.FnMut p predicate

@@ -1,9 +1,9 @@
 //! The groups of a slice for reading, over any judge and any way to find where a group ends.
-ghost use Rattle.std.specs.Prelude.{◌≡◌, ◌<◌, ◌≤◌, ◌+◌, [], length, Option, MatchOption, nat_eq, IfSome, if◌then◌else◌};
+ghost use Rattle.std.specs.Prelude.{◌≡◌, ◌<◌, ◌≤◌, ◌+◌, ◌^◌, [], length, Option, MatchOption, nat_eq, IfSome, if◌then◌else◌};
 ghost use Rattle.std.specs.Iterator.{UpTo};
 ghost use Rattle.std.specs.Iterator.SizeHint.{IsWithinCount};
 ghost use Rattle.sgb_search.specs.declared.end.End.TheVariants.{Front, Back};
-ghost use Rattle.sgb_search.specs.Calls.{IsCallableBy, groups_to_come};
+ghost use Rattle.sgb_search.specs.Calls.{IsCallableBy, StandsAt, at_start, groups_to_come};
 
 use crate::group_end::GroupEnd;
 use sgb_search::end::End;
@@ -25,12 +25,13 @@ pub struct SliceGroups<'a, T, J, C> {
 }
 
 impl<'a, T, J, C> SliceGroups<'a, T, J, C> {
-    ghost use Rattle.sgb_groups.specs.Gives.{groups_of};
+    ghost use Rattle.sgb_groups.specs.Gives.{groups_of, place_of};
 
     // All groups of the slice are still to come.
     #[inline]
     pub(crate) fn with_judge(slice: &'a [T], judge: J) -> Self
         ensures remainder { (groups_of result).remainder ≡ slice.now }
+        ensures place { place_of result ≡ at_start slice.now }
         ensures judge { result.judge ≡ judge }
     {
         SliceGroups {
@@ -66,6 +67,24 @@ impl<'a, T, J, C> SliceGroups<'a, T, J, C> {
         } else {
             None
         }
+    }
+
+    /// Where the remainder begins in the slice: how many elements calls at the front have handed out. The next group at the
+    /// front begins there, and the last one from the back began `remainder_len` elements behind it.
+    ///
+    /// ```
+    /// let mut groups = LinearGroup::new(&[1, 1, 1, 3, 3, 2, 2, 2]);
+    /// groups.next();      // Some([1, 1, 1])
+    /// groups.next_back(); // Some([2, 2, 2])
+    /// groups.offset();    // 3
+    /// ```
+    #[inline]
+    pub fn offset(&self) -> usize
+        ensures offset { result ≡ (place_of self.now).offset }
+        ensures stands { StandsAt (place_of self.now) (groups_of self.now).remainder }
+        ensures fits { result + length (groups_of self.now).remainder < 2 ^ 64 }
+    {
+        self.low.min(self.slice.len())
     }
 
     /// How many elements no call has handed out yet.

@@ -1,15 +1,17 @@
 -- A text that is cut in two between characters, and the remainder of an iterator that is cut so.
-use Rattle.std.proofs.Common.{◌≡◌, ℕ, ◌+◌, ◌-◌, List, ◌++◌, length, take, drop, sym, ap, ◌∙◌, subst, arith, length-append}
-use Rattle.sgb_search.specs.Calls.{IsCallableBy}
+use Rattle.std.proofs.Common.{◌≡◌, ℕ, ◌+◌, ◌-◌, ◌<◌, ◌≤◌, List, ◌++◌, length, take, drop, sym, ap, ◌∙◌, subst, arith, length-append}
+use Rattle.sgb_search.specs.Calls.{IsCallableBy, place_after}
 use Rattle.std.specs.Str.{chars, IsUtf8, IsCharBoundary}
 use Rattle.std.proofs.lemmas.Str.{IsCharBoundary-at_seam}
 use Rattle.std.proofs.Math.Seq.{take-append_seam, drop-append_seam}
+use Rattle.sgb_search.proofs.Lists.Between.{are_places, ends_at}
+use Rattle.sgb_search.proofs.Lists.Places.{from_low, moved}
 use Rattle.sgb_search.specs.declared.judge.Judge.{Ghosts}
 use Rattle.sgb_search.specs.declared.end.End.{End}
 use Rattle.sgb_search.specs.Split.{put_at, AreNeighbours}
 use Rattle.sgb_search.specs.declared.end.End.TheVariants.{Front, Back}
-use Rattle.sgb_linear_str_group.specs.Texts.{TextGroups, text_between, IsTextAt, in_characters}
-use Rattle.sgb_linear_str_group.proofs.Places.{text_after, text_before}
+use Rattle.sgb_linear_str_group.specs.Texts.{TextGroups, lies_between_characters, text_between, IsTextAt, in_characters}
+use Rattle.sgb_linear_str_group.proofs.Places.{place_within, text_after, text_before}
 
 -- a text that is cut in two: the seam lies between characters, with the one part before it and the other after it
 module _ (text front back : List ℕ) (cut : text ≡ front ++ back) where
@@ -66,6 +68,17 @@ module _ {J : Type 0} (g : Ghosts J ℕ) (xs : List ℕ) (low high : ℕ) (r : L
       text_after xs low high r same (length group) (IsCharBoundary-at_seam r group rest h.cut h.rest_utf8)
       (omega (arith, h.nonempty, ap length h.cut, length-append group rest)) ∙ back_is r group rest h.cut in
       rw (after, ← same) h
+
+  -- a group at the front leaves the place behind it
+  pub moved_on : IsTextAt g Front (record { text = r; judge = j }) group (record { text = rest; judge = k })
+      → from_low xs (low + length group) ≡ place_after Front (length group) (from_low xs low)
+  moved_on h =
+      let more : 0 < length r = omega (arith, h.nonempty, ap length h.cut, length-append group rest) in
+      let end : low + length r ≡ high =
+      ends_at (lies_between_characters xs) xs (place_within xs) low high r same more in
+      let inside : high ≤ length xs =
+      place_within xs high (are_places (lies_between_characters xs) xs (place_within xs) low high r same more).high_is in
+      moved xs low (length group) (omega (arith, end, inside, ap length h.cut, length-append group rest))
 
   pub back_cut : IsTextAt g Back (record { text = r; judge = j }) group (record { text = rest; judge = k })
       → IsTextAt g Back (record { text = text_between xs low high; judge = j }) group

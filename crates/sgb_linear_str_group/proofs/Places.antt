@@ -34,6 +34,10 @@ module _ (text front : List ℕ) (low high : ℕ) (order : low < high) (within :
   pub boundary_of_front : IsCharBoundary text low → IsCharBoundary front low
   boundary_of_front b = (omega (arith, front_len, order), λ l. rw (← same_byte) at (b.1 (omega (arith, order, within))))
 
+-- such a place lies in the text or at its end
+pub place_within : (text : List ℕ) (n : ℕ) → lies_between_characters text n ≡ true → n ≤ length text
+place_within text n e = ((boundary_test text n).0 e).0
+
 -- a text is the part between its ends
 pub text_ends : (text : List ℕ) → IsUtf8 text → text_between text 0 (length text) ≡ text
 text_ends text u =
@@ -43,18 +47,15 @@ text_ends text u =
 -- the part r between two places, which is not empty, is cut at its place n, between characters
 module _ (text : List ℕ) (low high : ℕ) (r : List ℕ) (is : r ≡ text_between text low high) (n : ℕ)
     (b : IsCharBoundary r n) (more : 0 < length r) where
-  place_within : (n : ℕ) → lies_between_characters text n ≡ true → n ≤ length text
-  place_within n e = ((boundary_test text n).0 e).0
-
   ends : low + length r ≡ high
-  ends = ends_at (lies_between_characters text) text place_within low high r is more
+  ends = ends_at (lies_between_characters text) text (place_within text) low high r is more
 
   places : ArePlaces (lies_between_characters text) low high
-  places = are_places (lies_between_characters text) text place_within low high r is more
+  places = are_places (lies_between_characters text) text (place_within text) low high r is more
 
   byte : n < length r → get_or r n 0 ≡ get_or text (low + n) 0
   byte l =
-      ap (λ (l : List ℕ). get_or l n 0) (is_range (lies_between_characters text) text place_within low high r is more)
+      ap (λ (l : List ℕ). get_or l n 0) (is_range (lies_between_characters text) text (place_within text) low high r is more)
       ∙ get_or-take (high - low) (drop low text) n 0 (omega (arith, ends)) ∙ get_or-drop low text n 0
 
   middle : IsCharBoundary text (low + n)
@@ -66,12 +67,12 @@ module _ (text : List ℕ) (low high : ℕ) (r : List ℕ) (is : r ≡ text_betw
           (omega (arith, leb→le (length r) n (subst T (sym e) tt), b.0, ends)) ((boundary_test text high).0 places.high_is)
       by false e =
           let l : n < length r = leb-false (length r) n e in
-          (omega (arith, l, ends, place_within high places.high_is), λ _ a. omega (arith, b.1 l (omega (arith, byte l)), byte l))
+          (omega (arith, l, ends, place_within text high places.high_is), λ _ a. omega (arith, b.1 l (omega (arith, byte l)), byte l))
 
   pub text_before : text_between text low (low + n) ≡ take n r
   text_before =
-      part_before (lies_between_characters text) text place_within low high r is more n b.0 ((boundary_test text _).1 middle)
+      part_before (lies_between_characters text) text (place_within text) low high r is more n b.0 ((boundary_test text _).1 middle)
 
   pub text_after : text_between text (low + n) high ≡ drop n r
   text_after =
-      part_after (lies_between_characters text) text place_within low high r is more n b.0 ((boundary_test text _).1 middle)
+      part_after (lies_between_characters text) text (place_within text) low high r is more n b.0 ((boundary_test text _).1 middle)

@@ -26,7 +26,7 @@ module _ {J : Type 0} (g : Ghosts J ℕ) (e : End) where
   pub call : (s : LinearStrGroups J) (r : Option (Bor (List ℕ))) (t : LinearStrGroups J) → GivesText g e s r t
       → TextCallAt g e (text_groups_of s) (option_copied r) (text_groups_of t)
   call s None t h = (h.0, ap text_groups_of h.1)
-  call s (Some x) t h = h
+  call s (Some x) t h = h.call
 
   -- a queue whose states show such texts, and whose items show such bytes
   module _ {Q I : Type 0} (seen : Q → TextGroups J) (bytes : I → List ℕ) (s : Q) (r : Option I) (t : Q)

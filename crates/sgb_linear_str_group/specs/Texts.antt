@@ -1,12 +1,12 @@
 -- What an iterator over groups of a text shows, and what its calls give. A text is its bytes, and questions are about its characters.
-use Rattle.std.specs.Prelude.{◌≡◌, ℕ, ◌<◌, Bool, ◌&&◌, ◌||◌, List, [], length, nat_lt, nat_le, slice_index, Option, MatchOption}
+use Rattle.std.specs.Prelude.{◌≡◌, ℕ, ◌<◌, Bool, ◌&&◌, ◌||◌, List, [], length, nat_lt, nat_le, min, slice_index, Option, MatchOption}
 use Rattle.std.specs.Borrow.{Bor}
 use Rattle.std.specs.Iterator.{Count, at_most}
 use Rattle.std.specs.Str.{chars, IsUtf8}
 use Rattle.sgb_search.specs.declared.judge.Judge.{Ghosts}
 use Rattle.sgb_search.specs.declared.end.End.{End}
 use Rattle.sgb_search.specs.Split.{put_at}
-use Rattle.sgb_search.specs.Calls.{IsGroupAt, Groups, between}
+use Rattle.sgb_search.specs.Calls.{IsGroupAt, Groups, Place, place_after, between}
 use Rattle.sgb_search.specs.Linear.{IsSettled, LinearQuestions}
 use Rattle.sgb_linear_str_group.specs.declared.groups.LinearStrGroups.{LinearStrGroups}
 
@@ -33,6 +33,10 @@ text_between text = between (lies_between_characters text) text
 abbrev pub text_groups_of : {J : Type 0} → LinearStrGroups J → TextGroups J
 text_groups_of s = record { text = text_between s.string.now s.low s.high; judge = s.judge }
 
+-- the text that it was made of, and the byte at which the remainder begins in it: behind all that calls at the front have taken off
+abbrev pub text_place_of : {J : Type 0} → LinearStrGroups J → Place ℕ
+text_place_of s = record { input = s.string.now; offset = min s.low (length s.string.now) }
+
 -- no more groups come than bytes remain
 abbrev pub text_groups_to_come : {J : Type 0} → TextGroups J → Count
 text_groups_to_come s = at_most (length s.text)
@@ -54,7 +58,11 @@ module _ {J : Type 0} (g : Ghosts J ℕ) where
   abbrev pub TextCallAt : End → TextGroups J → Option (List ℕ) → TextGroups J → Type 0
   TextCallAt e s group t = MatchOption group ((s.text ≡ []) × (t ≡ s)) (λ x. IsTextAt e s x t)
 
-  -- what a call at the end gives for reading: the same of what it shows, and where it gives `None` nothing at all changes
+  -- a call at the end takes this group off what remains, which then begins behind a group from the front, and else where it began
+  pub record TakesText (e : End) (s : LinearStrGroups J) (group : List ℕ) (t : LinearStrGroups J) : Type 0 where
+    pub call : IsTextAt e (text_groups_of s) group (text_groups_of t)
+    pub place : text_place_of t ≡ place_after e (length group) (text_place_of s)
+
+  -- what a call at the end gives for reading: the same as `TextCallAt` of what it shows, and where it gives `None` nothing at all changes
   abbrev pub GivesText : End → LinearStrGroups J → Option (Bor (List ℕ)) → LinearStrGroups J → Type 0
-  GivesText e s group t = MatchOption group (((text_groups_of s).text ≡ []) × (t ≡ s))
-      (λ x. IsTextAt e (text_groups_of s) x.now (text_groups_of t))
+  GivesText e s group t = MatchOption group (((text_groups_of s).text ≡ []) × (t ≡ s)) (λ x. TakesText e s x.now t)

@@ -1,10 +1,10 @@
 //! Linear groups of equal characters of a text: for reading and, as bytes, for writing.
 ghost use Rattle.std.specs.Prelude.{◌≡◌, nat_eq};
-ghost use Rattle.sgb_search.specs.Calls.{IsCallableBy};
+ghost use Rattle.sgb_search.specs.Calls.{IsCallableBy, at_start};
 ghost use Rattle.sgb_search.specs.Split.{AreNeighbours};
 ghost use Rattle.std.specs.Str.{IsUtf8};
 ghost use Rattle.sgb_search.specs.Judges.{by_equality};
-ghost use Rattle.sgb_linear_str_group.specs.Texts.{text_groups_of, IsSettledText, in_characters};
+ghost use Rattle.sgb_linear_str_group.specs.Texts.{text_groups_of, text_place_of, IsSettledText, in_characters};
 ghost use Rattle.sgb_linear_str_group.specs.TextsMut.{text_groups_of_mut};
 ghost use Rattle.sgb_loans.specs.Loans.{NothingOut};
 
@@ -38,6 +38,7 @@ impl<'a> LinearStrGroups<'a, EqualityJudge> {
     #[inline]
     pub fn new(string: &'a str) -> Self
         ensures text { (text_groups_of result).text ≡ string.now }
+        ensures place { text_place_of result ≡ at_start string.now }
         ensures asked { result.judge.asked ≡ 0 }
         ensures callable { IsCallableBy AreNeighbours (by_equality nat_eq) (in_characters (text_groups_of result)) }
         ensures settled { IsSettledText (by_equality nat_eq) (text_groups_of result) nat_eq }

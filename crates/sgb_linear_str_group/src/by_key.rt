@@ -1,10 +1,10 @@
 //! Linear groups of a text by a key: for reading and, as bytes, for writing.
 ghost use Rattle.std.specs.Prelude.{◌≡◌, ℕ};
-ghost use Rattle.sgb_search.specs.Calls.{IsCallableBy};
+ghost use Rattle.sgb_search.specs.Calls.{IsCallableBy, at_start};
 ghost use Rattle.sgb_search.specs.Split.{AreNeighbours};
 ghost use Rattle.std.specs.Str.{IsUtf8};
 ghost use Rattle.sgb_search.specs.Judges.{by_char_key, char_key_judge, ComputesCharKey};
-ghost use Rattle.sgb_linear_str_group.specs.Texts.{text_groups_of, IsSettledText, in_characters};
+ghost use Rattle.sgb_linear_str_group.specs.Texts.{text_groups_of, text_place_of, IsSettledText, in_characters};
 ghost use Rattle.sgb_linear_str_group.specs.TextsMut.{text_groups_of_mut};
 ghost use Rattle.sgb_loans.specs.Loans.{NothingOut};
 
@@ -50,6 +50,7 @@ impl<'a, K: PartialEq + Drop, F: FnMut(char) -> K> LinearStrGroups<'a, CharKeyJu
         requires { IsCallableBy AreNeighbours (by_char_key F.FnMut K.eq)
             (in_characters (record { text = string.now; judge = char_key_judge func })) }
         ensures text { (text_groups_of result).text ≡ string.now }
+        ensures place { text_place_of result ≡ at_start string.now }
         ensures judge { result.judge ≡ char_key_judge func }
         ensures callable { IsCallableBy AreNeighbours (by_char_key F.FnMut K.eq)
             (in_characters (text_groups_of result)) }

@@ -1,12 +1,12 @@
 //! Linear groups of a text for reading, over any judge of characters.
 ghost use Rattle.std.specs.Prelude.{◌≡◌, ◌<◌, ◌+◌, ◌^◌, length, nat_eq, IfSome, IsTrue, ◌↔◌};
-ghost use Rattle.sgb_search.specs.Calls.{IsCallableBy};
+ghost use Rattle.sgb_search.specs.Calls.{IsCallableBy, StandsAt, at_start};
 ghost use Rattle.sgb_search.specs.Split.{AreNeighbours};
 ghost use Rattle.std.specs.Str.{IsCharBoundary};
 ghost use Rattle.std.specs.Iterator.{UpTo};
 ghost use Rattle.std.specs.Iterator.SizeHint.{IsWithinCount};
 ghost use Rattle.sgb_search.specs.declared.end.End.TheVariants.{Front, Back};
-ghost use Rattle.sgb_linear_str_group.specs.Texts.{text_between, text_groups_of, text_groups_to_come, in_characters};
+ghost use Rattle.sgb_linear_str_group.specs.Texts.{text_between, text_groups_of, text_place_of, text_groups_to_come, in_characters};
 
 use crate::scan::split_group;
 use sgb_search::end::End;
@@ -64,6 +64,7 @@ impl<'a, J> LinearStrGroups<'a, J> {
     #[inline]
     pub(crate) fn with_judge(string: &'a str, judge: J) -> Self
         ensures text { (text_groups_of result).text ≡ string.now }
+        ensures place { text_place_of result ≡ at_start string.now }
         ensures judge { result.judge ≡ judge }
     {
         LinearStrGroups {
@@ -80,6 +81,23 @@ impl<'a, J> LinearStrGroups<'a, J> {
         ensures { result.now ≡ (text_groups_of self.now).text }
     {
         part(&End::Front, self.string, self.low, self.high)
+    }
+
+    /// The byte at which the remainder begins in the text: how many bytes calls at the front have handed out. The next group at
+    /// the front begins there, and the last one from the back began `remainder_len` bytes behind it.
+    ///
+    /// ```
+    /// let mut groups = LinearStrGroup::new("aaaabbbbb饰饰cccc");
+    /// groups.next();   // Some("aaaa")
+    /// groups.offset(); // 4
+    /// ```
+    #[inline]
+    pub fn offset(&self) -> usize
+        ensures offset { result ≡ (text_place_of self.now).offset }
+        ensures stands { StandsAt (text_place_of self.now) (text_groups_of self.now).text }
+        ensures fits { result + length (text_groups_of self.now).text < 2 ^ 64 }
+    {
+        self.low.min(self.string.len())
     }
 
     /// How many bytes no call has handed out yet.

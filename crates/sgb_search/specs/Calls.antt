@@ -1,8 +1,9 @@
 -- What contracts see of an iterator over groups, and what a call gives of the list that remains: one definition for all families, which
 -- differ in what they ask.
-use Rattle.std.specs.Prelude.{List, length, ◌≡◌, ◌&&◌, ℕ, ◌<◌, Bool, [], Option, MatchOption, slice_range, nat_le, if◌then◌else◌}
+use Rattle.std.specs.Prelude.{List, length, ◌≡◌, ◌&&◌, ℕ, ◌+◌, ◌<◌, ◌≤◌, Bool, [], Option, MatchOption, slice_range, nat_le, if◌then◌else◌}
 use Rattle.std.specs.Iterator.{Count, at_most}
 use Rattle.sgb_search.specs.declared.end.End.{End}
+use Rattle.sgb_search.specs.declared.end.End.TheVariants.{Front, Back}
 use Rattle.sgb_search.specs.declared.judge.Judge.{Ghosts}
 use Rattle.sgb_search.specs.Split.{put_at, on_pairs}
 use Rattle.sgb_search.specs.Judges.{MayAskAll, AnswersBy}
@@ -11,6 +12,25 @@ use Rattle.sgb_search.specs.Judges.{MayAskAll, AnswersBy}
 pub record Groups (T J : Type 0) : Type 0 where
   pub remainder : List T
   pub judge : J
+
+-- a list, and a place in it: where what remains of it begins
+pub record Place (T : Type 0) : Type 0 where
+  pub input : List T
+  pub offset : ℕ
+
+-- the beginning of a list
+abbrev pub at_start : {T : Type 0} → List T → Place T
+at_start xs = record { input = xs; offset = 0 }
+
+-- the place after a part of so many elements is taken off: behind it at the front, and the same at the back
+abbrev pub place_after : {T : Type 0} → End → ℕ → Place T → Place T
+place_after Front len p = record { input = p.input; offset = p.offset + len }
+place_after Back len p = p
+
+-- the part stands there in the list
+pub record StandsAt {T : Type 0} (p : Place T) (part : List T) : Type 0 where
+  pub within : p.offset + length part ≤ length p.input
+  pub is : slice_range p.input p.offset (p.offset + length part) ≡ part
 
 -- the part of a list from the place `low` up to the place `high`, where these stand in this order and pass a test, as whether they lie
 -- in the list, and else the empty list: what `get` gives

@@ -4,4 +4,5 @@ pub mod Yields
 pub mod GroupsToCome
 pub mod FamiliesAgree
 pub mod HandedOut
+pub mod Offsets
 pub mod Chunks

@@ -5,6 +5,7 @@ pub mod Plans
 pub mod Join
 pub mod Counts
 pub mod Chunks
+pub mod Offsets
 pub use Rattle.sgb_search.specs.Split
 pub use Rattle.sgb_search.specs.Judges
 pub use Rattle.sgb_search.specs.Calls

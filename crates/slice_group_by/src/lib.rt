@@ -17,6 +17,7 @@
 mod join;
 pub mod laws;
 pub mod loans;
+mod offsets;
 mod traits;
 
 pub use join::MergeJoin;
@@ -24,6 +25,7 @@ pub use laws::plans::{Plan, refute};
 pub use laws::queue::{End, GroupQueue, SliceQueue, SliceQueueMut, walk};
 pub use laws::ranks::rank_groups;
 pub use laws::sorted::is_sorted_for_groups;
+pub use offsets::{Offsets, WithOffsets, with_offsets};
 pub use sgb_binary_group::binary_group::{
     BinaryGroup, BinaryGroupBy, BinaryGroupByKey, BinaryGroupByKeyMut, BinaryGroupByMut,
     BinaryGroupMut,

@@ -16,6 +16,8 @@ mod linear_by;
 #[cfg(test)]
 mod methods;
 #[cfg(test)]
+mod offsets;
+#[cfg(test)]
 mod owners;
 #[cfg(test)]
 mod threads;

@@ -1,6 +1,7 @@
 -- Of calls, whatever they ask.
 use Rattle.std.proofs.Common.{◌≡◌, ℕ, ◌+◌, ◌<◌, Bool, List, [], length, Option, None, Some, refl, sym, ap, subst, ◌∙◌, arith}
 use Rattle.std.specs.List.{AllByRecursion}
+use Rattle.std.specs.Prelude.{option_map}
 use Rattle.sgb_search.specs.declared.end.End.{End}
 use Rattle.sgb_search.specs.declared.judge.Judge.{Ghosts}
 use Rattle.sgb_search.specs.Judges.{IsRun, IsRunOf, AsksWithin}
@@ -51,6 +52,12 @@ pub nothing_asked : {T J : Type 0} (g : Ghosts J T) (due : Groups T J → ℕ) (
     → AsksWithin (λ q r n. IsRunOf g.may_ask g.answers n q.judge r.judge) due exact s t
 nothing_asked g due exact s t e =
     record { number = 0; asks = ([], ap (λ u. u.judge) e, refl); most = omega (arith, ap due e); all = λ _. omega (arith, ap due e) }
+
+-- what holds of an answer that is read twice holds of it read once
+pub read_at_once : {X Y Z : Type 0} (P : Option Z → Type 0) (f : Y → Z) (g : X → Y) (o : Option X) → P (option_map f (option_map g o))
+    → P (option_map (λ x. f (g x)) o)
+read_at_once P f g None h = h
+read_at_once P f g (Some x) h = h
 
 -- what is asked between two states is asked between what shows them
 pub asks_seen : {A Q : Type 0} (asked : A → A → ℕ → Type 0) (due : A → ℕ) (exact : Bool) (seen : Q → A) (s t : Q)

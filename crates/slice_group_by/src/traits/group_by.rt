@@ -1,13 +1,13 @@
 //! Groups for reading by a method of the slice.
 ghost use Rattle.std.specs.Prelude.{◌≡◌, Bool};
-ghost use Rattle.sgb_search.specs.Calls.{ComputesBy, IsCallableBy};
+ghost use Rattle.sgb_search.specs.Calls.{ComputesBy, IsCallableBy, at_start};
 ghost use Rattle.std.specs.Fn.{ComputesOnPairs, ComputesKey};
 ghost use Rattle.sgb_search.specs.Judges.{by_predicate, predicate_judge, by_key, key_judge, by_equality};
 ghost use Rattle.sgb_numbers.specs.Numbers.{by_number};
 ghost use Rattle.sgb_search.specs.Split.{IsGrouped, AreApart, AreNeighbours};
 ghost use Rattle.sgb_search.specs.Linear.{IsSettled};
 ghost use Rattle.sgb_search.specs.Searching.{IsSettledApart};
-ghost use Rattle.sgb_groups.specs.Gives.{groups_of};
+ghost use Rattle.sgb_groups.specs.Gives.{groups_of, place_of};
 
 use crate::traits::holders::Elements;
 use sgb_binary_group::binary_group::{BinaryGroup, BinaryGroupBy, BinaryGroupByKey};
@@ -40,6 +40,7 @@ pub trait GroupBy<T>: Elements<T> {
         requires { IsCallableBy AreNeighbours (by_key F.FnMut K.eq)
             (record { remainder = Self.items self.now; judge = key_judge func }) }
         ensures remainder { (groups_of result).remainder ≡ Self.items self.now }
+        ensures place { place_of result ≡ at_start (Self.items self.now) }
         ensures judge { result.judge ≡ key_judge func }
         ensures callable { IsCallableBy AreNeighbours (by_key F.FnMut K.eq) (groups_of result) }
         ensures settled { (key : T → K) → ComputesKey F.FnMut key func
@@ -54,6 +55,7 @@ pub trait GroupBy<T>: Elements<T> {
         requires { IsCallableBy AreNeighbours (by_predicate P.FnMut)
             (record { remainder = Self.items self.now; judge = predicate_judge predicate }) }
         ensures remainder { (groups_of result).remainder ≡ Self.items self.now }
+        ensures place { place_of result ≡ at_start (Self.items self.now) }
         ensures judge { result.judge ≡ predicate_judge predicate }
         ensures callable { IsCallableBy AreNeighbours (by_predicate P.FnMut) (groups_of result) }
         ensures settled { (p : T → T → Bool) → ComputesOnPairs P.FnMut p predicate
@@ -68,6 +70,7 @@ pub trait GroupBy<T>: Elements<T> {
     where
         T: PartialEq,
         ensures remainder { (groups_of result).remainder ≡ Self.items self.now }
+        ensures place { place_of result ≡ at_start (Self.items self.now) }
         ensures asked { result.judge.asked ≡ 0 }
         ensures callable { IsCallableBy AreNeighbours (by_equality T.eq) (groups_of result) }
         ensures settled { IsSettled (by_equality T.eq) (groups_of result) T.eq }
@@ -81,6 +84,7 @@ pub trait GroupBy<T>: Elements<T> {
     where
         T: Lanes,
         ensures remainder { (groups_of result).remainder ≡ Self.items self.now }
+        ensures place { place_of result ≡ at_start (Self.items self.now) }
         ensures callable { IsCallableBy AreNeighbours (by_number T.eq) (groups_of result) }
         ensures settled { IsSettled (by_number T.eq) (groups_of result) T.eq }
     {
@@ -96,6 +100,7 @@ pub trait GroupBy<T>: Elements<T> {
         requires { IsCallableBy AreApart (by_key F.FnMut K.eq)
             (record { remainder = Self.items self.now; judge = key_judge func }) }
         ensures remainder { (groups_of result).remainder ≡ Self.items self.now }
+        ensures place { place_of result ≡ at_start (Self.items self.now) }
         ensures judge { result.judge ≡ key_judge func }
         ensures callable { IsCallableBy AreApart (by_key F.FnMut K.eq) (groups_of result) }
         ensures computes { (key : T → K) → ComputesKey F.FnMut key func
@@ -113,6 +118,7 @@ pub trait GroupBy<T>: Elements<T> {
         requires { IsCallableBy AreApart (by_predicate P.FnMut)
             (record { remainder = Self.items self.now; judge = predicate_judge predicate }) }
         ensures remainder { (groups_of result).remainder ≡ Self.items self.now }
+        ensures place { place_of result ≡ at_start (Self.items self.now) }
         ensures judge { result.judge ≡ predicate_judge predicate }
         ensures callable { IsCallableBy AreApart (by_predicate P.FnMut) (groups_of result) }
         ensures computes { (p : T → T → Bool) → ComputesOnPairs P.FnMut p predicate
@@ -129,6 +135,7 @@ pub trait GroupBy<T>: Elements<T> {
     where
         T: PartialEq,
         ensures remainder { (groups_of result).remainder ≡ Self.items self.now }
+        ensures place { place_of result ≡ at_start (Self.items self.now) }
         ensures asked { result.judge.asked ≡ 0 }
         ensures callable { IsCallableBy AreApart (by_equality T.eq) (groups_of result) }
         ensures computes { ComputesBy AreApart (by_equality T.eq) (groups_of result) T.eq }
@@ -147,6 +154,7 @@ pub trait GroupBy<T>: Elements<T> {
         requires { IsCallableBy AreApart (by_key F.FnMut K.eq)
             (record { remainder = Self.items self.now; judge = key_judge func }) }
         ensures remainder { (groups_of result).remainder ≡ Self.items self.now }
+        ensures place { place_of result ≡ at_start (Self.items self.now) }
         ensures judge { result.judge ≡ key_judge func }
         ensures callable { IsCallableBy AreApart (by_key F.FnMut K.eq) (groups_of result) }
         ensures computes { (key : T → K) → ComputesKey F.FnMut key func
@@ -166,6 +174,7 @@ pub trait GroupBy<T>: Elements<T> {
         requires { IsCallableBy AreApart (by_predicate P.FnMut)
             (record { remainder = Self.items self.now; judge = predicate_judge predicate }) }
         ensures remainder { (groups_of result).remainder ≡ Self.items self.now }
+        ensures place { place_of result ≡ at_start (Self.items self.now) }
         ensures judge { result.judge ≡ predicate_judge predicate }
         ensures callable { IsCallableBy AreApart (by_predicate P.FnMut) (groups_of result) }
         ensures computes { (p : T → T → Bool) → ComputesOnPairs P.FnMut p predicate
@@ -182,6 +191,7 @@ pub trait GroupBy<T>: Elements<T> {
     where
         T: PartialEq,
         ensures remainder { (groups_of result).remainder ≡ Self.items self.now }
+        ensures place { place_of result ≡ at_start (Self.items self.now) }
         ensures asked { result.judge.asked ≡ 0 }
         ensures callable { IsCallableBy AreApart (by_equality T.eq) (groups_of result) }
         ensures computes { ComputesBy AreApart (by_equality T.eq) (groups_of result) T.eq }

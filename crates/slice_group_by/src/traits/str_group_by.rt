@@ -1,10 +1,10 @@
 //! Groups by a method of the text.
 ghost use Rattle.std.specs.Prelude.{◌≡◌, ℕ, Bool, List, nat_eq};
-ghost use Rattle.sgb_search.specs.Calls.{IsCallableBy};
+ghost use Rattle.sgb_search.specs.Calls.{IsCallableBy, at_start};
 ghost use Rattle.sgb_search.specs.Split.{AreNeighbours};
 ghost use Rattle.std.specs.Str.{IsUtf8};
 ghost use Rattle.sgb_search.specs.Judges.{by_char_predicate, char_predicate_judge, ComputesOnChars, by_char_key, char_key_judge, ComputesCharKey, by_equality};
-ghost use Rattle.sgb_linear_str_group.specs.Texts.{text_groups_of, IsSettledText, in_characters};
+ghost use Rattle.sgb_linear_str_group.specs.Texts.{text_groups_of, text_place_of, IsSettledText, in_characters};
 ghost use Rattle.sgb_linear_str_group.specs.TextsMut.{text_groups_of_mut};
 ghost use Rattle.sgb_loans.specs.Loans.{NothingOut};
 
@@ -35,6 +35,7 @@ pub trait StrGroupBy: AsStr {
         requires { IsCallableBy AreNeighbours (by_char_key F.FnMut K.eq)
             (in_characters (record { text = Self.text self.now; judge = char_key_judge func })) }
         ensures text { (text_groups_of result).text ≡ Self.text self.now }
+        ensures place { text_place_of result ≡ at_start (Self.text self.now) }
         ensures judge { result.judge ≡ char_key_judge func }
         ensures callable { IsCallableBy AreNeighbours (by_char_key F.FnMut K.eq)
             (in_characters (text_groups_of result)) }
@@ -52,6 +53,7 @@ pub trait StrGroupBy: AsStr {
         requires { IsCallableBy AreNeighbours (by_char_predicate P.FnMut)
             (in_characters (record { text = Self.text self.now; judge = char_predicate_judge predicate })) }
         ensures text { (text_groups_of result).text ≡ Self.text self.now }
+        ensures place { text_place_of result ≡ at_start (Self.text self.now) }
         ensures judge { result.judge ≡ char_predicate_judge predicate }
         ensures callable { IsCallableBy AreNeighbours (by_char_predicate P.FnMut)
             (in_characters (text_groups_of result)) }
@@ -65,6 +67,7 @@ pub trait StrGroupBy: AsStr {
     #[inline]
     fn linear_group(&self) -> LinearStrGroup<'_>
         ensures text { (text_groups_of result).text ≡ Self.text self.now }
+        ensures place { text_place_of result ≡ at_start (Self.text self.now) }
         ensures asked { result.judge.asked ≡ 0 }
         ensures callable { IsCallableBy AreNeighbours (by_equality nat_eq) (in_characters (text_groups_of result)) }
         ensures settled { IsSettledText (by_equality nat_eq) (text_groups_of result) nat_eq }

@@ -1,7 +1,8 @@
 //! Counts of the questions that a walk asks.
 use example_counts::counts::{
     binary_questions, exponential_questions, first_exponential_group, linear_keys,
-    linear_questions, linear_questions_of_for, linear_questions_of_rev, longest_and_questions,
+    linear_questions, linear_questions_of_for, linear_questions_of_rev, longest_and_binary_keys,
+    longest_and_questions,
 };
 
 #[test]
@@ -41,5 +42,7 @@ fn adapters_ask_no_more(rt: HostRuntime) {
         linear_questions_of_rev(&[1, 1, 2]),
     ];
     assert_eq!(rt; counts, [2, 2]);
-    assert_eq!(rt; longest_and_questions(&[1, 1, 2]), (2, 2));
+    assert_eq!(rt; longest_and_questions(&[1, 2, 2, 2, 2, 3, 3]), (4, 6));
+    let (longest, keys) = longest_and_binary_keys(&[10, 21, 22, 23, 29, 31, 32]);
+    assert!(rt; longest == 4 && keys > 0);
 }

@@ -1,6 +1,6 @@
-use Rattle.std.proofs.Common.{Some, List, subst, arith}
+use Rattle.std.proofs.Common.{Some, List, refl, subst, arith}
 use Rattle.sgb_search.specs.Judges.{MayAskAll}
-use Rattle.sgb_groups.proofs.Cuts.{part_is, front_cut, back_cut}
+use Rattle.sgb_groups.proofs.Cuts.{part_is, moved_behind, front_cut, back_cut}
 use Rattle.sgb_groups.proofs.groups.SliceGroups.next_at.Goals as goal
 
 pub group_len-len-requires-clause-callable : goal.group_len-len-requires-clause-callable
@@ -16,19 +16,27 @@ returns-in-Front-clause-gives g c =
     let s = c.args.self.now in
     let p = c.in_ok-low.ensures in
     let e = c.group_len-len.ensures in
-    rw (c.in-Front.is, p.0) (front_cut (g.C.GroupEnd.asks _ _ g.J.Judge) s.slice.now s.low s.high _ _ (omega (arith, p)) _
-    e.nonempty (omega (arith, p, e.within)) (rw (c.in-Front.is, p.0, p.1) at e.asked))
+    rw (c.in-Front.is, p.0) (record {
+      call =
+          front_cut (g.C.GroupEnd.asks _ _ g.J.Judge) s.slice.now s.low s.high _ _ (omega (arith, p)) _
+          e.nonempty (omega (arith, p, e.within)) (rw (c.in-Front.is, p.0, p.1) at e.asked);
+      place = moved_behind s.slice.now s.low s.high _ (omega (arith, p)) (omega (arith, p, e.within));
+    })
 
 pub returns-in-Front-clause-callable : goal.returns-in-Front-clause-callable
-returns-in-Front-clause-callable g c = g.C.GroupEnd.keeps _ _ g.J.Judge _ _ (Some _) _ (returns-in-Front-clause-gives g c) c.requires
+returns-in-Front-clause-callable g c = g.C.GroupEnd.keeps _ _ g.J.Judge _ _ (Some _) _ (returns-in-Front-clause-gives g c).call c.requires
 
 pub returns-in-Back-clause-gives : goal.returns-in-Back-clause-gives
 returns-in-Back-clause-gives g c =
     let s = c.args.self.now in
     let p = c.in_ok-low.ensures in
     let e = c.group_len-len.ensures in
-    rw (c.in-Back.is, p.1) (back_cut (g.C.GroupEnd.asks _ _ g.J.Judge) s.slice.now s.low s.high _ _ (omega (arith, p)) _
-    e.nonempty (omega (arith, p, e.within)) (rw (c.in-Back.is, p.0, p.1) at e.asked))
+    rw (c.in-Back.is, p.1) (record {
+      call =
+          back_cut (g.C.GroupEnd.asks _ _ g.J.Judge) s.slice.now s.low s.high _ _ (omega (arith, p)) _
+          e.nonempty (omega (arith, p, e.within)) (rw (c.in-Back.is, p.0, p.1) at e.asked);
+      place = refl;
+    })
 
 pub returns-in-Back-clause-callable : goal.returns-in-Back-clause-callable
-returns-in-Back-clause-callable g c = g.C.GroupEnd.keeps _ _ g.J.Judge _ _ (Some _) _ (returns-in-Back-clause-gives g c) c.requires
+returns-in-Back-clause-callable g c = g.C.GroupEnd.keeps _ _ g.J.Judge _ _ (Some _) _ (returns-in-Back-clause-gives g c).call c.requires

@@ -1,0 +1,229 @@
+//! Each function of C, over small inputs whose groups are known.
+use super::*;
+
+const GROUPED: [u32; 12] = [2, 2, 2, 4, 4, 6, 6, 6, 6, 6, 8, 10];
+
+// Halving and galloping end their groups at different places of it.
+const NOT_GROUPED: [u32; 12] = [2, 2, 4, 2, 2, 2, 4, 4, 2, 4, 2, 2];
+
+// These lengths in one number, in order.
+fn sum_of(lens: &[usize]) -> usize {
+    lens.iter()
+        .fold(0usize, |sum, len| sum.wrapping_mul(31).wrapping_add(*len))
+}
+
+// Whether each function gives this number.
+macro_rules! all_give {
+    ($wanted:expr, $xs:expr, $($function:ident),*) => {
+        true $(&& $function($xs) == $wanted)*
+    };
+}
+
+#[test]
+fn from_the_front(rt: HostRuntime) {
+    let wanted = sum_of(&[3, 2, 5, 1, 1]);
+    let mut xs = GROUPED;
+    assert!(rt;
+        all_give!(
+            wanted,
+            &xs,
+            linear_front,
+            linear_by_front,
+            linear_by_key_front
+        )
+    );
+    assert!(rt;
+        all_give!(
+            wanted,
+            &xs,
+            binary_front,
+            binary_by_front,
+            binary_by_key_front
+        )
+    );
+    assert!(rt;
+        all_give!(
+            wanted,
+            &xs,
+            exponential_front,
+            exponential_by_front,
+            exponential_by_key_front
+        )
+    );
+    assert!(rt;
+        all_give!(
+            wanted,
+            &mut xs,
+            linear_mut_front,
+            linear_by_mut_front,
+            linear_by_key_mut_front
+        )
+    );
+    assert!(rt;
+        all_give!(
+            wanted,
+            &mut xs,
+            binary_mut_front,
+            binary_by_mut_front,
+            binary_by_key_mut_front
+        )
+    );
+    assert!(rt;
+        all_give!(
+            wanted,
+            &mut xs,
+            exponential_mut_front,
+            exponential_by_mut_front
+        )
+    );
+    assert!(rt; exponential_by_key_mut_front(&mut xs) == wanted);
+}
+
+#[test]
+fn from_the_back(rt: HostRuntime) {
+    let wanted = sum_of(&[1, 1, 5, 2, 3]);
+    let mut xs = GROUPED;
+    assert!(rt; all_give!(wanted, &xs, linear_back, linear_by_back, linear_by_key_back));
+    assert!(rt; all_give!(wanted, &xs, binary_back, binary_by_back, binary_by_key_back));
+    assert!(rt;
+        all_give!(
+            wanted,
+            &xs,
+            exponential_back,
+            exponential_by_back,
+            exponential_by_key_back
+        )
+    );
+    assert!(rt;
+        all_give!(
+            wanted,
+            &mut xs,
+            linear_mut_back,
+            linear_by_mut_back,
+            linear_by_key_mut_back
+        )
+    );
+    assert!(rt;
+        all_give!(
+            wanted,
+            &mut xs,
+            binary_mut_back,
+            binary_by_mut_back,
+            binary_by_key_mut_back
+        )
+    );
+    assert!(rt;
+        all_give!(
+            wanted,
+            &mut xs,
+            exponential_mut_back,
+            exponential_by_mut_back
+        )
+    );
+    assert!(rt; exponential_by_key_mut_back(&mut xs) == wanted);
+}
+
+// Each family as its name says: on a slice that is not grouped they differ, and the functions of each agree.
+#[test]
+fn by_their_families(rt: HostRuntime) {
+    let mut xs = NOT_GROUPED;
+    let (halved, galloped) = (binary_front(&xs), exponential_front(&xs));
+    assert!(rt; halved != galloped);
+    assert!(rt; all_give!(halved, &xs, binary_by_front, binary_by_key_front));
+    assert!(rt;
+        all_give!(
+            halved,
+            &mut xs,
+            binary_mut_front,
+            binary_by_mut_front,
+            binary_by_key_mut_front
+        )
+    );
+    assert!(rt;
+        all_give!(
+            galloped,
+            &xs,
+            exponential_by_front,
+            exponential_by_key_front
+        )
+    );
+    assert!(rt;
+        all_give!(
+            galloped,
+            &mut xs,
+            exponential_mut_front,
+            exponential_by_mut_front
+        )
+    );
+    assert!(rt; exponential_by_key_mut_front(&mut xs) == galloped);
+    let (halved, galloped) = (binary_back(&xs), exponential_back(&xs));
+    assert!(rt; halved != galloped);
+    assert!(rt; all_give!(halved, &xs, binary_by_back, binary_by_key_back));
+    assert!(rt;
+        all_give!(
+            halved,
+            &mut xs,
+            binary_mut_back,
+            binary_by_mut_back,
+            binary_by_key_mut_back
+        )
+    );
+    assert!(rt; all_give!(galloped, &xs, exponential_by_back, exponential_by_key_back));
+    assert!(rt;
+        all_give!(
+            galloped,
+            &mut xs,
+            exponential_mut_back,
+            exponential_by_mut_back
+        )
+    );
+    assert!(rt; exponential_by_key_mut_back(&mut xs) == galloped);
+}
+
+#[test]
+fn of_numbers(rt: HostRuntime) {
+    let (front, back) = (sum_of(&[3, 1, 2]), sum_of(&[2, 1, 3]));
+    assert!(rt;
+        number_u8_front(&[7, 7, 7, 1, 2, 2]) == front && number_u8_back(&[7, 7, 7, 1, 2, 2]) == back
+    );
+    assert!(rt;
+        number_u32_front(&[7, 7, 7, 1, 2, 2]) == front
+            && number_u32_back(&[7, 7, 7, 1, 2, 2]) == back
+    );
+    assert!(rt;
+        number_u64_front(&[7, 7, 7, 1, 2, 2]) == front
+            && number_u64_back(&[7, 7, 7, 1, 2, 2]) == back
+    );
+    assert!(rt; number_i32_front(&[-7, -7, -7, 1, 2, 2]) == front);
+    assert!(rt; number_i32_back(&[-7, -7, -7, 1, 2, 2]) == back);
+}
+
+#[test]
+fn of_texts(rt: HostRuntime) {
+    let mut bytes = *b"aaab\xC3\xA9\xC3\xA9";
+    if std::str::from_utf8(&bytes).is_ok() {
+        assert!(rt;
+            text_front(&bytes) == sum_of(&[3, 1, 4]) && text_back(&bytes) == sum_of(&[4, 1, 3])
+        );
+        assert!(rt; text_both_ends(&bytes) == sum_of(&[3, 4, 1]));
+        assert!(rt; text_mut_front(&mut bytes) == sum_of(&[3, 1, 4]));
+    }
+    if std::str::from_utf8(&bytes).is_ok() {
+        assert!(rt; text_mut_back(&mut bytes) == sum_of(&[4, 1, 3]));
+    }
+    assert!(rt; linear_both_ends(&[1, 1, 2, 3, 3, 3]) == sum_of(&[2, 3, 1]));
+}
+
+#[test]
+fn of_searches_and_joins(rt: HostRuntime) {
+    assert!(rt; searches(&[1, 3, 5, 7, 9, 11, 13], &[13, 1, 8, 20]) == sum_of(&[6, 0, 4, 7]));
+    assert!(rt; merge_join(&[1, 1, 2, 4], &[1, 2, 2, 3]) == sum_of(&[2, 1, 1, 2]));
+    assert!(rt; merge_join_by(&[1, 1, 2, 4], &[1, 2, 2, 3]) == sum_of(&[2, 1, 1, 2]));
+}
+
+#[test]
+fn of_questions(rt: HostRuntime) {
+    assert!(rt; linear_questions(&[5; 8]) == 7 && binary_questions(&[5; 8]) == 3);
+    let galloping = exponential_questions(&[5; 8]);
+    assert!(rt; galloping > 3 && galloping < 7);
+}

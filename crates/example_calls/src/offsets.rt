@@ -1,0 +1,56 @@
+//! Where groups begin and end in their input.
+use slice_group_by::{LinearGroupBy, LinearGroupByKey, LinearStrGroupByKey, with_offsets};
+use std::alloc::{AllocError, Global};
+use std::io;
+
+/// Where a session begins, and how many events it has.
+#[derive(Clone, Copy, Debug)]
+pub struct Session {
+    pub start: usize,
+    pub len: usize,
+}
+
+/// The sessions of events at these times: events that follow each other within so many seconds. Each with its first row.
+pub fn sessions(alloc: Global, times: &[u64], within: u64) -> Result<Vec<Session>, AllocError> {
+    let groups = LinearGroupBy::new(times, |earlier, later| later.abs_diff(*earlier) <= within);
+    with_offsets(groups)
+        .map(|(start, group)| Session {
+            start,
+            len: group.len(),
+        })
+        .collect(alloc)
+}
+
+/// The bytes of a text at which its runs of letters begin and end.
+pub fn words(alloc: Global, text: &str) -> Result<Vec<(usize, usize)>, AllocError> {
+    let mut spans = Vec::new(alloc);
+    for (start, run) in with_offsets(LinearStrGroupByKey::new(text, |c| c.is_ascii_alphabetic())) {
+        if run.starts_with(|c: char| c.is_ascii_alphabetic()) {
+            spans.push((start, start + run.len()))?;
+        }
+    }
+    Ok(spans)
+}
+
+/// The groups of rows of one key, each with the key.
+pub fn keyed(alloc: Global, rows: &[(u32, u64)]) -> Result<Vec<(u32, &[(u32, u64)])>, AllocError> {
+    LinearGroupByKey::new(rows, |row: &(u32, u64)| row.0)
+        .map(|group| (group[0].0, group))
+        .collect(alloc)
+}
+
+/// The last run of a slice, and the row at which it begins.
+pub fn last_run(slice: &[u32]) -> Option<(usize, &[u32])> {
+    with_offsets(LinearGroupBy::new(slice, |a, b| a == b)).next_back()
+}
+
+/// Prints what the functions of this module give, apart from `main`, which is as long as a check takes.
+pub fn print_all(rt: &(impl Print + AllocGlobal)) -> io::Result<()> {
+    let sessions = sessions(rt.alloc(), &[0, 40, 90, 1000, 1030, 5000], 60)?;
+    let words = words(rt.alloc(), "to be, or é not")?;
+    println!(rt;
+        "offsets: {sessions:?} {words:?} {:?} {}",
+        last_run(&[1, 1, 2, 2, 2]),
+        keyed(rt.alloc(), &[(7, 1), (7, 2), (8, 3)])?.len()
+    )
+}

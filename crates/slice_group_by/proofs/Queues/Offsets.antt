@@ -1,0 +1,82 @@
+-- Where the groups stand in the input that calls give.
+use Rattle.std.proofs.Common.{◌≡◌, ℕ, ◌+◌, ◌<◌, ◌^◌, List, [], ◌∷◌, length, Option, Some, map, refl, sym, ap, ◌∙◌, subst, arith, length-append}
+use Rattle.std.specs.Iterator.{Yields, AlwaysYields}
+use Rattle.std.specs.List.{AllByRecursion}
+use Rattle.sgb_search.specs.Calls.{Place, StandsAt, place_after}
+use Rattle.sgb_search.specs.declared.end.End.{End}
+use Rattle.sgb_search.specs.declared.end.End.TheVariants.{Front, Back}
+use Rattle.sgb_search.proofs.Lists.Places.{first_stands, second_stands}
+use Rattle.slice_group_by.specs.Offsets.{with_offsets, TakesUnits, start_of, BeginsAt, GivesWithOffset}
+use Rattle.slice_group_by.specs.declared.offsets.WithOffsets.{WithOffsets}
+
+module _ {Q I U : Type 0} (place : Q → Place U) (left : Q → List U) (units : I → List U) where
+  -- a group that comes off what stands at its place stands behind what is before it
+  pub begins : (e : End) (q : Q) (offset : ℕ) (group : I) (t : Q) → TakesUnits place left units e q group t → StandsAt (place q) (left q)
+      → (place q).offset + length (left q) < 2 ^ 64 → offset ≡ start_of place left units e q t
+      → BeginsAt place left units e q offset group t
+  begins Front q offset group t h stands fits start = record {
+    start = start;
+    stands = rw start (first_stands (place q) (units group) (left t) (subst (StandsAt (place q)) h.part stands));
+    fits = omega (arith, start, fits, ap length h.part, length-append (units group) (left t));
+  }
+  begins Back q offset group t h stands fits start = record {
+    start = start;
+    stands = rw start (second_stands (place q) (left t) (units group) (subst (StandsAt (place q)) h.part stands));
+    fits = omega (arith, start, fits, ap length h.part, length-append (left t) (units group));
+  }
+
+  -- less remains after it
+  pub fewer : (e : End) (q : Q) (group : I) (t : Q) → TakesUnits place left units e q group t
+      → length (left t) + length (units group) ≡ length (left q)
+  fewer Front q group t h = omega (arith, ap length h.part, length-append (units group) (left t))
+  fewer Back q group t h = omega (arith, ap length h.part, length-append (left t) (units group))
+
+-- calls one after another
+module _ {Q I U : Type 0} (place : Q → Place U) (left : Q → List U) (units : I → List U) (gives : End → Q → Option I → Q → Type 0)
+    (takes : (e : End) (q : Q) (group : I) (t : Q) → gives e q (Some group) t → TakesUnits place left units e q group t) where
+  abbrev steps : End → WithOffsets Q → Option (ℕ × I) → WithOffsets Q → Type 0
+  steps = GivesWithOffset place left units gives
+
+  abbrev stands_in : List U → ℕ × I → Type 0
+  stands_in input x = StandsAt (record { input = input; offset = x.0 }) (units x.1)
+
+  same_input : (e : End) (n : ℕ) (p q : Place U) → q ≡ place_after e n p → q.input ≡ p.input
+  same_input Front n p q h = ap (λ (r : Place U). r.input) h
+  same_input Back n p q h = ap (λ (r : Place U). r.input) h
+
+  -- each group stands in the input where its offset says
+  pub each_stands : (e : End) (q t : WithOffsets Q) (items : List (ℕ × I)) → Yields (steps e) q items t
+      → AllByRecursion (stands_in (place q.groups).input) items
+  each_stands e q t [] y = tt
+  each_stands e q t (x ∷ xs) y = (
+    y.1.1.stands,
+    subst (λ (input : List U). AllByRecursion (stands_in input) xs)
+    (same_input e _ _ _ (takes e q.groups x.1 y.0.groups y.1.0).moves) (each_stands e y.0 t xs y.2),
+  )
+
+  -- from the front an offset is the sum of the lengths before it
+  pub front_offsets : (q t : WithOffsets Q) (items : List (ℕ × I)) → Yields (steps Front) q items t
+      → map (λ x. (x.0, units x.1)) items ≡ with_offsets (place q.groups).offset (map (λ x. units x.1) items)
+  front_offsets q t [] y = refl
+  front_offsets q t (x ∷ xs) y =
+      let moves = (takes Front q.groups x.1 y.0.groups y.1.0).moves in
+      let start : x.0 ≡ (place q.groups).offset = y.1.1.start in
+      let next : (place y.0.groups).offset ≡ (place q.groups).offset + length (units x.1) = ap (λ (r : Place U). r.offset) moves in
+      ap (λ l. (x.0, units x.1) ∷ l) (front_offsets y.0 t xs y.2 ∙ ap (λ n. with_offsets n (map (λ x. units x.1) xs)) next)
+      ∙ ap (λ n. (n, units x.1) ∷ with_offsets ((place q.groups).offset + length (units x.1)) (map (λ x. units x.1) xs)) start
+
+  -- what always yields parts yields each with its offset
+  pub yields_offsets : (q : WithOffsets Q) (ps : List (List U)) → AlwaysYields (steps Front) (λ x. units x.1) q ps
+      → AlwaysYields (steps Front) (λ x. (x.0, units x.1)) q (with_offsets (place q.groups).offset ps)
+  yields_offsets q [] h = h
+  yields_offsets q (part ∷ ps) h = (
+    h.0,
+    λ x j g.
+        let k = h.1 x j g in
+        let moves = (takes Front q.groups x.1 j.groups g.0).moves in
+        let next : (place j.groups).offset ≡ (place q.groups).offset + length part =
+        ap (λ (r : Place U). r.offset) moves ∙ ap (λ (l : List U). (place q.groups).offset + length l) k.0 in (
+          λ i. (g.1.start i, k.0 i),
+          subst (λ (n : ℕ). AlwaysYields (steps Front) (λ x. (x.0, units x.1)) j (with_offsets n ps)) next (yields_offsets j ps k.1),
+        ),
+  )
