@@ -1,2 +1,3 @@
-pub mod KeptTotals
+pub mod GroupLens
 pub mod JoinedKeys
+pub mod KeptTotals

@@ -1,11 +1,12 @@
 //! Groups of a slice that is grouped in parts: the parts may be counted apart, and are joined at their seam.
-ghost use Rattle.std.specs.Prelude.{◌≡◌, ◌≤◌, length, nat_eq};
+ghost use Rattle.std.specs.Prelude.{◌≡◌, ◌+◌, ◌<◌, ◌≤◌, ◌^◌, length, map, nat_eq, sum, IfOk, OnOk};
 ghost use Rattle.std.specs.Option.{option_copied};
 ghost use Rattle.slice_group_by.specs.Split.{split};
-ghost use Rattle.slice_group_by.specs.Seams.{are_accepted};
+ghost use Rattle.slice_group_by.specs.Seams.{are_accepted, lens_joined};
 
 use slice_group_by::LinearGroup;
-use slice_group_by::laws::{groups_still_come, sees_pieces, splits_join};
+use slice_group_by::laws::{groups_still_come, pieces_add_up, sees_pieces, splits_join};
+use std::alloc::{AllocError, Global};
 
 // How many groups of equal elements a part has.
 fn count_groups(part: &[u32]) -> usize
@@ -42,4 +43,51 @@ pub fn count_in_parts(slice: &[u32], mid: usize) -> usize
     } else {
         count
     }
+}
+
+// So many elements are grouped in one walk.
+const ALONE: usize = 1024;
+
+/// How long the groups of equal elements of a slice are. Of a long slice the two halves are grouped apart, as a pool of threads
+/// would do it side by side, and joined at the seam: the lengths are those of one walk.
+pub fn lens_by_halves(alloc: Global, slice: &[u32]) -> Result<Vec<usize>, AllocError>
+    ensures { IfOk result (λ lens. lens.items ≡ map length (split nat_eq slice.now)) }
+{
+    if slice.len() <= ALONE {
+        return group_lens(alloc, slice);
+    }
+    splits_join::<u32>();
+    pieces_add_up::<u32>();
+    let (left, right) = slice.split_at(slice.len() / 2);
+    let mut lens = lens_by_halves(alloc, left)?;
+    let others = lens_by_halves(alloc, right)?;
+    join_lens(&mut lens, &others, are_equal(left.last(), right.first()))?;
+    Ok(lens)
+}
+
+// How long the groups of equal elements are, by one walk.
+fn group_lens(alloc: Global, slice: &[u32]) -> Result<Vec<usize>, AllocError>
+    ensures { IfOk result (λ lens. lens.items ≡ map length (split nat_eq slice.now)) }
+{
+    let groups = LinearGroup::new(slice);
+    sees_pieces(&groups);
+    groups.map(|group| group.len()).collect(alloc)
+}
+
+// Adds the lengths of the groups of the next part. Where the seam is joined, the last group so far and the first of the part are one.
+fn join_lens(lens: &mut Vec<usize>, next: &[usize], is_joined: bool) -> Result<(), AllocError>
+    requires { sum lens.old.items + sum next.now < 2 ^ 64 }
+    ensures { OnOk result (lens.new.items ≡ lens_joined is_joined lens.old.items next.now) }
+{
+    if !is_joined {
+        return lens.extend_from_slice(next);
+    }
+    let Some((first, others)) = next.split_first() else {
+        return Ok(());
+    };
+    let Some(last) = lens.pop() else {
+        return lens.extend_from_slice(next);
+    };
+    lens.push(last + *first)?;
+    lens.extend_from_slice(others)
 }

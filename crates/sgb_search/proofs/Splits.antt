@@ -4,3 +4,4 @@ pub mod Joined
 pub mod FirstPiece
 pub mod Grouped
 pub mod AscendingGroups
+pub mod Lens

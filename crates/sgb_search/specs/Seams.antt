@@ -1,5 +1,5 @@
 -- What joins the pieces of two lists to those of the two, one after the other.
-use Rattle.std.specs.Prelude.{Bool, false, cond, List, [], ◌∷◌, ◌++◌, Option, Some}
+use Rattle.std.specs.Prelude.{ℕ, ◌+◌, Bool, true, false, cond, List, [], ◌∷◌, ◌++◌, Option, Some}
 use Rattle.sgb_search.specs.Split.{first, last}
 
 module _ {A : Type 0} (p : A → A → Bool) where
@@ -22,3 +22,12 @@ module _ {A : Type 0} (p : A → A → Bool) where
   seam [] qs = qs
   seam (g ∷ []) qs = join_first g qs
   seam (g ∷ h ∷ gs) qs = g ∷ seam (h ∷ gs) qs
+
+-- the lengths of the pieces of one list and of another: the last of the one and the first of the other add up where the pair across is
+-- accepted
+abbrev pub lens_joined : Bool → List ℕ → List ℕ → List ℕ
+lens_joined b [] ns = ns
+lens_joined b (m ∷ []) [] = m ∷ []
+lens_joined true (m ∷ []) (n ∷ ns) = (m + n) ∷ ns
+lens_joined false (m ∷ []) (n ∷ ns) = m ∷ n ∷ ns
+lens_joined b (m ∷ k ∷ ms) ns = m ∷ lens_joined b (k ∷ ms) ns

@@ -10,7 +10,7 @@ ghost use Rattle.sgb_search.specs.declared.end.End.{End};
 ghost use Rattle.sgb_search.specs.Searching.{digits};
 ghost use Rattle.sgb_search.specs.Ranges.{AsksRange, IsRange};
 ghost use Rattle.sgb_search.specs.Split.{AreApart, neighbours, AreNeighbours, IsGrouped, IsSplit, concat, first, last, without_last, split, refused_pairs};
-ghost use Rattle.sgb_search.specs.Seams.{is_accepted_across, seam};
+ghost use Rattle.sgb_search.specs.Seams.{is_accepted_across, lens_joined, seam};
 ghost use Rattle.sgb_search.specs.Search.{MayCall, Computes, IsGap, IsLessEqualGreater, NeverDescends};
 ghost use Rattle.sgb_search.specs.Linear.{questions};
 ghost use Rattle.sgb_search.specs.Judges.{IsRunOf, by_predicate, predicate_judge, CalledAtChar, by_key, key_judge, by_char_predicate, char_predicate_judge, by_char_key, char_key_judge, by_equality};
@@ -27,13 +27,16 @@ pub fn one_split<T>()
 
 /// The split of two lists, one after the other, is that of the one and that of the other, but that the last piece of the one and the
 /// first of the other are one piece where the pair across is accepted (`seam`). So whoever splits what comes in parts has to keep the
-/// last piece alone (`kept`), and whoever counts pieces part by part counts one too many at each accepted seam (`count`).
+/// last piece alone (`kept`), and whoever counts pieces part by part counts one too many at each accepted seam (`count`). There the
+/// lengths of the two pieces add up (`lens`).
 pub fn splits_join<T>()
     ensures seam { (p : T → T → Bool) (xs ys : List T) → split p (xs ++ ys) ≡ seam p (split p xs) (split p ys) }
     ensures kept { (p : T → T → Bool) (xs ys group : List T) → last (split p xs) ≡ Some group
         → split p (xs ++ ys) ≡ without_last (split p xs) ++ split p (group ++ ys) }
     ensures count { (p : T → T → Bool) (xs ys : List T)
         → length (split p (xs ++ ys)) + cond (is_accepted_across p xs ys) 1 0 ≡ length (split p xs) + length (split p ys) }
+    ensures lens { (p : T → T → Bool) (xs ys : List T) → map length (split p (xs ++ ys))
+        ≡ lens_joined (is_accepted_across p xs ys) (map length (split p xs)) (map length (split p ys)) }
 {}
 
 /// How many neighbouring pairs a list has, and how many questions a linear call asks that takes g of its elements: g if

@@ -3,18 +3,8 @@ use Rattle.std.proofs.lemmas.List.{take-append-drop}
 use Rattle.std.specs.List.{slice_get}
 use Rattle.slice_group_by.specs.Split.{split, first, last}
 use Rattle.slice_group_by.specs.Seams.{are_accepted, is_accepted_across}
+use Rattle.example_counts.proofs.GroupLens.{across_slices}
 use Rattle.example_counts.proofs.parts.count_in_parts.Goals as goal
-
-last_is : (xs : List ℕ) → slice_get xs (length xs - 1) ≡ last xs
-last_is [] = refl
-last_is (x ∷ []) = refl
-last_is (x ∷ y ∷ ys) =
-    subst (λ n. slice_get (x ∷ y ∷ ys) n ≡ last (y ∷ ys)) {x = suc (length (y ∷ ys) - 1)} {y = length (x ∷ y ∷ ys) - 1} (omega arith)
-    (last_is (y ∷ ys))
-
-first_is : (xs : List ℕ) → slice_get xs 0 ≡ first xs
-first_is [] = refl
-first_is (x ∷ xs) = refl
 
 -- the number of groups, by whether the seam is accepted
 counted : (xs left right : List ℕ) (m : ℕ) (b : Bool) → left ≡ take m xs → right ≡ drop m xs
@@ -24,7 +14,7 @@ counted : (xs left right : List ℕ) (m : ℕ) (b : Bool) → left ≡ take m xs
     → length (split nat_eq xs) + cond b 1 0 ≡ length (split nat_eq left) + length (split nat_eq right)
 counted xs left right m b e f count is =
     let whole : left ++ right ≡ xs = (λ i. e i ++ f i) ∙ take-append-drop m xs in
-    let across : b ≡ is_accepted_across nat_eq left right = is ∙ (λ i. are_accepted nat_eq (last_is left i) (first_is right i)) in
+    let across : b ≡ is_accepted_across nat_eq left right = is ∙ across_slices left right in
     subst (λ l. length (split nat_eq l) + cond b 1 0 ≡ length (split nat_eq left) + length (split nat_eq right)) whole
     (subst (λ t. length (split nat_eq (left ++ right)) + cond t 1 0 ≡ length (split nat_eq left) + length (split nat_eq right)) (sym across)
     count)

@@ -1,4 +1,5 @@
 use Rattle.sgb_search.proofs.Splits.Joined.{split_joins, last_stays_open, joined_count}
+use Rattle.sgb_search.proofs.Splits.Lens.{lens_of_both}
 use Rattle.sgb_search.proofs.laws.splits_join.Goals as goal
 
 pub returns-clause-seam : goal.returns-clause-seam
@@ -9,3 +10,6 @@ returns-clause-kept g c p xs ys group e = last_stays_open p xs ys group e
 
 pub returns-clause-count : goal.returns-clause-count
 returns-clause-count g c p xs ys = joined_count p xs ys
+
+pub returns-clause-lens : goal.returns-clause-lens
+returns-clause-lens g c p xs ys = lens_of_both p xs ys
