@@ -1,5 +1,7 @@
 //! Groups that are counted in parts.
-use example_counts::parts::count_in_parts;
+use example_counts::parts::{count_in_parts, lens_by_halves};
+use std::array;
+use std::test::Fail;
 
 #[test]
 fn seams(rt: HostRuntime) {
@@ -9,4 +11,16 @@ fn seams(rt: HostRuntime) {
         assert!(rt; count_in_parts(&slice, mid) == 3);
     }
     assert!(rt; count_in_parts(&[], 0) == 0);
+}
+
+// Halves of halves, with seams within a group and between two.
+#[test]
+fn halves(rt: HostRuntime) -> Result<(), Fail> {
+    let one: [u32; 3000] = [7; 3000];
+    let lens = lens_by_halves(rt.alloc(), &one)?;
+    assert!(rt; lens.as_slice() == [3000]);
+    let three: [u32; 3000] = array::from_fn(|place| if place < 1500 { 1 } else { 2 });
+    let lens = lens_by_halves(rt.alloc(), &three)?;
+    assert!(rt; lens.as_slice() == [1500, 1500]);
+    Ok(())
 }
