@@ -115,7 +115,8 @@ impl<'a, T, J: Judge<T> + Drop, C: GroupEnd> Iterator for SliceGroups<'a, T, J, 
 
     ghost remaining = { λ s. groups_to_come (groups_of s) };
 
-    /// The first group of the remainder, or `None` where nothing remains.
+    /// The first group of the remainder, or `None` where nothing remains. For a group of g of n elements it asks g questions of
+    /// linear groups, or g - 1 where g is n; at most `digits(n - 1)` of binary and `2 * digits(g) + 1` of exponential ones.
     #[inline]
     fn next(&mut self) -> Option<&'a [T]> {
         self.next_at(&End::Front)
@@ -142,7 +143,8 @@ impl<'a, T, J: Judge<T> + Drop, C: GroupEnd> DoubleEndedIterator for SliceGroups
 
     ghost next_back_gives = { Gives (C.asks T J J.Judge) Back };
 
-    /// The last group of the remainder, or `None` where nothing remains.
+    /// The last group of the remainder, or `None` where nothing remains. It asks as many questions as `next` does for a group of
+    /// that length.
     #[inline]
     fn next_back(&mut self) -> Option<&'a [T]> {
         self.next_at(&End::Back)

@@ -154,7 +154,8 @@ impl<'a, T, J: Judge<T> + Drop, C: GroupEnd> Iterator for SliceGroupsMut<'a, T, 
 
     ghost remaining = { groups_mut_to_come };
 
-    /// The first group of the remainder, or `None` where nothing remains.
+    /// The first group of the remainder, or `None` where nothing remains. For a group of g of n elements it asks g questions of
+    /// linear groups, or g - 1 where g is n; at most `digits(n - 1)` of binary and `2 * digits(g) + 1` of exponential ones.
     #[inline]
     fn next(&mut self) -> Option<&'a mut [T]> {
         self.next_at(&End::Front)
@@ -180,7 +181,8 @@ impl<'a, T, J: Judge<T> + Drop, C: GroupEnd> DoubleEndedIterator for SliceGroups
 
     ghost next_back_gives = { GivesMut (C.asks T J J.Judge) Back };
 
-    /// The last group of the remainder, or `None` where nothing remains.
+    /// The last group of the remainder, or `None` where nothing remains. It asks as many questions as `next` does for a group of
+    /// that length.
     #[inline]
     fn next_back(&mut self) -> Option<&'a mut [T]> {
         self.next_at(&End::Back)

@@ -9,7 +9,8 @@ use sgb_numbers::number_judge::NumberJudge;
 use sgb_search::end::End;
 use sgb_search::judge::{EqualityJudge, Judge, KeyJudge, PredicateJudge};
 
-/// An iterator over the groups of equal elements of a slice, by `==` of neighbours.
+/// An iterator over the groups of equal elements of a slice, by `==` of neighbours. A call for a group of g elements compares g
+/// pairs, or g - 1 where nothing remains after it.
 ///
 /// ```
 /// let mut groups = LinearGroup::new(&[1, 1, 1, 3, 3, 2, 2, 2]);
@@ -21,7 +22,7 @@ use sgb_search::judge::{EqualityJudge, Judge, KeyJudge, PredicateJudge};
 pub type LinearGroup<'a, T> = LinearGroups<'a, T, EqualityJudge>;
 
 /// An iterator over the groups of equal numbers of a slice: the groups of `LinearGroup`, found by vectors, sixteen numbers at a
-/// time.
+/// time. A call takes time by the length of its group; how many comparisons that are is not counted.
 ///
 /// ```
 /// let mut groups = LinearNumberGroup::new(&[1, 1, 1, 3, 3, 2, 2, 2]);
@@ -30,7 +31,8 @@ pub type LinearGroup<'a, T> = LinearGroups<'a, T, EqualityJudge>;
 /// ```
 pub type LinearNumberGroup<'a, T> = LinearGroups<'a, T, NumberJudge>;
 
-/// An iterator over the groups of a slice by a predicate, which is asked about neighbours, the left one first.
+/// An iterator over the groups of a slice by a predicate, which is asked about neighbours, the left one first. A call for a group
+/// of g elements asks g questions, or g - 1 where nothing remains after it.
 ///
 /// ```
 /// let mut groups = LinearGroupBy::new(&[1, 2, 3, 2, 3], |a, b| a < b);
@@ -41,7 +43,8 @@ pub type LinearNumberGroup<'a, T> = LinearGroups<'a, T, NumberJudge>;
 pub type LinearGroupBy<'a, T, P> = LinearGroups<'a, T, PredicateJudge<P>>;
 
 /// An iterator over the groups of a slice by a key: a question is a call of the key function on the left element, then
-/// one on the right, then `==` of the keys.
+/// one on the right, then `==` of the keys. A call for a group of g elements asks g questions, or g - 1 where nothing remains
+/// after it.
 ///
 /// ```
 /// let mut groups = LinearGroupByKey::new(&[10, 11, 20, 21, 22], |x| *x / 10);
@@ -51,7 +54,8 @@ pub type LinearGroupBy<'a, T, P> = LinearGroups<'a, T, PredicateJudge<P>>;
 /// ```
 pub type LinearGroupByKey<'a, T, F, K> = LinearGroups<'a, T, KeyJudge<F, K>>;
 
-/// An iterator over the groups of equal elements of a slice for writing, by `==` of neighbours.
+/// An iterator over the groups of equal elements of a slice for writing, by `==` of neighbours. A call for a group of g elements
+/// compares g pairs, or g - 1 where nothing remains after it.
 ///
 /// ```
 /// let mut array = [1, 1, 2, 3, 3];
@@ -62,7 +66,8 @@ pub type LinearGroupByKey<'a, T, F, K> = LinearGroups<'a, T, KeyJudge<F, K>>;
 /// ```
 pub type LinearGroupMut<'a, T> = LinearGroupsMut<'a, T, EqualityJudge>;
 
-/// An iterator over the groups of equal numbers of a slice for writing, found by vectors.
+/// An iterator over the groups of equal numbers of a slice for writing, found by vectors. A call takes time by the length of its
+/// group; how many comparisons that are is not counted.
 ///
 /// ```
 /// let mut array = [1, 1, 2, 3, 3];
@@ -74,7 +79,7 @@ pub type LinearGroupMut<'a, T> = LinearGroupsMut<'a, T, EqualityJudge>;
 pub type LinearNumberGroupMut<'a, T> = LinearGroupsMut<'a, T, NumberJudge>;
 
 /// An iterator over the groups of a slice by a predicate for writing. The predicate is asked about neighbours, the left one
-/// first, as they are when the call is made.
+/// first, as they are when the call is made: for a group of g elements g times, or g - 1 times where nothing remains after it.
 ///
 /// ```
 /// let mut array = [1, 2, 3, 2, 3];
@@ -86,7 +91,8 @@ pub type LinearNumberGroupMut<'a, T> = LinearGroupsMut<'a, T, NumberJudge>;
 pub type LinearGroupByMut<'a, T, P> = LinearGroupsMut<'a, T, PredicateJudge<P>>;
 
 /// An iterator over the groups of a slice by a key for writing: a question is a call of the key function on the left
-/// element, then one on the right, then `==` of the keys, of the elements as they are when the call is made.
+/// element, then one on the right, then `==` of the keys, of the elements as they are when the call is made. A call for a group
+/// of g elements asks g questions, or g - 1 where nothing remains after it.
 ///
 /// ```
 /// let mut array = [10, 11, 20, 21, 22];

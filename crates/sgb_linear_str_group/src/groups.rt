@@ -128,7 +128,8 @@ impl<'a, J: Judge<char> + Drop> Iterator for LinearStrGroups<'a, J> {
 
     ghost remaining = { λ s. text_groups_to_come (text_groups_of s) };
 
-    /// The first group of the remainder, or `None` where nothing remains.
+    /// The first group of the remainder, or `None` where nothing remains. For a group of g characters it asks g questions, or
+    /// g - 1 where nothing remains after it.
     #[inline(always)]
     fn next(&mut self) -> Option<&'a str> {
         self.next_at(&End::Front)
@@ -152,7 +153,8 @@ impl<'a, J: Judge<char> + Drop> DoubleEndedIterator for LinearStrGroups<'a, J> {
 
     ghost next_back_gives = { GivesText J.Judge Back };
 
-    /// The last group of the remainder, or `None` where nothing remains.
+    /// The last group of the remainder, or `None` where nothing remains. For a group of g characters it asks g questions, or
+    /// g - 1 where nothing remains before it.
     #[inline(always)]
     fn next_back(&mut self) -> Option<&'a str> {
         self.next_at(&End::Back)
