@@ -1,5 +1,5 @@
 -- Where the lines of a text may be cut.
-use Rattle.std.proofs.Common.{◌≡◌, ◌≢◌, ℕ, suc, ◌+◌, ◌<◌, Bool, true, false, cond, eqb, not, List, [], ◌∷◌, ◌++◌, length, take, drop, refl, ap, sym, ◌∙◌, arith, append_assoc, append-nil, Option, None, Some, IfSome, ltb, map}
+use Rattle.std.proofs.Common.{◌≡◌, ◌≢◌, ℕ, suc, ◌+◌, ◌<◌, Bool, true, false, cond, eqb, not, List, [], ◌∷◌, ◌++◌, length, take, drop, refl, ap, sym, ◌∙◌, arith, append_assoc, append-nil, Option, None, Some, IfSome, ltb, map, subst}
 use borrow.Author.Tests.{ltb-false}
 use Rattle.std.specs.Option.{unwrap_or}
 use Rattle.std.specs.Io.KnownBytes.{IsAtEnd}
@@ -174,3 +174,21 @@ lines_push f found new line rest after next all n some at front back others grow
     ap (map f) grown ∙ map-append f found (line ∷ []) ∙ ap (λ l. map f found ++ l ∷ []) front in
     let tail : next ≡ drop (n + 1) rest = others ∙ ap (drop 1) back ∙ drop-drop 1 n rest in
     rw (one, tail, at) (append_assoc (map f found) _ _ ∙ ap (λ l. map f found ++ l) (sym (first_line rest some)) ∙ so_far)
+
+-- lines that a reader gave, one block after another
+pub GivesLines-none : (a : Option (List ℕ)) → GivesLines a a []
+GivesLines-none None = tt
+GivesLines-none (Some xs) = refl
+
+pub GivesLines-trans : (a b c : Option (List ℕ)) (ls ms : List (List ℕ)) → GivesLines a b ls → GivesLines b c ms → GivesLines a c (ls ++ ms)
+GivesLines-trans None b c ls ms p q = tt
+GivesLines-trans (Some x) None c ls ms p q = absurd p
+GivesLines-trans (Some x) (Some y) None ls ms p q = absurd q
+GivesLines-trans (Some x) (Some y) (Some z) ls ms p q = p ∙ ap (λ l. ls ++ l) q ∙ sym (append_assoc ls ms (lines z))
+
+-- at the end they are all
+pub GivesLines-whole : (a b : Option (List ℕ)) (ls : List (List ℕ)) (P : List (List ℕ) → Type 0) → GivesLines a b ls → IsAtEnd b → P ls
+    → IfSome a (λ xs. P (lines xs))
+GivesLines-whole None b ls P p end h = tt
+GivesLines-whole (Some x) None ls P p end h = absurd p
+GivesLines-whole (Some x) (Some y) ls P p end h = subst P (sym (p ∙ ap (λ l. ls ++ lines l) end ∙ append-nil ls)) h
