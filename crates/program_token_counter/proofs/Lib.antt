@@ -1,0 +1,2 @@
+pub mod TokenCounts
+pub mod TokensOfBlocks
