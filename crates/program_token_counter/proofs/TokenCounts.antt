@@ -34,21 +34,21 @@ same_class Other Digit e = cc
 same_class Other Space e = cc
 
 -- 1 where a token of the class k begins at a character of the class c, after one of the class before it
-abbrev begins : Class → Option Class → Class → ℕ
+abbrev pub begins : Class → Option Class → Class → ℕ
 begins k None c = cond (is_class c k) 1 0
 begins k (Some p) c = cond (is_class p c) 0 (cond (is_class c k) 1 0)
 
 -- how many tokens of the class k begin in the text
-abbrev starts : Class → Option Class → List ℕ → ℕ
+abbrev pub starts : Class → Option Class → List ℕ → ℕ
 starts k before [] = 0
 starts k before (x ∷ xs) = begins k before (class_of x) + starts k (Some (class_of x)) xs
 
 -- the class of the last character
-abbrev after : Option Class → List ℕ → Option Class
+abbrev pub after : Option Class → List ℕ → Option Class
 after before [] = before
 after before (x ∷ xs) = after (Some (class_of x)) xs
 
-starts-append : (k : Class) (before : Option Class) (xs ys : List ℕ) → starts k before (xs ++ ys) ≡ starts k before xs + starts k (after before xs) ys
+pub starts-append : (k : Class) (before : Option Class) (xs ys : List ℕ) → starts k before (xs ++ ys) ≡ starts k before xs + starts k (after before xs) ys
 starts-append k before [] ys = omega arith
 starts-append k before (x ∷ xs) ys = omega (arith, starts-append k (Some (class_of x)) xs ys)
 
@@ -69,11 +69,11 @@ starts_inside : (k c : Class) (xs : List ℕ) → IsOfClass c xs → starts k (S
 starts_inside k c [] h = refl
 starts_inside k c (x ∷ xs) h = let rest = starts_inside k c xs h.1 in rw (h.0, is_class_same c, rest) refl
 
-starts_of_class : (k : Class) (before : Option Class) (c : Class) (x : ℕ) (xs : List ℕ) → IsOfClass c (x ∷ xs)
+pub starts_of_class : (k : Class) (before : Option Class) (c : Class) (x : ℕ) (xs : List ℕ) → IsOfClass c (x ∷ xs)
     → starts k before (x ∷ xs) ≡ begins k before c
 starts_of_class k before c x xs h = let inside = starts_inside k c xs h.1 in rw (h.0, inside) (omega arith)
 
-after_of_class : (before : Option Class) (c : Class) (x : ℕ) (xs : List ℕ) → IsOfClass c (x ∷ xs) → after before (x ∷ xs) ≡ Some c
+pub after_of_class : (before : Option Class) (c : Class) (x : ℕ) (xs : List ℕ) → IsOfClass c (x ∷ xs) → after before (x ∷ xs) ≡ Some c
 after_of_class before c x [] h = ap Some h.0
 after_of_class before c x (y ∷ ys) h = after_of_class (Some (class_of x)) c y ys h.1
 

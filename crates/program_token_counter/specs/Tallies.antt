@@ -18,8 +18,8 @@ pub record IsTally (text : List ℕ) (tally : Tally) : Type 0 where
   pub counts : (class : Class) → count_of class tally ≡ token_count class text
   pub open_class : tally.open_class ≡ option_map class_of (last text)
 
--- what is printed of a text: a line for each class with the number of its tokens
-abbrev pub report : List ℕ → List ℕ
-report text =
-    codes "letters: " ++ decimal (token_count Letter text) ++ 10 ∷ [] ++ codes "digits: " ++ decimal (token_count Digit text) ++ 10 ∷ []
-    ++ codes "space: " ++ decimal (token_count Space text) ++ 10 ∷ [] ++ codes "other: " ++ decimal (token_count Other text) ++ 10 ∷ []
+-- what is printed of numbers of tokens: a line for each class
+abbrev pub report : (Class → ℕ) → List ℕ
+report count =
+    codes "letters: " ++ decimal (count Letter) ++ 10 ∷ [] ++ (codes "digits: " ++ decimal (count Digit) ++ 10 ∷ [])
+    ++ (codes "space: " ++ decimal (count Space) ++ 10 ∷ []) ++ (codes "other: " ++ decimal (count Other) ++ 10 ∷ [])
