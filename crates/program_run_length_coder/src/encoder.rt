@@ -4,7 +4,6 @@ ghost use Rattle.std.specs.Io.KnownBytes.{Appends};
 ghost use Rattle.program_run_length_coder.specs.Coding.{Codes, coded, open_bytes};
 
 use crate::blocks::{new_block, read_block};
-use crate::line::write_run;
 use crate::runs::Run;
 use slice_group_by::LinearNumberGroup;
 use slice_group_by::laws::{equal_pieces_are_copies, one_split, sees_pieces};
@@ -61,7 +60,7 @@ fn take_group<W: Write>(open_run: &mut Option<Run>, group: &[u8], out: &mut W) -
             };
             count = total;
         } else {
-            write_run(out, run)?;
+            run.write(out)?;
         }
     }
     *open_run = Some(Run { byte, count });
@@ -73,7 +72,7 @@ fn write_open<W: Write>(open_run: Option<Run>, out: &mut W) -> io::Result<()>
     ensures { OnOk result (Appends (W.contents out.old) (W.contents out.new) (coded (open_bytes open_run))) }
 {
     match open_run {
-        Some(run) => write_run(out, run),
+        Some(run) => run.write(out),
         None => Ok(()),
     }
 }

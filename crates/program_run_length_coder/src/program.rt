@@ -74,3 +74,116 @@ fn write_all<W: Write>(out: &mut W, text: &str) -> io::Result<()>
     out.write_all(text.as_bytes())?;
     out.flush()
 }
+
+#[cfg(test)]
+mod tests {
+    use super::*;
+    use std::io::{Error, ErrorKind};
+    use std::test::Fail;
+
+    /// Gives one byte a read, and then fails or ends.
+    #[derive(Drop)]
+    struct Slowly<'a> {
+        bytes: &'a [u8],
+        fails: bool,
+    }
+
+    impl Read for Slowly<'_> {
+        fn read(&mut self, buffer: &mut [u8]) -> io::Result<usize> {
+            let [byte, rest @ ..] = self.bytes else {
+                return if self.fails {
+                    Err(Error::new(ErrorKind::Other, "no more can be read"))
+                } else {
+                    Ok(0)
+                };
+            };
+            let Some(first) = buffer.first_mut() else {
+                return Ok(0);
+            };
+            *first = *byte;
+            self.bytes = rest;
+            Ok(1)
+        }
+    }
+
+    /// Takes nothing.
+    #[derive(Drop)]
+    struct Closed;
+
+    impl Write for Closed {
+        fn write(&mut self, _buffer: &[u8]) -> io::Result<usize> {
+            Err(Error::from(ErrorKind::BrokenPipe))
+        }
+
+        fn flush(&mut self) -> io::Result<()> {
+            Ok(())
+        }
+    }
+
+    #[test]
+    fn runs_go_on_across_reads(rt: HostRuntime) -> Result<(), Fail> {
+        let mut out = Vec::new(rt.alloc());
+        let mut complaints = Vec::new(rt.alloc());
+        let mut input = Slowly {
+            bytes: b"aaab\0\0\xff",
+            fails: false,
+        };
+        let status = run(rt.alloc(), &[], &mut input, &mut out, &mut complaints);
+        assert_eq!(rt; status, 0);
+        assert_eq!(rt; out.as_slice(), b"3 97\n1 98\n2 0\n1 255\n".as_slice());
+        assert!(rt; complaints.is_empty());
+        Ok(())
+    }
+
+    #[test]
+    fn failed_read_is_said(rt: HostRuntime) -> Result<(), Fail> {
+        let mut out = Vec::new(rt.alloc());
+        let mut complaints = Vec::new(rt.alloc());
+        let mut input = Slowly {
+            bytes: b"aab",
+            fails: true,
+        };
+        let status = run(rt.alloc(), &[], &mut input, &mut out, &mut complaints);
+        assert_eq!(rt; status, 1);
+        assert_eq!(rt; out.as_slice(), b"2 97\n".as_slice());
+        assert_eq!(rt; complaints.as_slice(), b"program_run_length_coder: no more can be read\n".as_slice());
+        Ok(())
+    }
+
+    #[test]
+    fn closed_output_is_said(rt: HostRuntime) -> Result<(), Fail> {
+        let mut complaints = Vec::new(rt.alloc());
+        let mut input: &[u8] = b"aab";
+        let status = run(rt.alloc(), &[], &mut input, &mut Closed, &mut complaints);
+        assert_eq!(rt; status, 1);
+        assert_eq!(rt; complaints.as_slice(), b"program_run_length_coder: broken pipe\n".as_slice());
+        Ok(())
+    }
+
+    #[test]
+    fn arguments_are_known_or_refused(rt: HostRuntime) -> Result<(), Fail> {
+        let mut out = Vec::new(rt.alloc());
+        let mut complaints = Vec::new(rt.alloc());
+        let mut input: &[u8] = b"";
+        let help = [String::from_str(rt.alloc(), "--help")?];
+        assert_eq!(rt; run(rt.alloc(), &help, &mut input, &mut out, &mut complaints), 0);
+        assert_eq!(rt; out.as_slice(), USAGE.as_bytes());
+        assert!(rt; complaints.is_empty());
+        let other = [String::from_str(rt.alloc(), "--hlep")?];
+        assert_eq!(rt; run(rt.alloc(), &other, &mut input, &mut out, &mut complaints), 2);
+        assert_eq!(rt; out.as_slice(), USAGE.as_bytes());
+        assert_eq!(rt; complaints.as_slice(), USAGE.as_bytes());
+        Ok(())
+    }
+
+    #[test]
+    fn no_input_has_no_runs(rt: HostRuntime) -> Result<(), Fail> {
+        let mut out = Vec::new(rt.alloc());
+        let mut complaints = Vec::new(rt.alloc());
+        let mut input: &[u8] = b"";
+        assert_eq!(rt; run(rt.alloc(), &[], &mut input, &mut out, &mut complaints), 0);
+        assert!(rt; out.is_empty());
+        assert!(rt; complaints.is_empty());
+        Ok(())
+    }
+}
