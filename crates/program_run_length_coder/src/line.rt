@@ -1,6 +1,7 @@
 //! Lines of runs: `5 97` says that the byte 97 stands there five times in a row.
 
 use crate::runs::Run;
+use std::alloc::Global;
 use std::fmt;
 use std::io;
 use std::io::Write;
@@ -36,6 +37,19 @@ impl Run {
         ensures { OnOk result (Appends (W.contents out.old) (W.contents out.new) (line (copies self))) }
     {
         writeln!(out, "{} {}", self.count, self.byte)
+    }
+
+    /// Writes the bytes of the run, at most 64 KiB at once.
+    pub fn write_bytes<W: Write>(self, alloc: Global, out: &mut W) -> io::Result<()>
+        ensures { OnOk result (Appends (W.contents out.old) (W.contents out.new) (copies self)) }
+    {
+        let block = vec![in alloc; self.byte; self.count.min(65536)]?;
+        let mut left = self.count;
+        while left > block.len() {
+            out.write_all(&block)?;
+            left -= block.len();
+        }
+        out.write_all(&block[..left])
     }
 
     /// The run that a line says, without its line feed, or what is wrong with it. Each line of a run as it is written is read.

@@ -5,6 +5,7 @@
 #![tactic(auto)]
 
 mod blocks;
+mod decoder;
 mod encoder;
 mod line;
 mod program;
