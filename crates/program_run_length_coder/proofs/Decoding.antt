@@ -155,5 +155,9 @@ coded_empty (x ∷ xs) e =
     let run = replicate (suc r.more) x in
     let one : coded (x ∷ xs) ≡ decimal (length run) ++ codes " " ++ decimal x ++ 10 ∷ [] ++ coded r.rest = ap (flat_map line) r.cut in
     let empty = ap length (sym one ∙ e) in
-    absurd (omega (arith, length-append (decimal (length run) ++ codes " " ++ decimal x ++ 10 ∷ []) (coded r.rest),
-    length-append (decimal (length run) ++ codes " " ++ decimal x) (10 ∷ []), empty))
+    absurd (omega (
+      arith,
+      length-append (decimal (length run) ++ codes " " ++ decimal x ++ 10 ∷ []) (coded r.rest),
+      length-append (decimal (length run) ++ codes " " ++ decimal x) (10 ∷ []),
+      empty,
+    ))

@@ -2,9 +2,8 @@
 
 use crate::runs::Run;
 use std::alloc::Global;
-use std::fmt;
-use std::io;
 use std::io::Write;
+use std::{fmt, io};
 
 /// What is wrong with a line.
 #[derive(Clone, Copy, Debug, PartialEq, Eq)]

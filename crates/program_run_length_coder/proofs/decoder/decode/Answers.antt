@@ -21,7 +21,7 @@ loop-number-preserved g c bytes small few known =
     let said = c.without_line_feed.ensures ∙ ap (strip_last 10) (c.deref.ensures.value ∙ line) ∙ next.said in
     let parsed = c.parse.ensures.written next.count next.byte next.some next.fits next.small said in
     elim c.match-parse.branch [
-      in-Ok+in_ok-write_bytes-in-Ok w ↦
+      | in-Ok+in_ok-write_bytes-in-Ok w ↦
           let run = rw w.in-Ok.is at parsed in
           record {
             written = d.written ++ replicate next.count next.byte;
@@ -33,7 +33,7 @@ loop-number-preserved g c bytes small few known =
             few = next.others_few;
             clean = w.are_runs-is ∙ d.clean;
           }
-    | in-Err+in_ok-writeln-in-Err w ↦ absurd (rw w.in-Err.is at parsed)
+      | in-Err+in_ok-writeln-in-Err w ↦ absurd (rw w.in-Err.is at parsed)
     ]
 
 pub returns-then-branch-eq0 : goal.returns-then-branch-eq0
