@@ -84,3 +84,103 @@ fn write_all<W: Write>(out: &mut W, text: &str) -> io::Result<()>
     out.write_all(text.as_bytes())?;
     out.flush()
 }
+
+#[cfg(test)]
+mod tests {
+    use super::*;
+    use std::io::{Error, ErrorKind};
+    use std::test::Fail;
+
+    /// Gives one byte a read, and then fails.
+    #[derive(Drop)]
+    struct Failing<'a>(&'a [u8]);
+
+    impl Read for Failing<'_> {
+        fn read(&mut self, buffer: &mut [u8]) -> io::Result<usize> {
+            let [byte, rest @ ..] = self.0 else {
+                return Err(Error::new(ErrorKind::Other, "no more can be read"));
+            };
+            let Some(first) = buffer.first_mut() else {
+                return Ok(0);
+            };
+            *first = *byte;
+            self.0 = rest;
+            Ok(1)
+        }
+    }
+
+    /// Takes nothing.
+    #[derive(Drop)]
+    struct Closed;
+
+    impl Write for Closed {
+        fn write(&mut self, _buffer: &[u8]) -> io::Result<usize> {
+            Err(Error::from(ErrorKind::BrokenPipe))
+        }
+
+        fn flush(&mut self) -> io::Result<()> {
+            Ok(())
+        }
+    }
+
+    #[test]
+    fn counts_tokens_of_any_bytes(rt: HostRuntime) -> Result<(), Fail> {
+        let mut out = Vec::new(rt.alloc());
+        let mut complaints = Vec::new(rt.alloc());
+        let mut input: &[u8] = b"let x1 = \xe9\xa5\xb0\xff;\r\n\0";
+        let status = run(rt.alloc(), &[], &mut input, &mut out, &mut complaints);
+        assert_eq!(rt; status, 0);
+        assert_eq!(rt; out.as_slice(), b"letters: 2\ndigits: 1\nspace: 4\nother: 3\n".as_slice());
+        assert!(rt; complaints.is_empty());
+        Ok(())
+    }
+
+    #[test]
+    fn no_input_has_no_tokens(rt: HostRuntime) -> Result<(), Fail> {
+        let mut out = Vec::new(rt.alloc());
+        let mut complaints = Vec::new(rt.alloc());
+        let mut input: &[u8] = b"";
+        assert_eq!(rt; run(rt.alloc(), &[], &mut input, &mut out, &mut complaints), 0);
+        assert_eq!(rt; out.as_slice(), b"letters: 0\ndigits: 0\nspace: 0\nother: 0\n".as_slice());
+        assert!(rt; complaints.is_empty());
+        Ok(())
+    }
+
+    #[test]
+    fn failed_read_is_said(rt: HostRuntime) -> Result<(), Fail> {
+        let mut out = Vec::new(rt.alloc());
+        let mut complaints = Vec::new(rt.alloc());
+        let mut input = Failing(b"ab1");
+        let status = run(rt.alloc(), &[], &mut input, &mut out, &mut complaints);
+        assert_eq!(rt; status, 1);
+        assert!(rt; out.is_empty());
+        assert_eq!(rt; complaints.as_slice(), b"program_token_counter: no more can be read\n".as_slice());
+        Ok(())
+    }
+
+    #[test]
+    fn closed_output_is_said(rt: HostRuntime) -> Result<(), Fail> {
+        let mut complaints = Vec::new(rt.alloc());
+        let mut input: &[u8] = b"a\nb";
+        let status = run(rt.alloc(), &[], &mut input, &mut Closed, &mut complaints);
+        assert_eq!(rt; status, 1);
+        assert_eq!(rt; complaints.as_slice(), b"program_token_counter: broken pipe\n".as_slice());
+        Ok(())
+    }
+
+    #[test]
+    fn arguments_are_known_or_refused(rt: HostRuntime) -> Result<(), Fail> {
+        let mut out = Vec::new(rt.alloc());
+        let mut complaints = Vec::new(rt.alloc());
+        let mut input: &[u8] = b"";
+        let help = [String::from_str(rt.alloc(), "--help")?];
+        assert_eq!(rt; run(rt.alloc(), &help, &mut input, &mut out, &mut complaints), 0);
+        assert_eq!(rt; out.as_slice(), USAGE.as_bytes());
+        assert!(rt; complaints.is_empty());
+        let other = [String::from_str(rt.alloc(), "-c")?];
+        assert_eq!(rt; run(rt.alloc(), &other, &mut input, &mut out, &mut complaints), 2);
+        assert_eq!(rt; out.as_slice(), USAGE.as_bytes());
+        assert_eq!(rt; complaints.as_slice(), USAGE.as_bytes());
+        Ok(())
+    }
+}

@@ -74,3 +74,102 @@ fn write_all<W: Write>(out: &mut W, text: &str) -> io::Result<()>
     out.write_all(text.as_bytes())?;
     out.flush()
 }
+
+#[cfg(test)]
+mod tests {
+    use super::*;
+    use std::io::{BufReader, Error, ErrorKind, Read};
+    use std::test::Fail;
+
+    /// Gives one byte a read, and then fails.
+    #[derive(Drop)]
+    struct Failing<'a>(&'a [u8]);
+
+    impl Read for Failing<'_> {
+        fn read(&mut self, buffer: &mut [u8]) -> io::Result<usize> {
+            let [byte, rest @ ..] = self.0 else {
+                return Err(Error::new(ErrorKind::Other, "no more can be read"));
+            };
+            let Some(first) = buffer.first_mut() else {
+                return Ok(0);
+            };
+            *first = *byte;
+            self.0 = rest;
+            Ok(1)
+        }
+    }
+
+    /// Takes nothing.
+    #[derive(Drop)]
+    struct Closed;
+
+    impl Write for Closed {
+        fn write(&mut self, _buffer: &[u8]) -> io::Result<usize> {
+            Err(Error::from(ErrorKind::BrokenPipe))
+        }
+
+        fn flush(&mut self) -> io::Result<()> {
+            Ok(())
+        }
+    }
+
+    #[test]
+    fn counts_lines_of_any_bytes(rt: HostRuntime) -> Result<(), Fail> {
+        let mut out = Vec::new(rt.alloc());
+        let mut complaints = Vec::new(rt.alloc());
+        let mut input: &[u8] = b"a\na\nb\r\nb\n\n\n\0\n\xff\n\xff";
+        let status = run(rt.alloc(), &[], &mut input, &mut out, &mut complaints);
+        assert_eq!(rt; status, 0);
+        assert_eq!(rt; out.as_slice(), b"2 a\n1 b\r\n1 b\n2 \n1 \0\n2 \xff\n".as_slice());
+        assert!(rt; complaints.is_empty());
+        Ok(())
+    }
+
+    #[test]
+    fn no_input_has_no_lines(rt: HostRuntime) -> Result<(), Fail> {
+        let mut out = Vec::new(rt.alloc());
+        let mut complaints = Vec::new(rt.alloc());
+        let mut input: &[u8] = b"";
+        assert_eq!(rt; run(rt.alloc(), &[], &mut input, &mut out, &mut complaints), 0);
+        assert!(rt; out.is_empty());
+        assert!(rt; complaints.is_empty());
+        Ok(())
+    }
+
+    #[test]
+    fn failed_read_is_said(rt: HostRuntime) -> Result<(), Fail> {
+        let mut out = Vec::new(rt.alloc());
+        let mut complaints = Vec::new(rt.alloc());
+        let mut input = BufReader::with_capacity(rt.alloc(), 1, Failing(b"a\na\nb"))?;
+        let status = run(rt.alloc(), &[], &mut input, &mut out, &mut complaints);
+        assert_eq!(rt; status, 1);
+        assert_eq!(rt; complaints.as_slice(), b"program_uniq_count: no more can be read\n".as_slice());
+        Ok(())
+    }
+
+    #[test]
+    fn closed_output_is_said(rt: HostRuntime) -> Result<(), Fail> {
+        let mut complaints = Vec::new(rt.alloc());
+        let mut input: &[u8] = b"a\nb";
+        let status = run(rt.alloc(), &[], &mut input, &mut Closed, &mut complaints);
+        assert_eq!(rt; status, 1);
+        assert_eq!(rt; complaints.as_slice(), b"program_uniq_count: broken pipe\n".as_slice());
+        Ok(())
+    }
+
+    #[test]
+    fn arguments_are_known_or_refused(rt: HostRuntime) -> Result<(), Fail> {
+        let mut out = Vec::new(rt.alloc());
+        let mut complaints = Vec::new(rt.alloc());
+        let mut input: &[u8] = b"";
+        let help = [String::from_str(rt.alloc(), "--help")?];
+        assert_eq!(rt; run(rt.alloc(), &help, &mut input, &mut out, &mut complaints), 0);
+        assert_eq!(rt; out.as_slice(), USAGE.as_bytes());
+        assert!(rt; complaints.is_empty());
+        let other = [String::from_str(rt.alloc(), "-c")?];
+        assert_eq!(rt; run(rt.alloc(), &other, &mut input, &mut out, &mut complaints), 2);
+        assert_eq!(rt; out.as_slice(), USAGE.as_bytes());
+        assert_eq!(rt; complaints.as_slice(), USAGE.as_bytes());
+        Ok(())
+    }
+}
