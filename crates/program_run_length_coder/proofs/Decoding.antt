@@ -1,8 +1,8 @@
 -- The lines of what bytes are coded as, one after another.
-use Rattle.std.proofs.Common.{◌≡◌, ◌≢◌, ℕ, zero, suc, ◌+◌, ◌<◌, ◌^◌, Bool, true, false, List, [], ◌∷◌, ◌++◌, length, replicate, nat_eq, flat_map, decimal, codes, refl, ap, sym, subst, ◌∙◌, append_assoc, eq-eqb, arith, get_or, take, ltb, length-append, ◌-◌, Option, None, Some}
+use Rattle.std.proofs.Common.{◌≡◌, ℕ, suc, ◌+◌, ◌<◌, ◌^◌, Bool, true, false, List, [], ◌∷◌, ◌++◌, length, replicate, nat_eq, flat_map, decimal, codes, refl, ap, sym, subst, ◌∙◌, arith, get_or, take, ltb, length-append, ◌-◌, Option, Some}
 use Rattle.std.specs.List.{All}
 use Rattle.std.specs.Io.KnownBytes.{Appends}
-use Rattle.std.proofs.KnownBytes.{Appends-nil, Appends-trans}
+use Rattle.std.proofs.KnownBytes.{Appends-nil}
 use borrow.Author.Tests.{ne_eqb}
 use Rattle.std.proofs.lemmas.Bool.Decides.{nat_tests}
 use Rattle.std.proofs.lemmas.List.{length-replicate}
@@ -12,7 +12,7 @@ use Rattle.std.specs.Io.BufRead.{take_through, drop_through, strip_last}
 use Rattle.std.specs.Char.{digit_value}
 use Rattle.std.specs.Str.Parse.{AllDigits}
 use Rattle.std.proofs.lemmas.Fmt.{decimal_is_IsNumeral}
-use Rattle.slice_group_by.specs.Split.{split, put_before}
+use Rattle.slice_group_by.specs.Split.{split}
 use Rattle.program_run_length_coder.specs.Coding.{line, coded}
 
 -- the first run of bytes, and those after it

@@ -1,7 +1,7 @@
 -- Runs of equal bytes, one after another, and what they are coded as.
-use Rattle.std.proofs.Common.{◌≡◌, ◌≢◌, ℕ, zero, suc, ◌+◌, ◌<◌, Bool, true, false, List, [], ◌∷◌, ◌++◌, length, replicate, flat_map, nat_eq, refl, ap, sym, ◌∙◌, append_assoc, append-nil, eq-eqb, arith, Option, Some, get_or, map, subst}
+use Rattle.std.proofs.Common.{◌≡◌, ◌≢◌, ℕ, zero, suc, ◌+◌, ◌<◌, false, List, [], ◌∷◌, ◌++◌, length, replicate, flat_map, nat_eq, refl, ap, sym, ◌∙◌, append_assoc, append-nil, eq-eqb, arith, Option, Some, get_or, map, subst}
 use Rattle.std.specs.List.{AllByRecursion}
-use Rattle.std.proofs.lemmas.List.{length-replicate, replicate-append-replicate}
+use Rattle.std.proofs.lemmas.List.{replicate-append-replicate}
 use Rattle.slice_group_by.specs.Split.{first, split, concat, IsSplit}
 use Rattle.std.specs.Io.KnownBytes.{Appends}
 use Rattle.std.proofs.KnownBytes.{Appends-nil, Appends-trans}

@@ -1,5 +1,5 @@
 -- What a line of a run says, and what is wrong with one.
-use Rattle.std.specs.Prelude.{◌≡◌, ℕ, ◌<◌, Bool, List, Ok, Err, length, nat_eq}
+use Rattle.std.specs.Prelude.{ℕ, ◌<◌, Bool, List, Ok, Err, length, nat_eq}
 use Rattle.std.specs.List.{position_or_len, before_first, after_first}
 use Rattle.std.specs.Str.{IsUtf8}
 use Rattle.std.specs.Str.Parse.{ParsesUnsigned}

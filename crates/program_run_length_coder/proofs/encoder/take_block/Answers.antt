@@ -1,9 +1,8 @@
-use Rattle.std.proofs.Common.{nat_eq, map, ap, ◌∙◌, subst}
+use Rattle.std.proofs.Common.{nat_eq, ap, ◌∙◌}
 use Rattle.std.proofs.lemmas.Bool.{eqb-true}
 use Rattle.slice_group_by.specs.End.TheVariants.{Front}
 use Rattle.slice_group_by.specs.Gives.{groups_of}
-use Rattle.slice_group_by.specs.Split.{split, concat}
-use Rattle.program_run_length_coder.specs.Coding.{Codes}
+use Rattle.slice_group_by.specs.Split.{concat}
 use Rattle.program_run_length_coder.proofs.Groups.{group_is_run, concat_push, Codes-more}
 use Rattle.program_run_length_coder.proofs.encoder.take_block.Goals as goal
 

@@ -1,5 +1,5 @@
 use borrow.Author.Tests.{ne_eqb}
-use Rattle.std.proofs.Common.{rules, length, get_or, arith}
+use Rattle.std.proofs.Common.{rules, length, get_or}
 use Rattle.program_run_length_coder.proofs.Groups.{begins, joins, changes}
 use Rattle.program_run_length_coder.proofs.encoder.take_group.Goals as goal
 use Rattle.program_run_length_coder.proofs.encoder.take_group.Goals.{in-Some+then-run-byte+in-Some-checked_add, in-Some+else-run-byte+in_ok-write, in_default}

@@ -1,4 +1,4 @@
-use Rattle.std.proofs.Common.{◌≡◌, ◌-◌, ◌<◌, ◌≤◌, length, replicate, min, vec_len}
+use Rattle.std.proofs.Common.{◌-◌, ◌≤◌, replicate}
 use Rattle.std.specs.Io.KnownBytes.{Appends}
 use Rattle.program_run_length_coder.proofs.runs.Run.write_bytes.Given as goal
 
