@@ -1,8 +1,8 @@
 -- How many tokens a text has, by where they begin.
-use Rattle.std.proofs.Common.{◌≡◌, ◌≢◌, ℕ, ◌+◌, ◌<◌, Bool, true, false, cond, List, [], ◌∷◌, ◌++◌, length, refl, ap, sym, subst, ◌∙◌, arith, Option, None, Some, map, flat_map, append-nil, append_assoc, get_or}
+use Rattle.std.proofs.Common.{◌≡◌, ◌≢◌, ℕ, ◌+◌, ◌<◌, Bool, true, false, cond, List, [], ◌∷◌, ◌++◌, length, refl, ap, sym, ◌∙◌, arith, Option, None, Some, get_or}
 use Rattle.std.specs.Prelude.{count_by, option_map}
 use Rattle.std.proofs.lemmas.List.Sums.{sum_by-cons}
-use Rattle.slice_group_by.specs.Split.{split, put_before, last}
+use Rattle.slice_group_by.specs.Split.{put_before, last}
 use Rattle.program_token_counter.specs.declared.class.Class.{Class}
 use Rattle.program_token_counter.specs.declared.class.Class.TheVariants.{Letter, Digit, Space, Other}
 use Rattle.program_token_counter.specs.declared.tally.Tally.{Tally}

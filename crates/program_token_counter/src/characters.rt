@@ -8,5 +8,4 @@ ghost use Rattle.program_token_counter.specs.Classes.{token_count};
 /// is each of its bytes. So a block may end inside a character.
 pub fn characters_agree()
     ensures { (class : Class) (bytes : List ℕ) → IsUtf8 bytes → token_count class (chars bytes) ≡ token_count class bytes }
-{
-}
+{}

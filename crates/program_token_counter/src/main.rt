@@ -19,6 +19,12 @@ use std::{env, io};
 
 fn main(rt: HostRuntime) -> io::Result<ExitCode> {
     let words: Vec<String> = env::args(&rt)?.skip(1).collect(rt.alloc())?;
-    let status = run(rt.alloc(), &words, &mut rt.stdin(), &mut rt.stdout(), &mut rt.stderr());
+    let status = run(
+        rt.alloc(),
+        &words,
+        &mut rt.stdin(),
+        &mut rt.stdout(),
+        &mut rt.stderr(),
+    );
     Ok(ExitCode::from(status))
 }

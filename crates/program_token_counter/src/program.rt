@@ -130,7 +130,10 @@ mod tests {
         let mut input: &[u8] = b"let x1 = \xe9\xa5\xb0\xff;\r\n\0";
         let status = run(rt.alloc(), &[], &mut input, &mut out, &mut complaints);
         assert_eq!(rt; status, 0);
-        assert_eq!(rt; out.as_slice(), b"letters: 2\ndigits: 1\nspace: 4\nother: 3\n".as_slice());
+        assert_eq!(rt;
+            out.as_slice(),
+            b"letters: 2\ndigits: 1\nspace: 4\nother: 3\n".as_slice()
+        );
         assert!(rt; complaints.is_empty());
         Ok(())
     }
@@ -140,8 +143,14 @@ mod tests {
         let mut out = Vec::new(rt.alloc());
         let mut complaints = Vec::new(rt.alloc());
         let mut input: &[u8] = b"";
-        assert_eq!(rt; run(rt.alloc(), &[], &mut input, &mut out, &mut complaints), 0);
-        assert_eq!(rt; out.as_slice(), b"letters: 0\ndigits: 0\nspace: 0\nother: 0\n".as_slice());
+        assert_eq!(rt;
+            run(rt.alloc(), &[], &mut input, &mut out, &mut complaints),
+            0
+        );
+        assert_eq!(rt;
+            out.as_slice(),
+            b"letters: 0\ndigits: 0\nspace: 0\nother: 0\n".as_slice()
+        );
         assert!(rt; complaints.is_empty());
         Ok(())
     }
@@ -154,7 +163,10 @@ mod tests {
         let status = run(rt.alloc(), &[], &mut input, &mut out, &mut complaints);
         assert_eq!(rt; status, 1);
         assert!(rt; out.is_empty());
-        assert_eq!(rt; complaints.as_slice(), b"program_token_counter: no more can be read\n".as_slice());
+        assert_eq!(rt;
+            complaints.as_slice(),
+            b"program_token_counter: no more can be read\n".as_slice()
+        );
         Ok(())
     }
 
@@ -164,7 +176,10 @@ mod tests {
         let mut input: &[u8] = b"a\nb";
         let status = run(rt.alloc(), &[], &mut input, &mut Closed, &mut complaints);
         assert_eq!(rt; status, 1);
-        assert_eq!(rt; complaints.as_slice(), b"program_token_counter: broken pipe\n".as_slice());
+        assert_eq!(rt;
+            complaints.as_slice(),
+            b"program_token_counter: broken pipe\n".as_slice()
+        );
         Ok(())
     }
 
@@ -174,11 +189,17 @@ mod tests {
         let mut complaints = Vec::new(rt.alloc());
         let mut input: &[u8] = b"";
         let help = [String::from_str(rt.alloc(), "--help")?];
-        assert_eq!(rt; run(rt.alloc(), &help, &mut input, &mut out, &mut complaints), 0);
+        assert_eq!(rt;
+            run(rt.alloc(), &help, &mut input, &mut out, &mut complaints),
+            0
+        );
         assert_eq!(rt; out.as_slice(), USAGE.as_bytes());
         assert!(rt; complaints.is_empty());
         let other = [String::from_str(rt.alloc(), "-c")?];
-        assert_eq!(rt; run(rt.alloc(), &other, &mut input, &mut out, &mut complaints), 2);
+        assert_eq!(rt;
+            run(rt.alloc(), &other, &mut input, &mut out, &mut complaints),
+            2
+        );
         assert_eq!(rt; out.as_slice(), USAGE.as_bytes());
         assert_eq!(rt; complaints.as_slice(), USAGE.as_bytes());
         Ok(())

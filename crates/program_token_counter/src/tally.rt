@@ -77,7 +77,10 @@ fn one_more(count: usize) -> io::Result<usize>
     ensures { IfOk result (λ next. next ≡ count + 1) }
 {
     let Some(next) = count.checked_add(1) else {
-        return Err(Error::new(ErrorKind::InvalidData, "there are too many tokens to be counted"));
+        return Err(Error::new(
+            ErrorKind::InvalidData,
+            "there are too many tokens to be counted",
+        ));
     };
     Ok(next)
 }

@@ -1,5 +1,5 @@
 -- Groups of equal lines, one after another, and what is written of them.
-use Rattle.std.proofs.Common.{◌≡◌, ◌≢◌, ℕ, zero, suc, ◌+◌, ◌<◌, Bool, true, false, List, [], ◌∷◌, ◌++◌, length, replicate, flat_map, refl, ap, sym, subst, ◌∙◌, append_assoc, append-nil, arith, Option, Some, map, get_or, codes, decimal}
+use Rattle.std.proofs.Common.{◌≡◌, ℕ, zero, suc, ◌+◌, ◌<◌, Bool, true, false, List, [], ◌∷◌, ◌++◌, length, replicate, flat_map, refl, ap, sym, subst, ◌∙◌, append_assoc, append-nil, arith, Option, map, get_or, codes, decimal}
 use Rattle.std.specs.List.{AllByRecursion}
 use Rattle.std.specs.Str.{bytes_eq}
 use Rattle.std.specs.Io.KnownBytes.{Appends}
@@ -112,9 +112,9 @@ pub group_is_copies : {A B : Type 0} (p : B → B → Bool) (show : B → List �
 group_is_copies {A} {B} p show same f ys y rest xs d e is_split =
     let Along : List B → Type 0 = IsAccepted p in
     of_accepted (f y) (holds_of_last Along f ys y rest (subst (AllByRecursion Along) e is_split.accepted)) where
-  of_accepted : (g : List B) → IsAccepted p g → map show g ≡ replicate (length g) (show (get_or g 0 d))
-  of_accepted [] h = refl
-  of_accepted (x ∷ g) h = same_all_along p show same x g h
+      of_accepted : (g : List B) → IsAccepted p g → map show g ≡ replicate (length g) (show (get_or g 0 d))
+      of_accepted [] h = refl
+      of_accepted (x ∷ g) h = same_all_along p show same x g h
 
 -- the lines of one more group, after those before it
 pub lines_push : {A B : Type 0} (show : B → List ℕ) (f : A → List B) (ys : List A) (y : A)

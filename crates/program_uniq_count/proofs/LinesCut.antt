@@ -1,5 +1,5 @@
 -- Where the lines of a text may be cut.
-use Rattle.std.proofs.Common.{◌≡◌, ◌≢◌, ℕ, suc, ◌+◌, ◌<◌, Bool, true, false, cond, eqb, not, List, [], ◌∷◌, ◌++◌, length, take, drop, refl, ap, sym, ◌∙◌, arith, append_assoc, append-nil, Option, None, Some, IfSome, ltb, map, subst}
+use Rattle.std.proofs.Common.{◌≡◌, ◌≢◌, ℕ, suc, ◌+◌, ◌<◌, Bool, true, false, eqb, not, List, [], ◌∷◌, ◌++◌, length, take, drop, refl, ap, sym, ◌∙◌, arith, append_assoc, append-nil, Option, None, Some, IfSome, ltb, map, subst}
 use borrow.Author.Tests.{ltb-false}
 use Rattle.std.specs.Option.{unwrap_or}
 use Rattle.std.specs.Io.KnownBytes.{IsAtEnd}
@@ -141,7 +141,7 @@ Reads-more (Some all) (Some (x ∷ xs)) c text new p grown left =
     let ends = p.1 (λ e. cc) in
     rw (left, grown) (
       p.0 ∙ ap (λ l. lines text ++ l) (lines_through (x ∷ xs)) ∙ sym (append_assoc (lines text) (lines front) (lines rest))
-      ∙ ap (λ l. l ++ lines rest) (sym (ends front)),
+          ∙ ap (λ l. l ++ lines rest) (sym (ends front)),
       λ some. ends_both text front ends (through_ends (x ∷ xs) some),
     )
 

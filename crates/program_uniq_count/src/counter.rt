@@ -14,7 +14,11 @@ use std::io::{BufRead, Error, ErrorKind, Write};
 /// Writes an entry for each longest stretch of equal neighbouring lines of what the input has left, however the reads cut it. It
 /// keeps one block of lines in memory, or one line where that is longer. A failed read or write ends it, and so does a line that
 /// stands there 2^64 times in a row.
-pub fn count_lines<R: BufRead, W: Write>(alloc: Global, input: &mut R, out: &mut W) -> io::Result<()>
+pub fn count_lines<R: BufRead, W: Write>(
+    alloc: Global,
+    input: &mut R,
+    out: &mut W,
+) -> io::Result<()>
     ensures { OnOk result (IfSome (R.remaining input.old)
         (λ bytes. Appends (W.contents out.old) (W.contents out.new) (counted (lines bytes)))) }
 {
@@ -47,14 +51,22 @@ fn take_lines<W: Write>(last: &mut Repeated, found: &[&[u8]], out: &mut W) -> io
 
 /// Adds so many copies of a line to the open lines where these are equal to it. Else an entry of the open lines is written, and the
 /// copies are open.
-fn take_copies<W: Write>(last: &mut Repeated, line: &[u8], count: usize, out: &mut W) -> io::Result<()>
+fn take_copies<W: Write>(
+    last: &mut Repeated,
+    line: &[u8],
+    count: usize,
+    out: &mut W,
+) -> io::Result<()>
     requires { 0 < count }
     ensures { OnOk result (Counts (W.contents out.old) (W.contents out.new)
         (copies last.old) (replicate count line.now) (copies last.new)) }
 {
     if last.line.as_slice() == line {
         let Some(total) = last.count.checked_add(count) else {
-            return Err(Error::new(ErrorKind::InvalidData, "a line is repeated too often to be counted"));
+            return Err(Error::new(
+                ErrorKind::InvalidData,
+                "a line is repeated too often to be counted",
+            ));
         };
         last.count = total;
     } else {

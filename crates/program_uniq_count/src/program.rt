@@ -120,7 +120,10 @@ mod tests {
         let mut input: &[u8] = b"a\na\nb\r\nb\n\n\n\0\n\xff\n\xff";
         let status = run(rt.alloc(), &[], &mut input, &mut out, &mut complaints);
         assert_eq!(rt; status, 0);
-        assert_eq!(rt; out.as_slice(), b"2 a\n1 b\r\n1 b\n2 \n1 \0\n2 \xff\n".as_slice());
+        assert_eq!(rt;
+            out.as_slice(),
+            b"2 a\n1 b\r\n1 b\n2 \n1 \0\n2 \xff\n".as_slice()
+        );
         assert!(rt; complaints.is_empty());
         Ok(())
     }
@@ -130,7 +133,10 @@ mod tests {
         let mut out = Vec::new(rt.alloc());
         let mut complaints = Vec::new(rt.alloc());
         let mut input: &[u8] = b"";
-        assert_eq!(rt; run(rt.alloc(), &[], &mut input, &mut out, &mut complaints), 0);
+        assert_eq!(rt;
+            run(rt.alloc(), &[], &mut input, &mut out, &mut complaints),
+            0
+        );
         assert!(rt; out.is_empty());
         assert!(rt; complaints.is_empty());
         Ok(())
@@ -143,7 +149,10 @@ mod tests {
         let mut input = BufReader::with_capacity(rt.alloc(), 1, Failing(b"a\na\nb"))?;
         let status = run(rt.alloc(), &[], &mut input, &mut out, &mut complaints);
         assert_eq!(rt; status, 1);
-        assert_eq!(rt; complaints.as_slice(), b"program_uniq_count: no more can be read\n".as_slice());
+        assert_eq!(rt;
+            complaints.as_slice(),
+            b"program_uniq_count: no more can be read\n".as_slice()
+        );
         Ok(())
     }
 
@@ -153,7 +162,10 @@ mod tests {
         let mut input: &[u8] = b"a\nb";
         let status = run(rt.alloc(), &[], &mut input, &mut Closed, &mut complaints);
         assert_eq!(rt; status, 1);
-        assert_eq!(rt; complaints.as_slice(), b"program_uniq_count: broken pipe\n".as_slice());
+        assert_eq!(rt;
+            complaints.as_slice(),
+            b"program_uniq_count: broken pipe\n".as_slice()
+        );
         Ok(())
     }
 
@@ -163,11 +175,17 @@ mod tests {
         let mut complaints = Vec::new(rt.alloc());
         let mut input: &[u8] = b"";
         let help = [String::from_str(rt.alloc(), "--help")?];
-        assert_eq!(rt; run(rt.alloc(), &help, &mut input, &mut out, &mut complaints), 0);
+        assert_eq!(rt;
+            run(rt.alloc(), &help, &mut input, &mut out, &mut complaints),
+            0
+        );
         assert_eq!(rt; out.as_slice(), USAGE.as_bytes());
         assert!(rt; complaints.is_empty());
         let other = [String::from_str(rt.alloc(), "-c")?];
-        assert_eq!(rt; run(rt.alloc(), &other, &mut input, &mut out, &mut complaints), 2);
+        assert_eq!(rt;
+            run(rt.alloc(), &other, &mut input, &mut out, &mut complaints),
+            2
+        );
         assert_eq!(rt; out.as_slice(), USAGE.as_bytes());
         assert_eq!(rt; complaints.as_slice(), USAGE.as_bytes());
         Ok(())

@@ -2,7 +2,7 @@ use Rattle.std.proofs.Common.{rules, List, ℕ, Bor, ◌++◌, map, ap, ◌∙�
 use Rattle.std.proofs.lemmas.Fn.{always_returns_same}
 use Rattle.slice_group_by.specs.End.TheVariants.{Front}
 use Rattle.slice_group_by.specs.Gives.{groups_of}
-use Rattle.slice_group_by.specs.Split.{split, concat}
+use Rattle.slice_group_by.specs.Split.{concat}
 use Rattle.program_token_counter.specs.Classes.{class_of}
 use Rattle.program_token_counter.proofs.TokensOfBlocks.{are_equal, token_has_class, concat_push}
 use Rattle.program_token_counter.proofs.counter.take_block.Goals as goal

@@ -1,5 +1,5 @@
 use Rattle.std.proofs.lemmas.Grind.{common_steps}
-use Rattle.std.proofs.Common.{[], rules, arith, replicate}
+use Rattle.std.proofs.Common.{[], arith}
 use Rattle.std.proofs.lemmas.Result.{on_ok_weaker}
 use Rattle.std.specs.Io.KnownBytes.{Appends}
 use Rattle.program_uniq_count.specs.Counting.{counted}
@@ -13,8 +13,7 @@ loop-init g c = ([], GivesLines-none _, rw c.none-last.ensures (Counts-none _ []
 pub loop-preserved : goal.loop-preserved
 loop-preserved g c =
     let (found, given, so_far) = c.loop.invariant in
-    let block = rw c.deref.ensures.value at c.in_ok-found.ensures in
-    (
+    let block = rw c.deref.ensures.value at c.in_ok-found.ensures in (
       _,
       GivesLines-trans _ _ _ found _ given c.in_ok-read_lines.ensures.given,
       rw (c.deref-in-loop.ensures.value, block) at (Counts-more _ _ so_far c.in_ok-take_lines.ensures),

@@ -3,7 +3,7 @@ use Rattle.std.specs.Str.{bytes_eq}
 use Rattle.std.proofs.lemmas.Slice.Eq.{bytes_eq-Decides}
 use Rattle.slice_group_by.specs.End.TheVariants.{Front}
 use Rattle.slice_group_by.specs.Gives.{groups_of}
-use Rattle.slice_group_by.specs.Split.{split, concat}
+use Rattle.slice_group_by.specs.Split.{concat}
 use Rattle.program_uniq_count.proofs.LineGroups.{group_is_copies, lines_push, Counts-more}
 use Rattle.program_uniq_count.proofs.counter.take_lines.Goals as goal
 

@@ -1,4 +1,4 @@
-use Rattle.std.proofs.Common.{arith, rules}
+use Rattle.std.proofs.Common.{rules}
 use Rattle.std.proofs.lemmas.Result.{on_ok_weaker}
 use Rattle.program_uniq_count.proofs.LineGroups.{entry_in_parts}
 use Rattle.program_uniq_count.proofs.counter.write_entry.Goals as goal

@@ -1,4 +1,4 @@
-use Rattle.std.proofs.Common.{rules, ◌∙◌}
+use Rattle.std.proofs.Common.{◌∙◌}
 use Rattle.program_uniq_count.proofs.LinesCut.{unwrap_or_position}
 use Rattle.program_uniq_count.proofs.lines.line_len.Goals as goal
 
