@@ -5,6 +5,4 @@
 pub mod grouped_report;
 pub mod index_reader;
 pub mod pairs;
-pub mod run_length_coder;
 pub mod table_join;
-pub mod token_counter;

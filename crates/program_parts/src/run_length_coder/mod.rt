@@ -1,2 +1,0 @@
-//! Bytes as runs, and back.
-pub mod coder;

@@ -1,0 +1,3 @@
+pub mod TokenCounts
+pub mod TokensOfBlocks
+pub mod BytesOfCharacters

@@ -1,0 +1,2 @@
+pub mod LinesCut
+pub mod LineGroups

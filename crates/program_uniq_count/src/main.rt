@@ -1,0 +1,21 @@
+//! Counts equal neighbouring lines of standard input, as `uniq -c` does: input of any size, in the memory of its longest line or of
+//! a block of lines. Lines are bytes up to a line feed; the last needs none.
+#![tactic(auto)]
+
+mod counter;
+mod lines;
+mod program;
+mod repeated;
+
+use program::run;
+use std::io::{BufReader, BufWriter};
+use std::process::ExitCode;
+use std::{env, io};
+
+fn main(rt: HostRuntime) -> io::Result<ExitCode> {
+    let words: Vec<String> = env::args(&rt)?.skip(1).collect(rt.alloc())?;
+    let mut input = BufReader::with_capacity(rt.alloc(), 65536, rt.stdin())?;
+    let mut out = BufWriter::new(rt.alloc(), rt.stdout())?;
+    let status = run(rt.alloc(), &words, &mut input, &mut out, &mut rt.stderr());
+    Ok(ExitCode::from(status))
+}
