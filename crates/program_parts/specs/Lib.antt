@@ -1,3 +1,4 @@
+pub mod Lines
 pub mod Pairs
 pub mod grouped_report
 pub mod index_reader

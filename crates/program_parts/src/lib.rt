@@ -4,6 +4,7 @@
 
 pub mod grouped_report;
 pub mod index_reader;
+pub mod lines;
 pub mod pairs;
 pub mod run_length_coder;
 pub mod table_join;

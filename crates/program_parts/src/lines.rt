@@ -1,0 +1,46 @@
+//! The lines of a reader, one at a time, and what is said of a line that is left out.
+ghost use Rattle.std.specs.Prelude.{◌≡◌, ◌≢◌, ◌↔◌, [], IfOk, IfSome, IsTrue, OnOk};
+ghost use Rattle.std.specs.Io.BufRead.{DropsThrough, ends_with_byte, first_line, strip_last};
+ghost use Rattle.std.specs.Io.KnownBytes.{Appends};
+ghost use Rattle.program_parts.specs.Lines.{complaint};
+
+use std::fmt::Display;
+use std::io;
+use std::io::{BufRead, Write};
+
+/// Reads the next line in the place of the one before: without its line feed, and without a carriage return before that.
+/// The last line may lack the line feed. `false` where no line is left.
+///
+/// It keeps this one line and no more. A line that is no text is read as any other.
+pub fn read_line<R: BufRead>(reader: &mut R, line: &mut Vec<u8>) -> io::Result<bool>
+    ensures found { IfOk result (λ found. IfSome (R.remaining reader.old) (λ unread. IsTrue found ↔ (unread ≢ []))) }
+    ensures line { OnOk result (IfSome (R.remaining reader.old) (λ unread. line.new.items ≡ first_line unread)) }
+    ensures rest { OnOk result (DropsThrough (R.remaining reader.old) (R.remaining reader.new) 10) }
+{
+    line.clear();
+    let count = reader.read_until(b'\n', line)?;
+    if pop_if_last(line, b'\n') {
+        pop_if_last(line, b'\r');
+    }
+    Ok(count > 0)
+}
+
+// Takes the byte off the end, where it stands there, and says whether it did.
+fn pop_if_last(bytes: &mut Vec<u8>, byte: u8) -> bool
+    ensures popped { result ≡ ends_with_byte byte bytes.old.items }
+    ensures items { bytes.new.items ≡ strip_last byte bytes.old.items }
+{
+    let is_last = bytes.last() == Some(&byte);
+    if is_last {
+        bytes.pop();
+    }
+    is_last
+}
+
+/// Says that a line is left out, and why, on a line of its own.
+pub fn complain<W: Write, P: Display + Drop>(out: &mut W, number: u64, problem: P) -> io::Result<()>
+    ensures { OnOk result (IfSome (P.output problem) (λ why.
+        Appends (W.contents out.old) (W.contents out.new) (complaint number why))) }
+{
+    writeln!(out, "line {number} is left out: {problem}")
+}
