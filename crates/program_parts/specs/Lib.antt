@@ -3,5 +3,4 @@ pub mod Pairs
 pub mod grouped_report
 pub mod index_reader
 pub mod run_length_coder
-pub mod table_join
 pub mod token_counter

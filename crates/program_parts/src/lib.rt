@@ -7,5 +7,4 @@ pub mod index_reader;
 pub mod lines;
 pub mod pairs;
 pub mod run_length_coder;
-pub mod table_join;
 pub mod token_counter;
