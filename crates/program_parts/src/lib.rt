@@ -1,9 +1,7 @@
-//! What the programs over standard input do with their lines: each has a module here, and a `main` of its own that reads and
-//! prints.
+//! What the programs over standard input share: their lines, and pairs of numbers in them. The run-length coder and the token
+//! counter have what they do with their lines here too, a module each.
 #![tactic(auto)]
 
-pub mod grouped_report;
-pub mod index_reader;
 pub mod lines;
 pub mod pairs;
 pub mod run_length_coder;

@@ -8,17 +8,17 @@ use Rattle.slice_group_by.specs.Split.{IsAccepted, concat}
 use Rattle.slice_group_by.specs.Join.{are_partners}
 use Rattle.slice_group_by.specs.Search.{NeverDescends}
 use Rattle.slice_group_by.proofs.Joins.FirstGroups.{Ascends}
-use Rattle.program_parts.specs.declared.grouped_report.rows.Entry.{Entry}
-use Rattle.program_parts.specs.grouped_report.Departments.{department, amount, count_of, amount_of}
+use Rattle.program_grouped_report.specs.declared.entry.Entry.{Entry}
+use Rattle.program_grouped_report.specs.Departments.{department, amount, count_of, amount_of}
 
-abbrev pub same : Entry ℕ → Entry ℕ → Bool
+abbrev pub same : Entry → Entry → Bool
 same a b = nat_eq (department a) (department b)
 
-abbrev pub department_of : List (Entry ℕ) → ℕ
+abbrev pub department_of : List Entry → ℕ
 department_of [] = 0
 department_of (x ∷ xs) = x.department
 
-abbrev pub line_of : List (Entry ℕ) → Entry ℕ
+abbrev pub line_of : List Entry → Entry
 line_of group = record { department = department_of group; amount = sum_by amount group }
 
 both : (b : Bool) (m n : ℕ) → cond b m 0 + cond b n 0 ≡ cond b (m + n) 0
@@ -26,12 +26,12 @@ both true m n = refl
 both false m n = refl
 
 module _ (d : ℕ) where
-  module _ (f : Entry ℕ → ℕ) where
-    abbrev of : Entry ℕ → ℕ
+  module _ (f : Entry → ℕ) where
+    abbrev of : Entry → ℕ
     of x = cond (nat_eq d x.department) (f x) 0
 
     -- a group is of the department d as a whole, or not at all
-    uniform : (x : Entry ℕ) (xs : List (Entry ℕ)) → IsAccepted same (x ∷ xs)
+    uniform : (x : Entry) (xs : List Entry) → IsAccepted same (x ∷ xs)
         → sum_by of (x ∷ xs) ≡ cond (nat_eq d x.department) (sum_by f (x ∷ xs)) 0
     uniform x [] a = simp zero-add
     uniform x (y ∷ ys) a =
@@ -41,7 +41,7 @@ module _ (d : ℕ) where
         ∙ both (nat_eq d x.department) (f x) (sum_by f (y ∷ ys))
         ∙ ap (λ n. cond (nat_eq d x.department) n 0) (sym (sum_by-cons f x (y ∷ ys)))
 
-  pub amounts : (gs : List (List (Entry ℕ))) → AllByRecursion (λ g. g ≢ []) gs → AllByRecursion (IsAccepted same) gs
+  pub amounts : (gs : List (List Entry)) → AllByRecursion (λ g. g ≢ []) gs → AllByRecursion (IsAccepted same) gs
       → amount_of d (map line_of gs) ≡ amount_of d (concat gs)
   amounts [] n a = refl
   amounts ([] ∷ gs) n a = absurd (n.0 refl)
@@ -52,7 +52,7 @@ module _ (d : ℕ) where
       ∙ sym (sum_by-append (of amount) (x ∷ xs) (concat gs))
 
   -- a department has a line if it has a row
-  counts : (gs : List (List (Entry ℕ))) → AllByRecursion (λ g. g ≢ []) gs → AllByRecursion (IsAccepted same) gs
+  counts : (gs : List (List Entry)) → AllByRecursion (λ g. g ≢ []) gs → AllByRecursion (IsAccepted same) gs
       → (count_of d (map line_of gs) ≤ count_of d (concat gs)) × (count_of d (map line_of gs) ≡ 0 → count_of d (concat gs) ≡ 0)
   counts [] n a = (omega arith, λ e. refl)
   counts ([] ∷ gs) n a = absurd (n.0 refl)
@@ -67,7 +67,7 @@ module _ (d : ℕ) where
       by false e f h = (omega (arith, h.0), λ z. omega (arith, h.1 (omega (arith, e, z))))
 
   -- the lines of d are the groups that have it
-  lines_of : (gs : List (List (Entry ℕ))) → AllByRecursion (λ g. g ≢ []) gs
+  lines_of : (gs : List (List Entry)) → AllByRecursion (λ g. g ≢ []) gs
       → count_of d (map line_of gs) ≡ count_by (are_partners nat_eq department department (record { department = d; amount = 0 } ∷ [])) gs
   lines_of [] n = refl
   lines_of ([] ∷ gs) n = absurd (n.0 refl)
@@ -81,8 +81,8 @@ module _ (d : ℕ) where
   least zero b one most none = omega (arith, none refl)
   least (suc a) b one most none = omega arith
 
-  pub once : (gs : List (List (Entry ℕ))) → AllByRecursion (λ g. g ≢ []) gs → AllByRecursion (IsAccepted same) gs
-      → ((g : List (Entry ℕ)) → length (filter (are_partners nat_eq department department g) gs) ≤ 1)
+  pub once : (gs : List (List Entry)) → AllByRecursion (λ g. g ≢ []) gs → AllByRecursion (IsAccepted same) gs
+      → ((g : List Entry) → length (filter (are_partners nat_eq department department g) gs) ≤ 1)
       → count_of d (map line_of gs) ≡ min 1 (count_of d (concat gs))
   once gs n a one =
       let partners = are_partners nat_eq department department (record { department = d; amount = 0 } ∷ []) in
@@ -90,13 +90,13 @@ module _ (d : ℕ) where
       let h = counts gs n a in
       least _ _ (omega (arith, alone, length-filter partners gs, lines_of gs n)) h.0 h.1
 
-pub sums_of_lines : (gs : List (List (Entry ℕ))) → sum_by amount (map line_of gs) ≡ sum_by (λ g. sum_by amount g) gs
+pub sums_of_lines : (gs : List (List Entry)) → sum_by amount (map line_of gs) ≡ sum_by (λ g. sum_by amount g) gs
 sums_of_lines [] = refl
 sums_of_lines (g ∷ gs) =
     sum_by-cons amount (line_of g) (map line_of gs) ∙ ap (λ m. sum_by amount g + m) (sums_of_lines gs)
     ∙ sym (sum_by-cons (λ h. sum_by amount h) g gs)
 
-pub ascending : (gs : List (List (Entry ℕ))) → Ascends nat_cmp department gs → NeverDescends nat_cmp (map department (map line_of gs))
+pub ascending : (gs : List (List Entry)) → Ascends nat_cmp department gs → NeverDescends nat_cmp (map department (map line_of gs))
 ascending [] a = tt
 ascending ([] ∷ gs) a = absurd a
 ascending ((x ∷ xs) ∷ []) a = tt
