@@ -7,8 +7,8 @@ use Rattle.std.specs.Ordering.{MatchOrdering, nat_cmp, ordering_index, is_lt, is
 use Rattle.std.specs.declared.cmp.Ordering.{Ordering}
 use Rattle.std.specs.declared.cmp.Ordering.TheVariants.{Less, Equal, Greater}
 use Rattle.slice_group_by.specs.Search.{IsLessEqualGreater}
-use Rattle.program_parts.specs.declared.index_reader.entries.Entry.{Entry}
-use Rattle.program_parts.specs.index_reader.Keys.{IsAscending, of_key, lower, at_least}
+use Rattle.program_index_reader.specs.declared.entry.Entry.{Entry}
+use Rattle.program_index_reader.specs.Keys.{IsAscending, of_key, lower, at_least}
 
 -- the index of a rank rises with the number
 rank_rises : (a b k : ℕ) → a ≤ b → ordering_index (nat_cmp a k) ≤ ordering_index (nat_cmp b k)

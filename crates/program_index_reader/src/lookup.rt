@@ -1,9 +1,9 @@
 //! Looking a key up in a sorted index.
 ghost use Rattle.std.specs.Prelude.{◌≡◌, ◌+◌, ◌*◌, ◌≤◌, ◌++◌, length};
 ghost use Rattle.slice_group_by.specs.Searching.{digits};
-ghost use Rattle.program_parts.specs.index_reader.Keys.{IsAscending, at_least, lower, of_key};
+ghost use Rattle.program_index_reader.specs.Keys.{IsAscending, at_least, lower, of_key};
 
-use crate::index_reader::entries::Entry;
+use crate::entry::Entry;
 use slice_group_by::exponential_equal_range_by_ref;
 use slice_group_by::laws::{always_computes, range_calls_count, range_parts, range_starts};
 

@@ -3,8 +3,8 @@ use Rattle.std.proofs.lemmas.Fn.{answers_by}
 use Rattle.std.proofs.lemmas.List.Sums.{length-filter}
 use Rattle.std.specs.Ordering.{is_lt}
 use Rattle.slice_group_by.specs.Searching.{digits}
-use Rattle.program_parts.proofs.index_reader.Cuts.{stands, stands_rises, lower_is, of_key_is, at_least_is}
-use Rattle.program_parts.proofs.index_reader.lookup.entries_of.Goals as goal
+use Rattle.program_index_reader.proofs.Cuts.{stands, stands_rises, lower_is, of_key_is, at_least_is}
+use Rattle.program_index_reader.proofs.lookup.entries_of.Goals as goal
 
 pub returns-clause-exactly : goal.returns-clause-exactly
 returns-clause-exactly c =

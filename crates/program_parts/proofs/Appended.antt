@@ -4,8 +4,13 @@ use Rattle.std.proofs.lemmas.Grind.{flat_map-append}
 use Rattle.std.proofs.lemmas.List.{take_more, append-nil}
 use Rattle.std.specs.Io.KnownBytes.{Appends}
 
+-- no text, and nothing is written
+pub appends_nothing : (o : Option (List ℕ)) (text : List ℕ) → text ≡ [] → Appends o o text
+appends_nothing None text none = tt
+appends_nothing (Some xs) text none = sym (ap (λ t. xs ++ t) none ∙ append-nil xs)
+
 -- one text, and then another
-appends_both : (a b c : Option (List ℕ)) (x y : List ℕ) → Appends a b x → Appends b c y → Appends a c (x ++ y)
+pub appends_both : (a b c : Option (List ℕ)) (x y : List ℕ) → Appends a b x → Appends b c y → Appends a c (x ++ y)
 appends_both None b c x y h k = tt
 appends_both (Some xs) None c x y h k = absurd h
 appends_both (Some xs) (Some ys) None x y h k = absurd k
