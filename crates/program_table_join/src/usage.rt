@@ -4,7 +4,7 @@ use crate::kind::{Kind, parse_kind};
 
 /// How the program is used.
 pub const USAGE: &str = "\
-usage: table_join [inner|left|semi|anti|--help]
+usage: table_join [inner|left|full|semi|anti|--help]
 
 Reads two tables from standard input and writes their join: rows `key,value`, those of the
 left table first, then a line `--`, then those of the right one. The key is what stands
@@ -14,6 +14,8 @@ byte by byte, and one may stand several times.
   inner   a line `key,left value,right value` for each left row and each right row of its
           key (this is what no argument asks for)
   left    these, and a line `key,left value,` for each left row that has no partner
+  full    these, and a line `key,,right value` for each right row that has no partner, in the
+          order of the keys
   semi    a line `key,value` for each left row that has a partner
   anti    a line `key,value` for each left row that has none
 
