@@ -9,6 +9,8 @@ mod index;
 mod lookup;
 mod output;
 mod run;
+#[cfg(test)]
+mod tests;
 mod usage;
 
 use crate::run::run;
