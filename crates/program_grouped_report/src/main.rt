@@ -11,6 +11,8 @@ mod output;
 mod row;
 mod run;
 mod sums;
+#[cfg(test)]
+mod tests;
 mod usage;
 
 use crate::run::run;

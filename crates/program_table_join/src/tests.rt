@@ -3,6 +3,7 @@
 use crate::kind::Kind;
 use crate::run::run;
 use crate::usage::{Request, parse_request};
+use program_parts::lines::Lines;
 use std::io;
 use std::io::Write;
 use std::test::Fail;
@@ -86,5 +87,23 @@ fn knows_its_arguments(rt: HostRuntime) -> Result<(), Fail> {
     assert!(rt; matches!(parse_request(&help), Some(Request::Help)));
     assert!(rt; matches!(parse_request(&anti), Some(Request::Join(Kind::Anti))));
     assert!(rt; parse_request(&other).is_none());
+    Ok(())
+}
+
+// Each line is given without its end, and the last one may have none.
+#[test]
+fn reads_lines(rt: HostRuntime) -> Result<(), Fail> {
+    let mut lines = Lines::new(rt.alloc(), b"a\r\n\n\xff\r\r\n\x00b\r".as_slice());
+    for (number, want) in [
+        (1, b"a".as_slice()),
+        (2, b""),
+        (3, b"\xff\r"),
+        (4, b"\x00b\r"),
+    ] {
+        assert!(rt; lines.advance()?);
+        assert_eq!(rt; lines.number, number);
+        assert_eq!(rt; lines.line.as_slice(), want);
+    }
+    assert!(rt; !lines.advance()?);
     Ok(())
 }
