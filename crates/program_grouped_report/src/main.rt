@@ -1,34 +1,57 @@
-//! Reads rows `department,amount`, and prints a line a department, with the sum of its amounts, and the total at the
-//! end. A line that is no row is named by its number, with what is wrong with it, and left out; the status is then 1.
+//! Sums the amounts of each department: `usage.rt` has what is read and what is written.
 //!
-//! The stored input has 3000 rows: row i, from 0 on, is of the department that is the square root of i, rounded
-//! down, and its amount is the rest of 7919 i by 10007. After row 999 stands a line with no comma, and after row 1999
-//! one with a negative amount.
+//! Rows are not kept: they come in blocks of a constant number, and each block is sorted, grouped and added to the sums so
+//! far. What is kept in memory is at most twice the departments and one block, the longest line, and the buffers of the
+//! input and the output.
 #![tactic(auto)]
 
-use program_parts::grouped_report::rows::parse_row;
-use program_parts::grouped_report::subtotals::{subtotals, total};
-use std::io;
-use std::io::{BufRead, BufReader};
-use std::process::ExitCode;
+mod entry;
+mod fold;
+mod output;
+mod row;
+mod run;
+mod sums;
+#[cfg(test)]
+mod tests;
+mod usage;
 
-fn main(rt: HostRuntime) -> io::Result<ExitCode> {
-    let mut rows = Vec::new(rt.alloc());
-    let mut status = ExitCode::SUCCESS;
-    let lines = BufReader::new(rt.alloc(), rt.reader())?.lines(rt.alloc());
-    for (number, line) in (1..u64::MAX).zip(lines) {
-        match parse_row(line?.as_str()) {
-            Ok(row) => rows.push(row)?,
-            Err(error) => {
-                println!(rt; "line {number} is left out: {error}")?;
-                status = ExitCode::FAILURE;
-            }
+use crate::run::run;
+use crate::usage::{Request, USAGE, parse_request};
+use std::io::{BufReader, BufWriter};
+use std::process::ExitCode;
+use std::{env, io};
+
+fn main(rt: HostRuntime) -> ExitCode {
+    match answer(&rt) {
+        Ok(status) => status,
+        Err(error) => {
+            let _ = eprintln!(rt; "grouped_report: {error}");
+            ExitCode::FAILURE
         }
     }
-    let total = total(&rows);
-    for subtotal in &subtotals(rt.alloc(), rows)? {
-        println!(rt; "department {}: {}", subtotal.department, subtotal.amount)?;
+}
+
+// Does what the arguments ask for.
+fn answer(rt: &HostRuntime) -> io::Result<ExitCode> {
+    let arguments = env::args(rt)?.skip(1).collect::<Vec<String>>(rt.alloc())?;
+    match parse_request(&arguments) {
+        Some(Request::Help) => {
+            print!(rt; "{USAGE}")?;
+            Ok(ExitCode::SUCCESS)
+        }
+        Some(Request::Report) => {
+            let input = BufReader::new(rt.alloc(), rt.reader())?;
+            let mut out = BufWriter::new(rt.alloc(), io::writer(rt))?;
+            let is_whole = run(rt.alloc(), input, &mut out, &mut rt.stderr())?;
+            Ok(if is_whole {
+                ExitCode::SUCCESS
+            } else {
+                ExitCode::FAILURE
+            })
+        }
+        None => {
+            eprint!(rt; "{USAGE}")?;
+            Ok(ExitCode::from(2))
+        }
     }
-    println!(rt; "total: {total}")?;
-    Ok(status)
 }

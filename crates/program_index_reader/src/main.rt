@@ -1,52 +1,55 @@
-//! Reads a sorted index, a line `key,place` an entry, then a line `--`, then queries, a key a line. Prints for each
-//! query the places of all entries of that key, in the order of the index, or `none`, and the number of queries at the
-//! end. The keys of the index ascend, the queries come in any order. A line that is no entry, or has a lower key than
-//! the entry before it, or is no query, is named by its number, with what is wrong with it, and left out; the status is
-//! then 1.
+//! Looks keys up in a sorted index: `usage.rt` has what is read and what is written.
 //!
-//! The stored input has 3000 entries: entry i, from 0 on, has as its key three times the square root of i, which is
-//! rounded down first, and as its place the rest of 7919 i by 10007. The queries are the keys from 0 up to 199. After
-//! entry 1999 stands an entry with the key 0, and after query 99 one that is negative.
+//! What is kept in memory is the index, the longest line, and the buffers of the input and the output. A query takes time
+//! in proportion to the logarithm of the length of the index, and to what it finds.
 #![tactic(auto)]
 
-use program_parts::index_reader::answer::Answer;
-use program_parts::index_reader::entries::{next_entry, parse_query};
-use program_parts::index_reader::lookup::entries_of;
-use std::io;
-use std::io::{BufRead, BufReader};
-use std::process::ExitCode;
+mod entry;
+mod index;
+mod lookup;
+mod output;
+mod run;
+#[cfg(test)]
+mod tests;
+mod usage;
 
-fn main(rt: HostRuntime) -> io::Result<ExitCode> {
-    let mut status = ExitCode::SUCCESS;
-    let mut index = Vec::new(rt.alloc());
-    let mut lines = (1..u64::MAX).zip(BufReader::new(rt.alloc(), rt.reader())?.lines(rt.alloc()));
-    for (number, line) in lines.by_ref() {
-        let line = line?;
-        if line.as_str() == "--" {
-            break;
-        }
-        match next_entry(&index, line.as_str()) {
-            Ok(entry) => index.push(entry)?,
-            Err(error) => {
-                println!(rt; "line {number} is left out: {error}")?;
-                status = ExitCode::FAILURE;
-            }
+use crate::run::run;
+use crate::usage::{Request, USAGE, parse_request};
+use std::io::{BufReader, BufWriter};
+use std::process::ExitCode;
+use std::{env, io};
+
+fn main(rt: HostRuntime) -> ExitCode {
+    match answer(&rt) {
+        Ok(status) => status,
+        Err(error) => {
+            let _ = eprintln!(rt; "index_reader: {error}");
+            ExitCode::FAILURE
         }
     }
-    let mut queries = 0u64;
-    for (number, line) in lines {
-        match parse_query(line?.as_str()) {
-            Ok(key) => {
-                let entries = entries_of(&index, key).entries;
-                println!(rt; "{}", Answer { key, entries })?;
-                queries = queries.wrapping_add(1);
-            }
-            Err(error) => {
-                println!(rt; "line {number} is left out: {error}")?;
-                status = ExitCode::FAILURE;
-            }
+}
+
+// Does what the arguments ask for.
+fn answer(rt: &HostRuntime) -> io::Result<ExitCode> {
+    let arguments = env::args(rt)?.skip(1).collect::<Vec<String>>(rt.alloc())?;
+    match parse_request(&arguments) {
+        Some(Request::Help) => {
+            print!(rt; "{USAGE}")?;
+            Ok(ExitCode::SUCCESS)
+        }
+        Some(Request::Answer) => {
+            let input = BufReader::new(rt.alloc(), rt.reader())?;
+            let mut out = BufWriter::new(rt.alloc(), io::writer(rt))?;
+            let is_whole = run(rt.alloc(), input, &mut out, &mut rt.stderr())?;
+            Ok(if is_whole {
+                ExitCode::SUCCESS
+            } else {
+                ExitCode::FAILURE
+            })
+        }
+        None => {
+            eprint!(rt; "{USAGE}")?;
+            Ok(ExitCode::from(2))
         }
     }
-    println!(rt; "{queries} queries")?;
-    Ok(status)
 }

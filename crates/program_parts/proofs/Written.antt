@@ -1,8 +1,10 @@
 -- The two parts of a written pair of numbers.
-use Rattle.std.proofs.Common.{◌≡◌, ◌≢◌, ℕ, zero, suc, ◌<◌, ◌^◌, List, [], ◌∷◌, ◌++◌, length, get_or, Option, None, Some, codes, decimal, Bor, MatchOption, arith, append_assoc, ◌∙◌, subst}
+use Rattle.std.proofs.Common.{◌≡◌, ◌≢◌, ℕ, zero, suc, ◌<◌, ◌^◌, List, [], ◌∷◌, ◌++◌, length, get_or, Option, None, Some, codes, decimal, Bor, MatchOption, arith, append_assoc, ◌∙◌, sym, subst, rules}
 use Rattle.std.specs.Char.{digit_value}
 use Rattle.std.specs.Str.Parse.{AllDigits}
-use Rattle.std.proofs.lemmas.Fmt.{decimal_is_IsNumeral}
+use Rattle.std.specs.Str.{IsUtf8}
+use Rattle.std.proofs.lemmas.Fmt.{decimal_is_IsNumeral, IsAscii-decimal}
+use Rattle.std.proofs.lemmas.Str.{IsUtf8-append, IsUtf8-from_ascii}
 use Rattle.std.proofs.lemmas.Str.Pattern.{IsSplitOnceResult, split_after}
 
 -- a number is written with no comma
@@ -24,3 +26,10 @@ module _ (d a : ℕ) (fits : d < 2 ^ 64) (bs : List ℕ) (written : bs ≡ decim
 
   pub parts : (x : Bor (List ℕ) × Bor (List ℕ)) → IsSplitOnceResult 44 bs (Some x) → (x.0.now ≡ decimal d) × (x.1.now ≡ decimal a)
   parts x = cut (Some x)
+
+  -- it is text
+  pub is_text : a < 2 ^ 64 → IsUtf8 bs
+  is_text small =
+      subst IsUtf8 (sym written) (IsUtf8-append (decimal d ++ codes ",") (decimal a)
+      (IsUtf8-append (decimal d) (codes ",") (IsUtf8-from_ascii _ (IsAscii-decimal d fits)) (IsUtf8-from_ascii (codes ",") (search rules)))
+      (IsUtf8-from_ascii _ (IsAscii-decimal a small)))

@@ -1,4 +1,2 @@
+pub mod Lines
 pub mod Pairs
-pub mod grouped_report
-pub mod index_reader
-pub mod table_join

@@ -1,9 +1,10 @@
 -- What a line of two numbers says, and what is wrong with one.
 use Rattle.std.specs.Prelude.{ℕ, ◌<◌, Bool, List, Ok, Err, length, nat_eq}
 use Rattle.std.specs.List.{position_or_len, before_first, after_first}
+use Rattle.std.specs.Str.{IsUtf8}
 use Rattle.std.specs.Str.Parse.{ParsesUnsigned}
 use Rattle.program_parts.specs.declared.pairs.PairError.{PairError}
-use Rattle.program_parts.specs.declared.pairs.PairError.TheVariants.{NoComma, First, Second}
+use Rattle.program_parts.specs.declared.pairs.PairError.TheVariants.{NoText, NoComma, First, Second}
 
 -- the text is the number n, of so many bits; and it is no number of so many
 abbrev pub IsNumber : ℕ → List ℕ → ℕ → Type 0
@@ -34,6 +35,7 @@ pub record Says (line : List ℕ) (first second : ℕ) : Type 0 where
 
 -- this is wrong with the line, where what the cases before it look at is right
 abbrev pub IsWrong : List ℕ → PairError → Type 0
+IsWrong line NoText = IsUtf8 line → ⊥
 IsWrong line NoComma = HasComma line → ⊥
 IsWrong line First = HasComma line × IsNoNumber 32 (first_text line)
 IsWrong line Second = (n : ℕ) × HasComma line × IsNumber 32 (first_text line) n × IsNoNumber 64 (second_text line)

@@ -1,8 +1,7 @@
-//! What the programs over standard input do with their lines: each has a module here, and a `main` of its own that reads and
-//! prints.
+//! What the programs over standard input share: the blocks of a stream, its lines and complaints about them, and pairs of numbers in
+//! lines.
 #![tactic(auto)]
 
-pub mod grouped_report;
-pub mod index_reader;
+pub mod blocks;
+pub mod lines;
 pub mod pairs;
-pub mod table_join;

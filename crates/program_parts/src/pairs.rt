@@ -5,6 +5,7 @@ ghost use Rattle.program_parts.specs.Pairs.{Says, IsWrong};
 /// What is wrong with a line.
 #[derive(Clone, Copy)]
 pub enum PairError {
+    NoText,
     NoComma,
     First,
     Second,
@@ -12,13 +13,16 @@ pub enum PairError {
 
 /// The two numbers that a line says, one of 32 bits before its first comma and one of 64 bits after it, or what is wrong with
 /// it. Each pair that is written as `first,second` is read.
-pub fn parse_pair(line: &str) -> Result<(u32, u64), PairError>
+pub fn parse_pair(line: &[u8]) -> Result<(u32, u64), PairError>
     ensures says { IfOk result (λ pair. Says line.now pair.0 pair.1) }
     ensures wrong { IfErr result (IsWrong line.now) }
     ensures written { (a b : ℕ) → a < 2 ^ 32 → b < 2 ^ 64 → line.now ≡ decimal a ++ codes "," ++ decimal b
         → result ≡ Ok (a, b) }
 {
-    let Some((first, second)) = line.split_once(',') else {
+    let Ok(text) = str::from_utf8(line) else {
+        return Err(PairError::NoText);
+    };
+    let Some((first, second)) = text.split_once(',') else {
         return Err(PairError::NoComma);
     };
     let Ok(first) = first.parse::<u32>() else {

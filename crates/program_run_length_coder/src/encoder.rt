@@ -3,8 +3,8 @@ ghost use Rattle.std.specs.Prelude.{◌≡◌, ◌<◌, ◌++◌, [], length, re
 ghost use Rattle.std.specs.Io.KnownBytes.{Appends};
 ghost use Rattle.program_run_length_coder.specs.Coding.{Codes, coded, open_bytes};
 
-use crate::blocks::{new_block, read_block};
 use crate::runs::Run;
+use program_parts::blocks::{new_block, read_block};
 use slice_group_by::LinearNumberGroup;
 use slice_group_by::laws::{equal_pieces_are_copies, one_split, sees_pieces};
 use std::alloc::Global;

@@ -5,7 +5,6 @@
 //! of the middle: `1` in column x of row y where (x - 48)^2 + (y - 32)^2 <= 900, and else `0`.
 #![tactic(auto)]
 
-mod blocks;
 mod decoder;
 mod encoder;
 mod line;

@@ -2,9 +2,9 @@
 ghost use Rattle.std.specs.Prelude.{ℕ, ◌++◌, List, IfOk, IfSome, OnOk};
 ghost use Rattle.program_token_counter.specs.Tallies.{IsTally};
 
-use crate::blocks::{new_block, read_block};
 use crate::class::Class;
 use crate::tally::Tally;
+use program_parts::blocks::{new_block, read_block};
 use slice_group_by::LinearGroupByKey;
 use slice_group_by::laws::{one_split, sees_pieces};
 use std::alloc::Global;

@@ -5,7 +5,6 @@
 //! The stored input is Rattle source: a file of this repository as it once stood.
 #![tactic(auto)]
 
-mod blocks;
 mod characters;
 mod class;
 mod counter;

@@ -1,0 +1,2 @@
+pub mod Departments
+pub mod Report

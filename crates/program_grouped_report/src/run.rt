@@ -1,0 +1,48 @@
+//! Reads rows, and writes the sums of their amounts.
+
+use crate::output::write_report;
+use crate::row::parse_row;
+use crate::sums::Sums;
+use program_parts::lines::{Lines, complain};
+use std::alloc::Global;
+use std::io;
+use std::io::{BufRead, Write};
+
+/// Reads rows, and writes a line for each department, in ascending order, with the sum of its amounts, and the total at
+/// the end. What is left out goes to the complaints, and `false` says that there is some.
+pub fn run<R: BufRead + Drop, W: Write, E: Write>(
+    alloc: Global,
+    input: R,
+    out: &mut W,
+    complaints: &mut E,
+) -> io::Result<bool> {
+    let mut lines = Lines::new(alloc, input);
+    let mut sums = Sums::new(alloc);
+    let is_whole = read_rows(alloc, &mut lines, &mut sums, complaints)?;
+    write_report(&sums.report(alloc)?, out)?;
+    out.flush()?;
+    Ok(is_whole)
+}
+
+// Adds each row up to the end of the input. Whether each line was one.
+fn read_rows<R: BufRead, E: Write>(
+    alloc: Global,
+    lines: &mut Lines<R>,
+    sums: &mut Sums,
+    complaints: &mut E,
+) -> io::Result<bool> {
+    let mut is_whole = true;
+    for _ in 0..u64::MAX {
+        if !lines.advance()? {
+            return Ok(is_whole);
+        }
+        match parse_row(&lines.line) {
+            Ok(row) => sums.add(alloc, row)?,
+            Err(problem) => {
+                complain(complaints, lines.number, problem)?;
+                is_whole = false;
+            }
+        }
+    }
+    Err(io::Error::other("there are too many lines"))
+}

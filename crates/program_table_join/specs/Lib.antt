@@ -1,0 +1,4 @@
+pub mod Input
+pub mod Joins
+pub mod Kinds
+pub mod Rows
