@@ -1,4 +1,3 @@
-use Rattle.std.proofs.Common.{rules}
 use Rattle.program_grouped_report.specs.Report.{sum_line}
 use Rattle.program_parts.proofs.Appended.{appends_more}
 use Rattle.program_grouped_report.proofs.output.write_report.Goals as goal

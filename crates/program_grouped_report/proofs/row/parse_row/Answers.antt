@@ -1,5 +1,3 @@
-use Rattle.std.proofs.Common.{arith}
-use Rattle.std.proofs.lemmas.Grind.{common_steps}
 use Rattle.program_grouped_report.proofs.row.parse_row.Goals as goal
 
 pub returns-in-Ok-clause-says : goal.returns-in-Ok-clause-says
