@@ -1,3 +1,2 @@
 pub mod GroupLens
-pub mod JoinedKeys
 pub mod KeptTotals

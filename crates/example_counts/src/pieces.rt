@@ -6,7 +6,8 @@ ghost use Rattle.std.specs.declared.cmp.Ordering.TheVariants.{Less};
 ghost use Rattle.std.specs.Ordering.{flip_args, nat_cmp};
 ghost use Rattle.slice_group_by.specs.Search.{NeverDescends};
 ghost use Rattle.slice_group_by.specs.Split.{split};
-ghost use Rattle.example_counts.specs.Keys.{key, same_key, common_keys};
+ghost use Rattle.slice_group_by.specs.Keys.{common_keys};
+ghost use Rattle.example_counts.specs.Keys.{key, same_key};
 
 use crate::joins::{Entry, count_common_keys};
 use slice_group_by::laws::{

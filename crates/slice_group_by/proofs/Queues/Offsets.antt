@@ -51,7 +51,7 @@ module _ {Q I U : Type 0} (place : Q → Place U) (left : Q → List U) (units :
   each_stands e q t (x ∷ xs) y = (
     y.1.1.stands,
     subst (λ (input : List U). AllByRecursion (stands_in input) xs)
-    (same_input e _ _ _ (takes e q.groups x.1 y.0.groups y.1.0).moves) (each_stands e y.0 t xs y.2),
+        (same_input e _ _ _ (takes e q.groups x.1 y.0.groups y.1.0).moves) (each_stands e y.0 t xs y.2),
   )
 
   -- from the front an offset is the sum of the lengths before it

@@ -35,7 +35,8 @@ pub mod sorted;
 pub mod texts;
 
 pub use crate::join::{
-    joins_may_go_on, merges_agree, pairs_ascend, pairs_match, partners_are_unique, sees_pairs,
+    joins_may_go_on, merges_agree, pairs_ascend, pairs_count, pairs_match, partners_are_unique,
+    sees_pairs,
 };
 pub use crate::offsets::groups_stand;
 pub use counts::{

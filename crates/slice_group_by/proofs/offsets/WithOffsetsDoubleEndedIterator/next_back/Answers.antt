@@ -10,7 +10,7 @@ returns-clause-steps g c =
     let takes = g.met.Q.Offsets.takes Back _ _ _ gives in (
       gives,
       begins _ _ _ Back _ _ _ _ takes offset.stands (omega (arith, offset))
-      (omega (arith, offset, c.remainder_len.ensures, c.group_len.ensures, fewer _ _ _ Back _ _ _ takes)),
+          (omega (arith, offset, c.remainder_len.ensures, c.group_len.ensures, fewer _ _ _ Back _ _ _ takes)),
     )
 
 pub returns-clause-goes : goal.returns-clause-goes
