@@ -18,9 +18,9 @@ fn seams(rt: HostRuntime) {
 fn halves(rt: HostRuntime) -> Result<(), Fail> {
     let one: [u32; 3000] = [7; 3000];
     let lens = lens_by_halves(rt.alloc(), &one)?;
-    assert!(rt; lens.as_slice() == [3000]);
+    assert!(rt; lens.as_slice() == [3000].as_slice());
     let three: [u32; 3000] = array::from_fn(|place| if place < 1500 { 1 } else { 2 });
     let lens = lens_by_halves(rt.alloc(), &three)?;
-    assert!(rt; lens.as_slice() == [1500, 1500]);
+    assert!(rt; lens.as_slice() == [1500, 1500].as_slice());
     Ok(())
 }
