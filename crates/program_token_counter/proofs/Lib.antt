@@ -1,3 +1,4 @@
 pub mod TokenCounts
 pub mod TokensOfBlocks
 pub mod BytesOfCharacters
+pub mod ClassTable

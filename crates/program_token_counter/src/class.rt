@@ -9,6 +9,20 @@ pub enum Class {
     Other,
 }
 
+use Class::{Digit as D, Letter as L, Other as O, Space as S};
+
+/// The class of each byte, in rows of 32: reading it costs less than asking by ranges.
+static CLASSES: [Class; 256] = [
+    O, O, O, O, O, O, O, O, O, S, S, O, S, S, O, O, O, O, O, O, O, O, O, O, O, O, O, O, O, O, O, O,
+    S, O, O, O, O, O, O, O, O, O, O, O, O, O, O, O, D, D, D, D, D, D, D, D, D, D, O, O, O, O, O, O,
+    O, L, L, L, L, L, L, L, L, L, L, L, L, L, L, L, L, L, L, L, L, L, L, L, L, L, L, O, O, O, O, O,
+    O, L, L, L, L, L, L, L, L, L, L, L, L, L, L, L, L, L, L, L, L, L, L, L, L, L, L, O, O, O, O, O,
+    O, O, O, O, O, O, O, O, O, O, O, O, O, O, O, O, O, O, O, O, O, O, O, O, O, O, O, O, O, O, O, O,
+    O, O, O, O, O, O, O, O, O, O, O, O, O, O, O, O, O, O, O, O, O, O, O, O, O, O, O, O, O, O, O, O,
+    O, O, O, O, O, O, O, O, O, O, O, O, O, O, O, O, O, O, O, O, O, O, O, O, O, O, O, O, O, O, O, O,
+    O, O, O, O, O, O, O, O, O, O, O, O, O, O, O, O, O, O, O, O, O, O, O, O, O, O, O, O, O, O, O, O,
+];
+
 impl Class {
     ghost use Rattle.std.specs.Prelude.{◌≡◌};
     ghost use Rattle.program_token_counter.specs.Classes.{class_of};
@@ -17,14 +31,6 @@ impl Class {
     pub fn of(byte: u8) -> Class
         ensures { result ≡ class_of byte }
     {
-        if byte.is_ascii_alphabetic() {
-            Class::Letter
-        } else if byte.is_ascii_digit() {
-            Class::Digit
-        } else if byte.is_ascii_whitespace() {
-            Class::Space
-        } else {
-            Class::Other
-        }
+        CLASSES[byte as usize]
     }
 }
