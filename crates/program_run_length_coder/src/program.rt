@@ -72,7 +72,8 @@ pub fn run<R: BufRead, W: Write, E: Write>(
 
 /// Encodes the input, and sees that all of it is written.
 fn encode_all<R: BufRead, W: Write>(alloc: Global, input: &mut R, out: &mut W) -> io::Result<bool>
-    ensures { OnOk result (IfSome (R.remaining input.old)
+    ensures done { IfOk result IsTrue }
+    ensures bytes { OnOk result (IfSome (R.remaining input.old)
         (λ bytes. Appends (W.contents out.old) (W.contents out.new) (coded bytes))) }
 {
     encode(alloc, input, out)?;
@@ -98,7 +99,8 @@ fn decode_all<R: BufRead, W: Write, E: Write>(
 
 /// Writes a text, and sees that all of it is written.
 fn write_all<W: Write>(out: &mut W, text: &str) -> io::Result<bool>
-    ensures { OnOk result (Appends (W.contents out.old) (W.contents out.new) text.now) }
+    ensures done { IfOk result IsTrue }
+    ensures bytes { OnOk result (Appends (W.contents out.old) (W.contents out.new) text.now) }
 {
     out.write_all(text.as_bytes())?;
     out.flush()?;
