@@ -16,13 +16,13 @@ EndsWith text place character =
     record { scalar : IsScalar character; boundary : IsCharBoundary text place; is : text ≡ take place text ++ encode_utf8 character }
 
 -- the text ends with a character
-record Ends (text : List ℕ) : Type 0 where
-  before : List ℕ
-  character : ℕ
-  scalar : IsScalar character
-  is : text ≡ before ++ encode_utf8 character
+pub record Ends (text : List ℕ) : Type 0 where
+  pub before : List ℕ
+  pub character : ℕ
+  pub scalar : IsScalar character
+  pub is : text ≡ before ++ encode_utf8 character
 
-both : (a b : Bool) → (a && b) ≡ true → (a ≡ true) × (b ≡ true)
+pub both : (a b : Bool) → (a && b) ≡ true → (a ≡ true) × (b ≡ true)
 both true b e = (refl, e)
 both false b e = absurd (cc e)
 
@@ -39,7 +39,7 @@ ends_all c (d ∷ ds) s =
       is = ap (λ l. encode_utf8 c ++ l) e.is ∙ sym (append_assoc (encode_utf8 c) e.before (encode_utf8 e.character));
     }
 
-ends : (text : List ℕ) → IsUtf8 text → 0 < length text → Ends text
+pub ends : (text : List ℕ) → IsUtf8 text → 0 < length text → Ends text
 ends text ([], e) l = absurd (omega (arith, ap length e.1))
 ends text (c ∷ cs, e) l = subst Ends e.1 (ends_all c cs e.0)
 

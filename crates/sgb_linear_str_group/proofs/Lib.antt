@@ -1,3 +1,4 @@
+pub mod AsciiCopies
 pub mod LastCharacter
 pub mod Places
 pub mod Scanned

@@ -1,9 +1,11 @@
 -- A scan of a text's characters from an end, question by question.
-use Rattle.std.proofs.Common.{◌≡◌, ℕ, ◌+◌, ◌<◌, true, false, List, [], ◌∷◌, ◌++◌, length, take, drop, refl, sym, ap, ◌∙◌, subst, arith, append_assoc, length-append}
+use Rattle.std.proofs.Common.{◌≡◌, ℕ, ◌+◌, ◌<◌, true, false, List, [], ◌∷◌, ◌++◌, length}
+use Rattle.std.proofs.Common.{take, drop, refl, sym, ap, ◌∙◌, subst, arith, append_assoc, length-append}
 use Rattle.sgb_search.specs.Calls.{IsCallableBy}
 use Rattle.std.specs.Str.{chars, IsUtf8}
 use Rattle.std.specs.Char.{encode_utf8}
-use Rattle.std.proofs.lemmas.Str.{chars-nil, chars-append, chars_past_char, IsUtf8-append, IsUtf8-take, IsUtf8-drop, IsCharBoundary-at_seam, IsCharBoundary-from_take}
+use Rattle.std.proofs.lemmas.Str.{chars-nil, chars-append, chars_past_char, IsUtf8-append}
+use Rattle.std.proofs.lemmas.Str.{IsUtf8-take, IsUtf8-drop, IsCharBoundary-at_seam, IsCharBoundary-from_take}
 use Rattle.std.proofs.Math.Seq.{take-append_seam, drop-append_seam}
 use Rattle.std.proofs.lemmas.List.{append-nil}
 use Rattle.sgb_search.specs.declared.end.End.{End}
@@ -24,15 +26,15 @@ module _ {X : Type 0} where
   as_they_stand Front outer beyond = (outer, beyond)
   as_they_stand Back outer beyond = (beyond, outer)
 
-  put_at_assoc : (e : End) (xs ys zs : List X) → put_at e xs (put_at e ys zs) ≡ put_at e (put_at e xs ys) zs
+  pub put_at_assoc : (e : End) (xs ys zs : List X) → put_at e xs (put_at e ys zs) ≡ put_at e (put_at e xs ys) zs
   put_at_assoc Front xs ys zs = sym (append_assoc xs ys zs)
   put_at_assoc Back xs ys zs = append_assoc zs ys xs
 
-  put_at_none : (e : End) (xs : List X) → put_at e [] xs ≡ xs
+  pub put_at_none : (e : End) (xs : List X) → put_at e [] xs ≡ xs
   put_at_none Front xs = refl
   put_at_none Back xs = append-nil xs
 
-  length-put_at : (e : End) (xs ys : List X) → length (put_at e xs ys) ≡ length xs + length ys
+  pub length-put_at : (e : End) (xs ys : List X) → length (put_at e xs ys) ≡ length xs + length ys
   length-put_at Front xs ys = length-append xs ys
   length-put_at Back xs ys = omega (arith, length-append ys xs)
 
@@ -60,7 +62,7 @@ module _ {X : Type 0} where
             (pair_between xs rest seen b a (is ∙ append_assoc rest (b ∷ []) (a ∷ seen)))
 
 -- the bytes of parts at the end are UTF-8, and spell the characters of both
-utf8-put_at : (e : End) (xs ys : List ℕ) → IsUtf8 xs → IsUtf8 ys → IsUtf8 (put_at e xs ys)
+pub utf8-put_at : (e : End) (xs ys : List ℕ) → IsUtf8 xs → IsUtf8 ys → IsUtf8 (put_at e xs ys)
 utf8-put_at Front xs ys u v = IsUtf8-append xs ys u v
 utf8-put_at Back xs ys u v = IsUtf8-append ys xs v u
 
@@ -69,7 +71,7 @@ chars-put_at Front xs ys u v = chars-append xs ys u
 chars-put_at Back xs ys u v = chars-append ys xs v
 
 -- and a part of a text is UTF-8 where the rest is
-utf8_part : (e : End) (text part rest : List ℕ) → IsUtf8 text → text ≡ put_at e part rest → IsUtf8 rest → IsUtf8 part
+pub utf8_part : (e : End) (text part rest : List ℕ) → IsUtf8 text → text ≡ put_at e part rest → IsUtf8 rest → IsUtf8 part
 utf8_part Front text part rest u cut v =
     subst IsUtf8 (ap (take (length part)) cut ∙ take-append_seam part rest)
     (IsUtf8-take text (length part) u (IsCharBoundary-at_seam text part rest cut v))

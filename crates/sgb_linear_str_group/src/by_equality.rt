@@ -12,7 +12,8 @@ use crate::groups::LinearStrGroups;
 use crate::groups_mut::LinearStrGroupsMut;
 use sgb_search::judge::EqualityJudge;
 
-/// An iterator over the groups of equal characters of a text, by `==` of neighbours.
+/// An iterator over the groups of equal characters of a text, by `==` of neighbours. Those of ASCII are found by their bytes, up to
+/// sixteen at a time; each still counts as one question.
 ///
 /// ```
 /// let mut groups = LinearStrGroup::new("aaaabbbbb饰饰cccc");

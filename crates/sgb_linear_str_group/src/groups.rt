@@ -8,9 +8,8 @@ ghost use Rattle.std.specs.Iterator.SizeHint.{IsWithinCount};
 ghost use Rattle.sgb_search.specs.declared.end.End.TheVariants.{Front, Back};
 ghost use Rattle.sgb_linear_str_group.specs.Texts.{text_between, text_groups_of, text_place_of, text_groups_to_come, in_characters};
 
-use crate::scan::split_group;
+use crate::text_judge::TextJudge;
 use sgb_search::end::End;
-use sgb_search::judge::Judge;
 use std::iter::FusedIterator;
 
 /// An iterator over the groups of a text, from both ends, that asks its judge about neighbouring characters.
@@ -117,7 +116,7 @@ impl<'a, J> LinearStrGroups<'a, J> {
     }
 }
 
-impl<'a, J: Judge<char> + Drop> Iterator for LinearStrGroups<'a, J> {
+impl<'a, J: TextJudge + Drop> Iterator for LinearStrGroups<'a, J> {
     type Item = &'a str;
 
     ghost use Rattle.sgb_linear_str_group.specs.Texts.{GivesText};
@@ -146,7 +145,7 @@ impl<'a, J: Judge<char> + Drop> Iterator for LinearStrGroups<'a, J> {
     }
 }
 
-impl<'a, J: Judge<char> + Drop> DoubleEndedIterator for LinearStrGroups<'a, J> {
+impl<'a, J: TextJudge + Drop> DoubleEndedIterator for LinearStrGroups<'a, J> {
     ghost use Rattle.sgb_linear_str_group.specs.Texts.{GivesText};
 
     ghost can_next_back = { λ s. IsCallableBy AreNeighbours J.Judge (in_characters (text_groups_of s)) };
@@ -161,9 +160,9 @@ impl<'a, J: Judge<char> + Drop> DoubleEndedIterator for LinearStrGroups<'a, J> {
     }
 }
 
-impl<'a, J: Judge<char> + Drop> FusedIterator for LinearStrGroups<'a, J> {}
+impl<'a, J: TextJudge + Drop> FusedIterator for LinearStrGroups<'a, J> {}
 
-impl<'a, J: Judge<char> + Drop> LinearStrGroups<'a, J> {
+impl<'a, J: TextJudge + Drop> LinearStrGroups<'a, J> {
     ghost use Rattle.sgb_linear_str_group.specs.Texts.{GivesText};
 
     /// The last group of the remainder, or `None` where nothing remains: what `next_back` gives. The iterator is given up.
@@ -187,7 +186,7 @@ impl<'a, J: Judge<char> + Drop> LinearStrGroups<'a, J> {
         ensures callable { IsCallableBy AreNeighbours J.Judge (in_characters (text_groups_of self.new)) }
     {
         let rest = part(end, self.string, self.low, self.high);
-        let (group, left) = split_group(end, rest, &mut self.judge)?;
+        let (group, left) = self.judge.split_group(end, rest)?;
         match end {
             End::Front => self.low += group.len(),
             End::Back => self.high = self.low + left.len(),

@@ -10,10 +10,9 @@ ghost use Rattle.sgb_loans.specs.Loans.{NothingOut};
 ghost use Rattle.sgb_linear_str_group.specs.Texts.{IsTextAt, in_characters};
 ghost use Rattle.sgb_linear_str_group.specs.TextsMut.{TextGroupsMut, text_groups_mut_to_come};
 
-use crate::scan::split_group;
+use crate::text_judge::TextJudge;
 use sgb_loans::loans::{Ended, Loans};
 use sgb_search::end::End;
-use sgb_search::judge::Judge;
 use std::iter::FusedIterator;
 use std::marker::Model;
 use std::mem;
@@ -140,7 +139,7 @@ impl<'a, J: Drop> LinearStrGroupsMut<'a, J> {
     }
 }
 
-impl<'a, J: Judge<char> + Drop> Iterator for LinearStrGroupsMut<'a, J> {
+impl<'a, J: TextJudge + Drop> Iterator for LinearStrGroupsMut<'a, J> {
     type Item = &'a mut [u8];
 
     ghost use Rattle.sgb_linear_str_group.specs.TextsMut.{text_groups_of_mut, GivesTextMut};
@@ -169,7 +168,7 @@ impl<'a, J: Judge<char> + Drop> Iterator for LinearStrGroupsMut<'a, J> {
     }
 }
 
-impl<'a, J: Judge<char> + Drop> DoubleEndedIterator for LinearStrGroupsMut<'a, J> {
+impl<'a, J: TextJudge + Drop> DoubleEndedIterator for LinearStrGroupsMut<'a, J> {
     ghost use Rattle.sgb_linear_str_group.specs.TextsMut.{text_groups_of_mut, GivesTextMut};
 
     ghost can_next_back = { λ s. IsCallableBy AreNeighbours J.Judge (in_characters (text_groups_of_mut s)) };
@@ -184,9 +183,9 @@ impl<'a, J: Judge<char> + Drop> DoubleEndedIterator for LinearStrGroupsMut<'a, J
     }
 }
 
-impl<'a, J: Judge<char> + Drop> FusedIterator for LinearStrGroupsMut<'a, J> {}
+impl<'a, J: TextJudge + Drop> FusedIterator for LinearStrGroupsMut<'a, J> {}
 
-impl<'a, J: Judge<char> + Drop> LinearStrGroupsMut<'a, J> {
+impl<'a, J: TextJudge + Drop> LinearStrGroupsMut<'a, J> {
     ghost use Rattle.sgb_linear_str_group.specs.TextsMut.{text_groups_of_mut, GivesTextMut};
 
     /// The bytes of the last group of the remainder, or `None` where nothing remains: what `next_back` gives, by its
@@ -214,7 +213,7 @@ impl<'a, J: Judge<char> + Drop> LinearStrGroupsMut<'a, J> {
             return None;
         }
         let all = mem::take(&mut self.bytes);
-        let (group, _) = split_group(end, text_of(all), &mut self.judge).unwrap();
+        let (group, _) = self.judge.split_group(end, text_of(all)).unwrap();
         let len = group.len();
         let (group, rest) = self.loans.cut(end, all, len);
         self.bytes = rest;

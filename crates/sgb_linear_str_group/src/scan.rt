@@ -1,4 +1,4 @@
-//! The scan that finds a group of characters.
+//! The scan that finds a group of characters, over any judge.
 ghost use Rattle.std.specs.Prelude.{◌≡◌, ◌<◌, [], ◌++◌, length, take, MatchOption};
 ghost use Rattle.sgb_search.specs.Calls.{IsCallableBy};
 ghost use Rattle.std.specs.Str.{chars, IsUtf8, IsCharBoundary};
@@ -11,9 +11,9 @@ use sgb_search::end::End;
 use sgb_search::judge::Judge;
 use std::str::Chars;
 
-/// The group at the end of a text and the rest of the text, or `None` where the text is empty.
+/// The group at the end of a text and the rest of the text, or `None` where the text is empty: one question after another.
 #[inline(always)]
-pub(crate) fn split_group<'a, J: Judge<char>>(
+pub(crate) fn split_by_characters<'a, J: Judge<char>>(
     end: &End,
     text: &'a str,
     judge: &mut J,

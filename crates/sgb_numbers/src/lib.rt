@@ -4,5 +4,5 @@
 pub mod lanes;
 pub mod laws;
 pub mod number_judge;
-mod scans;
+pub mod scans;
 mod signed;

@@ -12,7 +12,7 @@ const NEAR: usize = 9;
 
 /// How many elements from the place `low` on are equal to the one there, before the place `high`.
 #[inline]
-pub(crate) fn first_like<T: Lanes>(slice: &[T], low: usize, high: usize) -> usize
+pub fn first_like<T: Lanes>(slice: &[T], low: usize, high: usize) -> usize
     requires nonempty { low < high }
     requires inside { high ≤ length slice.now }
     ensures { IsFirstLen T.eq slice.now low high result }
@@ -69,7 +69,7 @@ fn like_by_vectors<T: Lanes>(number: &T, slice: &[T], low: usize, high: usize) -
 
 /// How many elements up to the last before the place `high` are equal to that one, from the place `low` on.
 #[inline]
-pub(crate) fn last_like<T: Lanes>(slice: &[T], low: usize, high: usize) -> usize
+pub fn last_like<T: Lanes>(slice: &[T], low: usize, high: usize) -> usize
     requires nonempty { low < high }
     requires inside { high ≤ length slice.now }
     ensures { IsLastLen T.eq slice.now low high result }

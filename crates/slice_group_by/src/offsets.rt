@@ -13,6 +13,7 @@ use crate::laws::queue::GroupQueue;
 use sgb_groups::group_end::GroupEnd;
 use sgb_groups::groups::SliceGroups;
 use sgb_linear_str_group::groups::LinearStrGroups;
+use sgb_linear_str_group::text_judge::TextJudge;
 use sgb_search::judge::Judge;
 use std::iter::FusedIterator;
 
@@ -151,7 +152,7 @@ impl<'a, T, J: Judge<T> + Drop, C: GroupEnd> Offsets for SliceGroups<'a, T, J, C
     ghost takes = { λ e q group t h. record { nonempty = h.call.nonempty; part = h.call.cut; moves = h.place } };
 }
 
-impl<'a, J: Judge<char> + Drop> Offsets for LinearStrGroups<'a, J> {
+impl<'a, J: TextJudge + Drop> Offsets for LinearStrGroups<'a, J> {
     type Unit = u8;
 
     ghost use Rattle.sgb_linear_str_group.specs.Texts.{text_groups_of, text_place_of};

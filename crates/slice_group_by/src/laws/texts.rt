@@ -2,9 +2,9 @@
 use crate::laws::queue::GroupQueue;
 use sgb_linear_str_group::groups::LinearStrGroups;
 use sgb_linear_str_group::groups_mut::LinearStrGroupsMut;
-use sgb_search::judge::Judge;
+use sgb_linear_str_group::text_judge::TextJudge;
 
-impl<'a, J: Judge<char> + Drop> GroupQueue for LinearStrGroups<'a, J> {
+impl<'a, J: TextJudge + Drop> GroupQueue for LinearStrGroups<'a, J> {
     type Item = &'a str;
 
     ghost use Rattle.std.specs.Prelude.{ℕ, length, true};
@@ -64,7 +64,7 @@ impl<'a, J: Judge<char> + Drop> GroupQueue for LinearStrGroups<'a, J> {
 }
 
 // What holds of the groups for reading holds of what these show.
-impl<'a, J: Judge<char> + Drop> GroupQueue for LinearStrGroupsMut<'a, J> {
+impl<'a, J: TextJudge + Drop> GroupQueue for LinearStrGroupsMut<'a, J> {
     type Item = &'a mut [u8];
 
     ghost use Rattle.std.specs.Prelude.{ℕ, length, true};

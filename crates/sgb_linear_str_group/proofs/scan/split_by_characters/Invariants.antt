@@ -1,7 +1,7 @@
 use Rattle.std.proofs.Common.{◌≡◌, length}
 use Rattle.std.specs.Str.Iter.{chars_rest}
 use Rattle.sgb_linear_str_group.proofs.Scanned.{Scanned}
-use Rattle.sgb_linear_str_group.proofs.scan.split_group.Given as goal
+use Rattle.sgb_linear_str_group.proofs.scan.split_by_characters.Given as goal
 
 abbrev pub invariant-loop-beyond : goal.invariant-loop-beyond
 invariant-loop-beyond g l =

@@ -4,9 +4,9 @@ use Rattle.sgb_linear_str_group.specs.Texts.{IsTextAt}
 use Rattle.std.proofs.lemmas.Str.{IsCharBoundary-at_seam}
 use Rattle.sgb_linear_str_group.proofs.Scanned.{as_they_stand, one_scanned, may_ask, one_more, shorter, refused, found_all}
 use Rattle.sgb_linear_str_group.proofs.Cuts.{seam_boundary, front_is, back_is}
-use Rattle.sgb_linear_str_group.proofs.scan.split_group.Goals as goal
-use Rattle.sgb_linear_str_group.proofs.scan.split_group.Goals.{in-Some+then-not-together, in_default}
-use Rattle.sgb_linear_str_group.proofs.scan.split_group.Goals.{in-Front, in-Back, in-Front-end, in-Back-end}
+use Rattle.sgb_linear_str_group.proofs.scan.split_by_characters.Goals as goal
+use Rattle.sgb_linear_str_group.proofs.scan.split_by_characters.Goals.{in-Some+then-not-together, in_default}
+use Rattle.sgb_linear_str_group.proofs.scan.split_by_characters.Goals.{in-Front, in-Back, in-Front-end, in-Back-end}
 
 pub loop-beyond-init : goal.loop-beyond-init
 loop-beyond-init g c =
