@@ -1,2 +1,3 @@
 pub mod Departments
 pub mod Report
+pub mod Runs

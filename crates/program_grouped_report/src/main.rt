@@ -1,4 +1,4 @@
-//! Sums the amounts of each department: `usage.rt` has what is read and what is written.
+//! Sums the amounts of each department: `program.rt` has what is read and what is written.
 //!
 //! Rows are not kept: they come in blocks of a constant number, and each block is sorted, grouped and added to the sums so
 //! far. What is kept in memory is at most twice the departments and one block, the longest line, and the buffers of the
@@ -8,50 +8,22 @@
 mod entry;
 mod fold;
 mod output;
+mod program;
 mod row;
 mod run;
 mod sums;
 #[cfg(test)]
 mod tests;
-mod usage;
 
-use crate::run::run;
-use crate::usage::{Request, USAGE, parse_request};
+use crate::program::run;
 use std::io::{BufReader, BufWriter};
 use std::process::ExitCode;
 use std::{env, io};
 
-fn main(rt: HostRuntime) -> ExitCode {
-    match answer(&rt) {
-        Ok(status) => status,
-        Err(error) => {
-            let _ = eprintln!(rt; "grouped_report: {error}");
-            ExitCode::FAILURE
-        }
-    }
-}
-
-// Does what the arguments ask for.
-fn answer(rt: &HostRuntime) -> io::Result<ExitCode> {
-    let arguments = env::args(rt)?.skip(1).collect::<Vec<String>>(rt.alloc())?;
-    match parse_request(&arguments) {
-        Some(Request::Help) => {
-            print!(rt; "{USAGE}")?;
-            Ok(ExitCode::SUCCESS)
-        }
-        Some(Request::Report) => {
-            let input = BufReader::new(rt.alloc(), rt.reader())?;
-            let mut out = BufWriter::new(rt.alloc(), io::writer(rt))?;
-            let is_whole = run(rt.alloc(), input, &mut out, &mut rt.stderr())?;
-            Ok(if is_whole {
-                ExitCode::SUCCESS
-            } else {
-                ExitCode::FAILURE
-            })
-        }
-        None => {
-            eprint!(rt; "{USAGE}")?;
-            Ok(ExitCode::from(2))
-        }
-    }
+fn main(rt: HostRuntime) -> io::Result<ExitCode> {
+    let words: Vec<String> = env::args(&rt)?.skip(1).collect(rt.alloc())?;
+    let input = BufReader::new(rt.alloc(), rt.reader())?;
+    let mut out = BufWriter::new(rt.alloc(), io::writer(&rt))?;
+    let status = run(rt.alloc(), &words, input, &mut out, &mut rt.stderr());
+    Ok(ExitCode::from(status))
 }

@@ -1,4 +1,8 @@
 //! Reads rows, and writes the sums of their amounts.
+ghost use Rattle.std.specs.Prelude.{List, ◌++◌, IfOk, IfSome};
+ghost use Rattle.program_grouped_report.specs.Departments.{SaysTheSame};
+ghost use Rattle.program_grouped_report.specs.Runs.{AreRows, Reports};
+ghost use Rattle.program_grouped_report.specs.declared.entry.Entry.{Entry};
 
 use crate::output::write_report;
 use crate::row::parse_row;
@@ -10,12 +14,15 @@ use std::io::{BufRead, Write};
 
 /// Reads rows, and writes a line for each department, in ascending order, with the sum of its amounts, and the total at
 /// the end. What is left out goes to the complaints, and `false` says that there is some.
-pub fn run<R: BufRead + Drop, W: Write, E: Write>(
+pub fn report_rows<R: BufRead + Drop, W: Write, E: Write>(
     alloc: Global,
     input: R,
     out: &mut W,
     complaints: &mut E,
-) -> io::Result<bool> {
+) -> io::Result<bool>
+    ensures { IfOk result (λ is_whole. IfSome (R.remaining input)
+        (λ bytes. Reports bytes is_whole (W.contents out.old) (W.contents out.new))) }
+{
     let mut lines = Lines::new(alloc, input);
     let mut sums = Sums::new(alloc);
     let is_whole = read_rows(alloc, &mut lines, &mut sums, complaints)?;
@@ -30,7 +37,10 @@ fn read_rows<R: BufRead, E: Write>(
     lines: &mut Lines<R>,
     sums: &mut Sums,
     complaints: &mut E,
-) -> io::Result<bool> {
+) -> io::Result<bool>
+    ensures { IfOk result (λ is_whole. (rows : List Entry) × SaysTheSame (sums.old ++ rows) sums.new
+        × IfSome (R.remaining lines.old.reader) (λ bytes. AreRows bytes rows is_whole)) }
+{
     let mut is_whole = true;
     for _ in 0..u64::MAX {
         if !lines.advance()? {

@@ -1,4 +1,8 @@
 //! Reads an index and queries, and answers them.
+ghost use Rattle.std.specs.Prelude.{ℕ, List, true, ◌++◌, ◌⊎◌, IfOk, IfSome};
+ghost use Rattle.std.specs.Io.KnownBytes.{Appends};
+ghost use Rattle.program_parts.specs.Divided.{IsPart, IsUndivided};
+ghost use Rattle.program_index_reader.specs.Runs.{Answers, AreQueries, IsNoEntry, SaysEntry, answers, count_line};
 
 use crate::entry::{next_entry, parse_query};
 use crate::index::Index;
@@ -24,12 +28,16 @@ struct Section {
 ///
 /// An entry whose key is lower than the greatest key before it is left out, and so are all that follow one key that is
 /// too high, up to a key that is no lower. Each complaint has both keys.
-pub fn run<R: BufRead + Drop, W: Write, E: Write>(
+pub fn answer_all<R: BufRead + Drop, W: Write, E: Write>(
     alloc: Global,
     input: R,
     out: &mut W,
     complaints: &mut E,
-) -> io::Result<bool> {
+) -> io::Result<bool>
+    ensures { IfOk result (λ is_whole. IfSome (R.remaining input) (λ bytes.
+        Answers bytes is_whole (W.contents out.old) (W.contents out.new)
+        ⊎ IsUndivided bytes is_whole (W.contents out.old) (W.contents out.new))) }
+{
     let mut lines = Lines::new(alloc, input);
     let section = read_index(alloc, &mut lines, complaints)?;
     if !section.is_divided {
@@ -48,7 +56,10 @@ fn read_index<R: BufRead, E: Write>(
     alloc: Global,
     lines: &mut Lines<R>,
     complaints: &mut E,
-) -> io::Result<Section> {
+) -> io::Result<Section>
+    ensures { IfOk result (λ section. IsPart SaysEntry IsNoEntry true (R.remaining lines.old.reader)
+        (R.remaining lines.new.reader) section.index section.is_divided section.is_whole) }
+{
     let mut index = Index::new(alloc);
     let mut is_whole = true;
     for _ in 0..u64::MAX {
@@ -83,7 +94,11 @@ fn answer_queries<R: BufRead, W: Write, E: Write>(
     lines: &mut Lines<R>,
     out: &mut W,
     complaints: &mut E,
-) -> io::Result<bool> {
+) -> io::Result<bool>
+    ensures { IfOk result (λ is_whole. (keys : List ℕ)
+        × Appends (W.contents out.old) (W.contents out.new) (answers index.now keys ++ count_line keys)
+        × IfSome (R.remaining lines.old.reader) (λ bytes. AreQueries bytes keys is_whole)) }
+{
     let mut queries = 0u64;
     let mut is_whole = true;
     for _ in 0..u64::MAX {

@@ -1,8 +1,9 @@
 -- What is written piece after piece.
-use Rattle.std.proofs.Common.{◌≡◌, ℕ, ◌+◌, ◌<◌, List, [], ◌∷◌, ◌++◌, Option, None, Some, length, take, get_or, flat_map, sym, ap, ◌∙◌, subst, append_assoc}
+use Rattle.std.proofs.Common.{◌≡◌, ℕ, ◌+◌, ◌<◌, List, [], ◌∷◌, ◌++◌, Option, None}
+use Rattle.std.proofs.Common.{Some, length, take, get_or, flat_map, sym, ap, ◌∙◌, subst, append_assoc}
 use Rattle.std.proofs.lemmas.Grind.{flat_map-append}
 use Rattle.std.proofs.lemmas.List.{take_more, append-nil}
-use Rattle.std.specs.Io.KnownBytes.{Appends}
+use Rattle.std.specs.Io.KnownBytes.{Appends, Keeps}
 
 -- no text, and nothing is written
 pub appends_nothing : (o : Option (List ℕ)) (text : List ℕ) → text ≡ [] → Appends o o text
@@ -23,3 +24,18 @@ appends_more a b c f xs i d l h k =
     let e = ap (flat_map f) (take_more xs i d l) ∙ flat_map-append f (take i xs) (get_or xs i d ∷ [])
     ∙ ap (λ t. flat_map f (take i xs) ++ t) (append-nil (f (get_or xs i d))) in
     subst (Appends a c) (sym e) (appends_both a b c (flat_map f (take i xs)) (f (get_or xs i d)) h k)
+
+-- the text of one element at the end
+pub appends_last : {X : Type 0} (a b c : Option (List ℕ)) (f : X → List ℕ) (xs : List X) (x : X)
+    → Appends a b (flat_map f xs) → Appends b c (f x) → Appends a c (flat_map f (xs ++ x ∷ []))
+appends_last a b c f xs x h k =
+    let e : flat_map f (xs ++ x ∷ []) ≡ flat_map f xs ++ f x =
+    flat_map-append f xs (x ∷ []) ∙ ap (λ t. flat_map f xs ++ t) (append-nil (f x)) in
+    subst (Appends a c) (sym e) (appends_both a b c (flat_map f xs) (f x) h k)
+
+-- what is written stays written
+pub appends_kept : (a b c : Option (List ℕ)) (text : List ℕ) → Appends a b text → Keeps b c → Appends a c text
+appends_kept None b c text p q = tt
+appends_kept (Some xs) None c text p q = absurd p
+appends_kept (Some xs) (Some ys) None text p q = absurd q
+appends_kept (Some xs) (Some ys) (Some zs) text p q = q ∙ p

@@ -1,2 +1,6 @@
 pub mod Appended
+pub mod Given
+pub mod KeptSoFar
+pub mod Parts
 pub mod Written
+pub mod Yielded

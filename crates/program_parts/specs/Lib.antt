@@ -1,2 +1,4 @@
+pub mod Divided
+pub mod Kept
 pub mod Lines
 pub mod Pairs

@@ -1,7 +1,9 @@
-//! What the programs over standard input share: the blocks of a stream, its lines and complaints about them, and pairs of numbers in
-//! lines.
+//! What the programs over standard input share: the blocks of a stream, its lines and complaints about them, pairs of numbers in
+//! lines, texts that are written whole, and the status of a program.
 #![tactic(auto)]
 
 pub mod blocks;
 pub mod lines;
 pub mod pairs;
+pub mod status;
+pub mod texts;

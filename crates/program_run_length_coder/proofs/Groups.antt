@@ -1,10 +1,12 @@
 -- Runs of equal bytes, one after another, and what they are coded as.
-use Rattle.std.proofs.Common.{◌≡◌, ◌≢◌, ℕ, zero, suc, ◌+◌, ◌<◌, false, List, [], ◌∷◌, ◌++◌, length, replicate, flat_map, nat_eq, refl, ap, sym, ◌∙◌, append_assoc, append-nil, eq-eqb, arith, Option, Some, get_or, map, subst}
+use Rattle.std.proofs.Common.{◌≡◌, ◌≢◌, ℕ, zero, suc, ◌+◌, ◌<◌, false, List, [], ◌∷◌, ◌++◌, length, replicate, flat_map}
+use Rattle.std.proofs.Common.{nat_eq, refl, ap, sym, ◌∙◌, append_assoc, append-nil, eq-eqb, arith, Option, Some, get_or, map, subst}
 use Rattle.std.specs.List.{AllByRecursion}
 use Rattle.std.proofs.lemmas.List.{replicate-append-replicate}
-use Rattle.slice_group_by.specs.Split.{first, split, concat, IsSplit}
+use Rattle.slice_group_by.specs.Split.{first, split, IsSplit}
 use Rattle.std.specs.Io.KnownBytes.{Appends}
 use Rattle.std.proofs.KnownBytes.{Appends-nil, Appends-trans}
+use Rattle.program_parts.proofs.Yielded.{holds_of_last}
 use Rattle.program_run_length_coder.specs.Coding.{line, coded, Codes}
 
 -- a run is one group where another byte follows it
@@ -24,7 +26,8 @@ pub coded_before_change : (n b m c : ℕ) (rest : List ℕ) → 0 < n → 0 < m 
 coded_before_change zero b m c rest some other h = absurd (omega arith)
 coded_before_change (suc n) b zero c rest some other h = absurd (omega arith)
 coded_before_change (suc n) b (suc m) c rest some other h =
-    ap coded (append_assoc (replicate (suc n) b) (replicate (suc m) c) rest) ∙ ap (flat_map line) (split_before_change n b c (replicate m c ++ rest) h)
+    ap coded (append_assoc (replicate (suc n) b) (replicate (suc m) c) rest) ∙ ap (flat_map line) (split_before_change n b c
+    (replicate m c ++ rest) h)
 
 -- a run alone is coded as its line
 pub coded_run : (n b : ℕ) → 0 < n → coded (replicate n b) ≡ line (replicate n b)
@@ -42,7 +45,8 @@ joins known n m b total group e sum = record {
   text = [];
   writes = Appends-nil known;
   goes_on = λ rest. ap (λ g. coded (g ++ rest))
-      (ap (λ g. replicate n b ++ g) e ∙ replicate-append-replicate n m b ∙ ap (λ k. replicate k b) (let e : n + m ≡ total = omega arith in e));
+      (ap (λ g. replicate n b ++ g) e ∙ replicate-append-replicate n m b ∙ ap (λ k. replicate k b)
+      (let e : n + m ≡ total = omega arith in e));
 }
 
 -- its line is written where another byte comes
@@ -55,7 +59,8 @@ changes before after n b m c group some other h e w = record {
 }
 
 -- one after another
-pub Codes-more : {a b c : Option (List ℕ)} {old mid new : List ℕ} (xs ys : List ℕ) → Codes a b old xs mid → Codes b c mid ys new → Codes a c old (xs ++ ys) new
+pub Codes-more : {a b c : Option (List ℕ)} {old mid new : List ℕ} (xs ys : List ℕ) → Codes a b old xs mid → Codes b c mid ys new
+    → Codes a c old (xs ++ ys) new
 Codes-more {a} {b} {c} {old} {mid} {new} xs ys p q = record {
   text = p.text ++ q.text;
   writes = Appends-trans a b c p.text q.text p.writes q.writes;
@@ -70,12 +75,6 @@ Codes-more {a} {b} {c} {old} {mid} {new} xs ys p q = record {
 -- no bytes
 pub Codes-none : (a : Option (List ℕ)) (old : List ℕ) → Codes a a old [] old
 Codes-none a old = record { text = []; writes = Appends-nil a; goes_on = λ rest. ap (λ l. coded (l ++ rest)) (append-nil old) }
-
--- what holds of each piece holds of the last of some that came
-holds_of_last : {A : Type 0} (P : List ℕ → Type 0) (f : A → List ℕ) (ys : List A) (y : A) (rest : List (List ℕ))
-    → AllByRecursion P (map f (ys ++ y ∷ []) ++ rest) → P (f y)
-holds_of_last P f [] y rest h = h.0
-holds_of_last P f (x ∷ ys) y rest h = holds_of_last P f ys y rest h.1
 
 -- a nonempty piece of copies of its first byte
 abbrev IsRun : List ℕ → Type 0
@@ -96,13 +95,9 @@ group_is_run f ys y rest xs e is_split copies =
     run_of_copies (f y) (holds_of_last Some_byte f ys y rest (subst (AllByRecursion Some_byte) e is_split.nonempty))
     (holds_of_last Copies f ys y rest (subst (AllByRecursion Copies) e copies))
 
--- one more group, joined to those before it
-pub concat_push : {A : Type 0} (f : A → List ℕ) (ys : List A) (y : A) → concat (map f (ys ++ y ∷ [])) ≡ concat (map f ys) ++ f y
-concat_push f [] y = append-nil (f y)
-concat_push f (x ∷ ys) y = ap (λ l. f x ++ l) (concat_push f ys y) ∙ sym (append_assoc (f x) (concat (map f ys)) (f y))
-
 -- at the end all is coded once what is open is written
-pub coded_at_end : (a b c : Option (List ℕ)) (bytes new : List ℕ) → Codes a b [] bytes new → Appends b c (coded new) → Appends a c (coded bytes)
+pub coded_at_end : (a b c : Option (List ℕ)) (bytes new : List ℕ) → Codes a b [] bytes new → Appends b c (coded new) → Appends a c
+    (coded bytes)
 coded_at_end a b c bytes new p q =
     let whole : coded bytes ≡ p.text ++ coded new =
     ap coded (sym (append-nil bytes)) ∙ p.goes_on [] ∙ ap (λ l. p.text ++ coded l) (append-nil new) in

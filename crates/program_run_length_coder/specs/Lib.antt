@@ -1,2 +1,3 @@
 pub mod Coding
+pub mod Decoded
 pub mod Lines

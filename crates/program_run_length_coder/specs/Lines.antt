@@ -1,17 +1,10 @@
 -- What a line of a run says, and what is wrong with one.
-use Rattle.std.specs.Prelude.{ℕ, ◌<◌, Bool, List, Ok, Err, length, nat_eq}
+use Rattle.std.specs.Prelude.{ℕ, ◌<◌, Bool, List, length, nat_eq}
 use Rattle.std.specs.List.{position_or_len, before_first, after_first}
 use Rattle.std.specs.Str.{IsUtf8}
-use Rattle.std.specs.Str.Parse.{ParsesUnsigned}
+use Rattle.program_parts.specs.Pairs.{IsNumber, IsNoNumber}
 use Rattle.program_run_length_coder.specs.declared.line.RunError.{RunError}
 use Rattle.program_run_length_coder.specs.declared.line.RunError.TheVariants.{NoRun, NoCount, NoByte, Zero}
-
--- the text is the number n, of so many bits; and it is no number of so many
-abbrev pub IsNumber : ℕ → List ℕ → ℕ → Type 0
-IsNumber bits text n = ParsesUnsigned {E = Unit {0}} bits 10 text (Ok n)
-
-abbrev pub IsNoNumber : ℕ → List ℕ → Type 0
-IsNoNumber bits text = ParsesUnsigned {E = Unit {0}} bits 10 text (Err tt)
 
 -- the byte is a space
 abbrev pub is_space : ℕ → Bool

@@ -1,10 +1,14 @@
 //! What the program does by its arguments, what it says, and its status.
-ghost use Rattle.std.specs.Prelude.{◌≡◌, ℕ, ◌<◌, ◌^◌, List, [], ◌∷◌, length, map, codes, string_bytes, All, IfOk, IfSome, IsTrue, OnOk};
+ghost use Rattle.std.specs.Prelude.{◌≡◌, ℕ, ◌<◌, ◌^◌, List, [], ◌∷◌, length, map, true, codes, string_bytes};
+ghost use Rattle.std.specs.Prelude.{All, IfOk, IfSome, IsTrue, OnOk};
 ghost use Rattle.std.specs.Io.KnownBytes.{Appends};
 ghost use Rattle.program_run_length_coder.specs.Coding.{coded};
+ghost use Rattle.program_run_length_coder.specs.Decoded.{Decodes};
 
 use crate::decoder::decode;
 use crate::encoder::encode;
+use program_parts::status::status_of;
+use program_parts::texts::write_all;
 use std::alloc::Global;
 use std::io;
 use std::io::{BufRead, Write};
@@ -46,6 +50,10 @@ pub fn run<R: BufRead, W: Write, E: Write>(
     ensures encodes { words.now ≡ [] → result ≡ 0 → IfSome (R.remaining input.old)
         (λ bytes. Appends (W.contents out.old) (W.contents out.new) (coded bytes)) }
 
+    // Of any input, where each line says a run.
+    ensures decodes_any { map string_bytes words.now ≡ codes "decode" ∷ [] → result ≡ 0 → IfSome (R.remaining input.old)
+        (λ bytes. Decodes bytes true (W.contents out.old) (W.contents out.new)) }
+
     // Of what bytes were coded as.
     ensures decodes { map string_bytes words.now ≡ codes "decode" ∷ [] → result ≡ 0
         → (bytes : List ℕ) → All (λ byte. byte < 2 ^ 8) bytes → length bytes < 2 ^ 64
@@ -54,20 +62,13 @@ pub fn run<R: BufRead, W: Write, E: Write>(
     let done = match task_of(words) {
         Some(Task::Encode) => encode_all(alloc, input, out),
         Some(Task::Decode) => decode_all(alloc, input, out, complaints),
-        Some(Task::Help) => write_all(out, USAGE),
+        Some(Task::Help) => write_all(out, USAGE).and(Ok(true)),
         None => {
             let _ = write_all(complaints, USAGE);
             return 2;
         }
     };
-    match done {
-        Ok(true) => 0,
-        Ok(false) => 1,
-        Err(error) => {
-            let _ = writeln!(complaints, "program_run_length_coder: {error}");
-            1
-        }
-    }
+    status_of("program_run_length_coder", done, complaints)
 }
 
 /// Encodes the input, and sees that all of it is written.
@@ -88,23 +89,15 @@ fn decode_all<R: BufRead, W: Write, E: Write>(
     out: &mut W,
     complaints: &mut E,
 ) -> io::Result<bool>
-    ensures { (bytes : List ℕ) → All (λ byte. byte < 2 ^ 8) bytes → length bytes < 2 ^ 64
+    ensures any { IfOk result (λ are_runs. IfSome (R.remaining input.old)
+        (λ bytes. Decodes bytes are_runs (W.contents out.old) (W.contents out.new))) }
+    ensures again { (bytes : List ℕ) → All (λ byte. byte < 2 ^ 8) bytes → length bytes < 2 ^ 64
         → R.remaining input.old ≡ Some (coded bytes)
         → IfOk result (λ are_runs. IsTrue are_runs × Appends (W.contents out.old) (W.contents out.new) bytes) }
 {
     let are_runs = decode(alloc, input, out, complaints)?;
     out.flush()?;
     Ok(are_runs)
-}
-
-/// Writes a text, and sees that all of it is written.
-fn write_all<W: Write>(out: &mut W, text: &str) -> io::Result<bool>
-    ensures done { IfOk result IsTrue }
-    ensures bytes { OnOk result (Appends (W.contents out.old) (W.contents out.new) text.now) }
-{
-    out.write_all(text.as_bytes())?;
-    out.flush()?;
-    Ok(true)
 }
 
 #[cfg(test)]
@@ -149,6 +142,20 @@ mod tests {
 
         fn flush(&mut self) -> io::Result<()> {
             Ok(())
+        }
+    }
+
+    /// Takes all, and fails where it is flushed.
+    #[derive(Drop)]
+    struct Unflushed;
+
+    impl Write for Unflushed {
+        fn write(&mut self, buffer: &[u8]) -> io::Result<usize> {
+            Ok(buffer.len())
+        }
+
+        fn flush(&mut self) -> io::Result<()> {
+            Err(Error::from(ErrorKind::BrokenPipe))
         }
     }
 
@@ -201,6 +208,28 @@ mod tests {
     }
 
     #[test]
+    fn output_that_is_not_flushed_is_said(rt: HostRuntime) -> Result<(), Fail> {
+        let mut complaints = Vec::new(rt.alloc());
+        let mut input: &[u8] = b"aab";
+        let status = run(rt.alloc(), &[], &mut input, &mut Unflushed, &mut complaints);
+        assert_eq!(rt; status, 1);
+        let help = [String::from_str(rt.alloc(), "--help")?];
+        let status = run(
+            rt.alloc(),
+            &help,
+            &mut input,
+            &mut Unflushed,
+            &mut complaints,
+        );
+        assert_eq!(rt; status, 1);
+        assert_eq!(rt;
+            complaints.as_slice(),
+            b"program_run_length_coder: broken pipe\nprogram_run_length_coder: broken pipe\n".as_slice()
+        );
+        Ok(())
+    }
+
+    #[test]
     fn arguments_are_known_or_refused(rt: HostRuntime) -> Result<(), Fail> {
         let mut out = Vec::new(rt.alloc());
         let mut complaints = Vec::new(rt.alloc());
@@ -219,6 +248,14 @@ mod tests {
         );
         assert_eq!(rt; out.as_slice(), USAGE.as_bytes());
         assert_eq!(rt; complaints.as_slice(), USAGE.as_bytes());
+        let more = [
+            String::from_str(rt.alloc(), "--help")?,
+            String::from_str(rt.alloc(), "--help")?,
+        ];
+        assert_eq!(rt;
+            run(rt.alloc(), &more, &mut input, &mut out, &mut complaints),
+            2
+        );
         Ok(())
     }
 
@@ -247,16 +284,15 @@ mod tests {
             run(rt.alloc(), &words, &mut input, &mut out, &mut complaints),
             1
         );
-        assert_eq!(rt; out.as_slice(), b"aaddd".as_slice());
-        let said = b"line 2: its count is 0
-line 3: it is no run: two numbers with a space between them
-line 4: it is no run: two numbers with a space between them
-line 5: its byte is no number up to 255
-line 6: its count is no number of 64 bits
-line 7: its count is no number of 64 bits
-line 8: it is no run: two numbers with a space between them
-line 9: its byte is no number up to 255
-line 10: its byte is no number up to 255
+        assert_eq!(rt; out.as_slice(), b"aacddd".as_slice());
+        let said = b"line 2 is left out: its count is 0
+line 3 is left out: it is no run: two numbers with a space between them
+line 4 is left out: it is no run: two numbers with a space between them
+line 5 is left out: its byte is no number up to 255
+line 6 is left out: its count is no number of 64 bits
+line 7 is left out: its count is no number of 64 bits
+line 8 is left out: it is no run: two numbers with a space between them
+line 9 is left out: its byte is no number up to 255
 ";
         assert_eq!(rt; complaints.as_slice(), said.as_slice());
         Ok(())

@@ -2,3 +2,4 @@ pub mod Input
 pub mod Joins
 pub mod Kinds
 pub mod Rows
+pub mod Runs

@@ -1,7 +1,8 @@
 -- The tokens that a block gives, one after another.
 use Rattle.std.proofs.Common.{◌≡◌, ℕ, Bool, true, List, [], ◌∷◌, ◌++◌, refl, ap, sym, subst, ◌∙◌, append-nil, append_assoc, map}
 use Rattle.std.specs.List.{AllByRecursion}
-use Rattle.slice_group_by.specs.Split.{split, concat, IsSplit, IsAccepted}
+use Rattle.slice_group_by.specs.Split.{split, IsSplit, IsAccepted}
+use Rattle.program_parts.proofs.Yielded.{holds_of_last}
 use Rattle.program_token_counter.specs.declared.class.Class.{Class}
 use Rattle.program_token_counter.specs.declared.class.Class.TheVariants.{Letter, Digit, Space, Other}
 use Rattle.program_token_counter.specs.Classes.{class_of, class_of_token, IsOfClass}
@@ -40,12 +41,6 @@ token_is_of_class : (g : List ℕ) → IsAccepted are_equal g → IsOfClass (cla
 token_is_of_class [] h = tt
 token_is_of_class (x ∷ xs) h = accepted_is_of_class x xs h
 
--- what holds of each piece holds of the last of some that came
-holds_of_last : {A : Type 0} (P : List ℕ → Type 0) (f : A → List ℕ) (ys : List A) (y : A) (rest : List (List ℕ))
-    → AllByRecursion P (map f (ys ++ y ∷ []) ++ rest) → P (f y)
-holds_of_last P f [] y rest h = h.0
-holds_of_last P f (x ∷ ys) y rest h = holds_of_last P f ys y rest h.1
-
 -- so each token that comes is of one class
 pub token_has_class : {A : Type 0} (f : A → List ℕ) (ys : List A) (y : A) (rest : List (List ℕ)) (xs : List ℕ)
     → split are_equal xs ≡ map f (ys ++ y ∷ []) ++ rest → IsSplit are_equal xs (split are_equal xs)
@@ -53,8 +48,3 @@ pub token_has_class : {A : Type 0} (f : A → List ℕ) (ys : List A) (y : A) (r
 token_has_class f ys y rest xs e is_split =
     let Along : List ℕ → Type 0 = IsAccepted are_equal in
     token_is_of_class (f y) (holds_of_last Along f ys y rest (subst (AllByRecursion Along) e is_split.accepted))
-
--- one more token, joined to those before it
-pub concat_push : {A : Type 0} (f : A → List ℕ) (ys : List A) (y : A) → concat (map f (ys ++ y ∷ [])) ≡ concat (map f ys) ++ f y
-concat_push f [] y = append-nil (f y)
-concat_push f (x ∷ ys) y = ap (λ l. f x ++ l) (concat_push f ys y) ∙ sym (append_assoc (f x) (concat (map f ys)) (f y))

@@ -8,6 +8,8 @@ ghost use Rattle.program_token_counter.specs.Tallies.{report};
 use crate::characters::characters_agree;
 use crate::counter::count_tokens;
 use crate::report::write_report;
+use program_parts::status::status_of;
+use program_parts::texts::write_all;
 use std::alloc::Global;
 use std::io;
 use std::io::{Read, Write};
@@ -48,20 +50,14 @@ pub fn run<R: Read, W: Write, E: Write>(
         → Appends (W.contents out.old) (W.contents out.new) (report (λ class. token_count class (chars bytes)))) }
 {
     let done = match task_of(words) {
-        Some(Task::Count) => report_tokens(alloc, input, out),
-        Some(Task::Help) => write_all(out, USAGE),
+        Some(Task::Count) => report_tokens(alloc, input, out).and(Ok(true)),
+        Some(Task::Help) => write_all(out, USAGE).and(Ok(true)),
         None => {
             let _ = write_all(complaints, USAGE);
             return 2;
         }
     };
-    match done {
-        Ok(()) => 0,
-        Err(error) => {
-            let _ = writeln!(complaints, "program_token_counter: {error}");
-            1
-        }
-    }
+    status_of("program_token_counter", done, complaints)
 }
 
 /// Writes how many tokens of each class the input has. Of a text these are the tokens of its characters.
@@ -74,14 +70,6 @@ fn report_tokens<R: Read, W: Write>(alloc: Global, input: &mut R, out: &mut W) -
     characters_agree();
     let tally = count_tokens(alloc, input)?;
     write_report(out, &tally)?;
-    out.flush()
-}
-
-/// Writes a text, and sees that all of it is written.
-fn write_all<W: Write>(out: &mut W, text: &str) -> io::Result<()>
-    ensures { OnOk result (Appends (W.contents out.old) (W.contents out.new) text.now) }
-{
-    out.write_all(text.as_bytes())?;
     out.flush()
 }
 
@@ -109,6 +97,28 @@ mod tests {
         }
     }
 
+    /// Is interrupted before each byte.
+    #[derive(Drop)]
+    struct Interrupted<'a> {
+        bytes: &'a [u8],
+        is_due: bool,
+    }
+
+    impl Read for Interrupted<'_> {
+        fn read(&mut self, buffer: &mut [u8]) -> io::Result<usize> {
+            self.is_due = !self.is_due;
+            if self.is_due {
+                return Err(Error::from(ErrorKind::Interrupted));
+            }
+            let ([byte, rest @ ..], Some(first)) = (self.bytes, buffer.first_mut()) else {
+                return Ok(0);
+            };
+            *first = *byte;
+            self.bytes = rest;
+            Ok(1)
+        }
+    }
+
     /// Takes nothing.
     #[derive(Drop)]
     struct Closed;
@@ -120,6 +130,20 @@ mod tests {
 
         fn flush(&mut self) -> io::Result<()> {
             Ok(())
+        }
+    }
+
+    /// Takes all, and fails where it is flushed.
+    #[derive(Drop)]
+    struct Unflushed;
+
+    impl Write for Unflushed {
+        fn write(&mut self, buffer: &[u8]) -> io::Result<usize> {
+            Ok(buffer.len())
+        }
+
+        fn flush(&mut self) -> io::Result<()> {
+            Err(Error::from(ErrorKind::BrokenPipe))
         }
     }
 
@@ -171,6 +195,23 @@ mod tests {
     }
 
     #[test]
+    fn interrupted_reads_go_on(rt: HostRuntime) -> Result<(), Fail> {
+        let mut out = Vec::new(rt.alloc());
+        let mut complaints = Vec::new(rt.alloc());
+        let mut input = Interrupted {
+            bytes: b"ab 1",
+            is_due: false,
+        };
+        let status = run(rt.alloc(), &[], &mut input, &mut out, &mut complaints);
+        assert_eq!(rt; status, 0);
+        assert_eq!(rt;
+            out.as_slice(),
+            b"letters: 1\ndigits: 1\nspace: 1\nother: 0\n".as_slice()
+        );
+        Ok(())
+    }
+
+    #[test]
     fn closed_output_is_said(rt: HostRuntime) -> Result<(), Fail> {
         let mut complaints = Vec::new(rt.alloc());
         let mut input: &[u8] = b"a\nb";
@@ -179,6 +220,28 @@ mod tests {
         assert_eq!(rt;
             complaints.as_slice(),
             b"program_token_counter: broken pipe\n".as_slice()
+        );
+        Ok(())
+    }
+
+    #[test]
+    fn output_that_is_not_flushed_is_said(rt: HostRuntime) -> Result<(), Fail> {
+        let mut complaints = Vec::new(rt.alloc());
+        let mut input: &[u8] = b"a\nb";
+        let status = run(rt.alloc(), &[], &mut input, &mut Unflushed, &mut complaints);
+        assert_eq!(rt; status, 1);
+        let help = [String::from_str(rt.alloc(), "--help")?];
+        let status = run(
+            rt.alloc(),
+            &help,
+            &mut input,
+            &mut Unflushed,
+            &mut complaints,
+        );
+        assert_eq!(rt; status, 1);
+        assert_eq!(rt;
+            complaints.as_slice(),
+            b"program_token_counter: broken pipe\nprogram_token_counter: broken pipe\n".as_slice()
         );
         Ok(())
     }
@@ -202,6 +265,14 @@ mod tests {
         );
         assert_eq!(rt; out.as_slice(), USAGE.as_bytes());
         assert_eq!(rt; complaints.as_slice(), USAGE.as_bytes());
+        let more = [
+            String::from_str(rt.alloc(), "--help")?,
+            String::from_str(rt.alloc(), "--help")?,
+        ];
+        assert_eq!(rt;
+            run(rt.alloc(), &more, &mut input, &mut out, &mut complaints),
+            2
+        );
         Ok(())
     }
 }

@@ -1,5 +1,6 @@
 -- Groups of equal lines, one after another, and what is written of them.
-use Rattle.std.proofs.Common.{◌≡◌, ℕ, zero, suc, ◌+◌, ◌<◌, Bool, true, false, List, [], ◌∷◌, ◌++◌, length, replicate, flat_map, refl, ap, sym, subst, ◌∙◌, append_assoc, append-nil, arith, Option, map, get_or, codes, decimal}
+use Rattle.std.proofs.Common.{◌≡◌, ℕ, zero, suc, ◌+◌, ◌<◌, Bool, true, false, List, [], ◌∷◌, ◌++◌, length, replicate}
+use Rattle.std.proofs.Common.{flat_map, refl, ap, sym, subst, ◌∙◌, append_assoc, append-nil, arith, Option, map, get_or, codes, decimal}
 use Rattle.std.specs.List.{AllByRecursion}
 use Rattle.std.specs.Str.{bytes_eq}
 use Rattle.std.specs.Io.KnownBytes.{Appends}
@@ -7,6 +8,7 @@ use Rattle.std.proofs.KnownBytes.{Appends-nil, Appends-trans}
 use Rattle.std.proofs.lemmas.List.{length-replicate, get_or-replicate, replicate-append-replicate, map-append}
 use Rattle.std.proofs.lemmas.Slice.Eq.{bytes_eq-Decides}
 use Rattle.slice_group_by.specs.Split.{split, concat, IsSplit, IsAccepted}
+use Rattle.program_parts.proofs.Yielded.{holds_of_last, concat_push}
 use Rattle.program_uniq_count.specs.Counting.{entry, counted, Counts}
 
 same_line : (l : List ℕ) → bytes_eq l l ≡ true
@@ -83,12 +85,6 @@ counted_at_end a b c all new p q =
     ap counted (sym (append-nil all)) ∙ p.goes_on [] ∙ ap (λ l. p.text ++ counted l) (append-nil new) in
     subst (Appends a c) (sym whole) (Appends-trans a b c p.text (counted new) p.writes q)
 
--- what holds of each piece holds of the last of some that came
-holds_of_last : {A B : Type 0} (P : List B → Type 0) (f : A → List B) (ys : List A) (y : A) (rest : List (List B))
-    → AllByRecursion P (map f (ys ++ y ∷ []) ++ rest) → P (f y)
-holds_of_last P f [] y rest h = h.0
-holds_of_last P f (x ∷ ys) y rest h = holds_of_last P f ys y rest h.1
-
 -- elements that are accepted side by side show the same line
 same_all_along : {B : Type 0} (p : B → B → Bool) (show : B → List ℕ) → ((a b : B) → p a b ≡ true → show a ≡ show b)
     → (x : B) (xs : List B) → IsAccepted p (x ∷ xs) → map show (x ∷ xs) ≡ replicate (suc (length xs)) (show x)
@@ -119,8 +115,4 @@ group_is_copies {A} {B} p show same f ys y rest xs d e is_split =
 -- the lines of one more group, after those before it
 pub lines_push : {A B : Type 0} (show : B → List ℕ) (f : A → List B) (ys : List A) (y : A)
     → map show (concat (map f (ys ++ y ∷ []))) ≡ map show (concat (map f ys)) ++ map show (f y)
-lines_push show f [] y = ap (map show) (append-nil (f y))
-lines_push show f (x ∷ ys) y =
-    map-append show (f x) (concat (map f (ys ++ y ∷ []))) ∙ ap (λ l. map show (f x) ++ l) (lines_push show f ys y)
-    ∙ sym (append_assoc (map show (f x)) (map show (concat (map f ys))) (map show (f y)))
-    ∙ ap (λ l. l ++ map show (f y)) (sym (map-append show (f x) (concat (map f ys))))
+lines_push show f ys y = ap (map show) (concat_push f ys y) ∙ map-append show (concat (map f ys)) (f y)

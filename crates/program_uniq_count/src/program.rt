@@ -4,6 +4,8 @@ ghost use Rattle.std.specs.Io.KnownBytes.{Appends};
 ghost use Rattle.program_uniq_count.specs.Counting.{counted, lines};
 
 use crate::counter::count_lines;
+use program_parts::status::status_of;
+use program_parts::texts::write_all;
 use std::alloc::Global;
 use std::io;
 use std::io::{BufRead, Write};
@@ -42,20 +44,14 @@ pub fn run<R: BufRead, W: Write, E: Write>(
         (λ bytes. Appends (W.contents out.old) (W.contents out.new) (counted (lines bytes))) }
 {
     let done = match task_of(words) {
-        Some(Task::Count) => count_all(alloc, input, out),
-        Some(Task::Help) => write_all(out, USAGE),
+        Some(Task::Count) => count_all(alloc, input, out).and(Ok(true)),
+        Some(Task::Help) => write_all(out, USAGE).and(Ok(true)),
         None => {
             let _ = write_all(complaints, USAGE);
             return 2;
         }
     };
-    match done {
-        Ok(()) => 0,
-        Err(error) => {
-            let _ = writeln!(complaints, "program_uniq_count: {error}");
-            1
-        }
-    }
+    status_of("program_uniq_count", done, complaints)
 }
 
 /// Counts the lines of the input, and sees that all entries are written.
@@ -64,14 +60,6 @@ fn count_all<R: BufRead, W: Write>(alloc: Global, input: &mut R, out: &mut W) ->
         (λ bytes. Appends (W.contents out.old) (W.contents out.new) (counted (lines bytes)))) }
 {
     count_lines(alloc, input, out)?;
-    out.flush()
-}
-
-/// Writes a text, and sees that all of it is written.
-fn write_all<W: Write>(out: &mut W, text: &str) -> io::Result<()>
-    ensures { OnOk result (Appends (W.contents out.old) (W.contents out.new) text.now) }
-{
-    out.write_all(text.as_bytes())?;
     out.flush()
 }
 
@@ -110,6 +98,20 @@ mod tests {
 
         fn flush(&mut self) -> io::Result<()> {
             Ok(())
+        }
+    }
+
+    /// Takes all, and fails where it is flushed.
+    #[derive(Drop)]
+    struct Unflushed;
+
+    impl Write for Unflushed {
+        fn write(&mut self, buffer: &[u8]) -> io::Result<usize> {
+            Ok(buffer.len())
+        }
+
+        fn flush(&mut self) -> io::Result<()> {
+            Err(Error::from(ErrorKind::BrokenPipe))
         }
     }
 
@@ -170,6 +172,28 @@ mod tests {
     }
 
     #[test]
+    fn output_that_is_not_flushed_is_said(rt: HostRuntime) -> Result<(), Fail> {
+        let mut complaints = Vec::new(rt.alloc());
+        let mut input: &[u8] = b"a\nb";
+        let status = run(rt.alloc(), &[], &mut input, &mut Unflushed, &mut complaints);
+        assert_eq!(rt; status, 1);
+        let help = [String::from_str(rt.alloc(), "--help")?];
+        let status = run(
+            rt.alloc(),
+            &help,
+            &mut input,
+            &mut Unflushed,
+            &mut complaints,
+        );
+        assert_eq!(rt; status, 1);
+        assert_eq!(rt;
+            complaints.as_slice(),
+            b"program_uniq_count: broken pipe\nprogram_uniq_count: broken pipe\n".as_slice()
+        );
+        Ok(())
+    }
+
+    #[test]
     fn arguments_are_known_or_refused(rt: HostRuntime) -> Result<(), Fail> {
         let mut out = Vec::new(rt.alloc());
         let mut complaints = Vec::new(rt.alloc());
@@ -188,6 +212,14 @@ mod tests {
         );
         assert_eq!(rt; out.as_slice(), USAGE.as_bytes());
         assert_eq!(rt; complaints.as_slice(), USAGE.as_bytes());
+        let more = [
+            String::from_str(rt.alloc(), "--help")?,
+            String::from_str(rt.alloc(), "--help")?,
+        ];
+        assert_eq!(rt;
+            run(rt.alloc(), &more, &mut input, &mut out, &mut complaints),
+            2
+        );
         Ok(())
     }
 }

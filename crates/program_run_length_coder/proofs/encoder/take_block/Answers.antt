@@ -3,7 +3,8 @@ use Rattle.std.proofs.lemmas.Bool.{eqb-true}
 use Rattle.slice_group_by.specs.End.TheVariants.{Front}
 use Rattle.slice_group_by.specs.Gives.{groups_of}
 use Rattle.slice_group_by.specs.Split.{concat}
-use Rattle.program_run_length_coder.proofs.Groups.{group_is_run, concat_push, Codes-more}
+use Rattle.program_parts.proofs.Yielded.{concat_push}
+use Rattle.program_run_length_coder.proofs.Groups.{group_is_run, Codes-more}
 use Rattle.program_run_length_coder.proofs.encoder.take_block.Goals as goal
 
 pub take_group-requires-clause-equal : goal.take_group-requires-clause-equal

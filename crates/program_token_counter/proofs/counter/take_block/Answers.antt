@@ -4,7 +4,8 @@ use Rattle.slice_group_by.specs.End.TheVariants.{Front}
 use Rattle.slice_group_by.specs.Gives.{groups_of}
 use Rattle.slice_group_by.specs.Split.{concat}
 use Rattle.program_token_counter.specs.Classes.{class_of}
-use Rattle.program_token_counter.proofs.TokensOfBlocks.{are_equal, token_has_class, concat_push}
+use Rattle.program_parts.proofs.Yielded.{concat_push}
+use Rattle.program_token_counter.proofs.TokensOfBlocks.{are_equal, token_has_class}
 use Rattle.program_token_counter.proofs.counter.take_block.Goals as goal
 
 pub loop-token-init : goal.loop-token-init

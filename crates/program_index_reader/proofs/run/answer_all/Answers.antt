@@ -1,0 +1,14 @@
+use Rattle.std.proofs.Common.{◌≡◌, ◌&&◌, ◌∙◌, refl}
+use Rattle.program_index_reader.proofs.Reading.{answered}
+use Rattle.program_index_reader.proofs.run.answer_all.Goals as goal
+use Rattle.program_index_reader.proofs.run.answer_all.Goals.{then-section, else-section}
+
+pub returns : goal.returns
+returns g c =
+    let whole : c.if-section.result ≡ (c.in_ok-section.section.is_whole && c.in_ok-is_whole.is_whole) = elim c.if-section.branch [
+      | then-section w ↦ rw w.if-section.true w.result-is
+      | else-section w ↦ w.result-is ∙ rw w.if-section.false refl
+    ] in
+    answered _ _ _ _ _ c.in_ok-section.section.index c.in_ok-section.section.is_whole c.in_ok-is_whole.is_whole c.if-section.result
+    (rw (c.if-not-section.false, c.new-lines.ensures.reader) at c.in_ok-section.ensures) whole c.in_ok-is_whole.ensures
+    c.in_ok-flush.ensures.bytes

@@ -1,0 +1,21 @@
+-- What is written of lines, whatever lines they are.
+use Rattle.std.proofs.Common.{List, ℕ, Bool, Option, None, Some, IfSome, flat_map}
+use Rattle.std.specs.Io.KnownBytes.{Appends, IsAtEnd}
+use Rattle.program_parts.proofs.Given.{gives_all}
+use Rattle.program_parts.proofs.KeptSoFar.{KeptSoFar, are_kept}
+use Rattle.program_run_length_coder.specs.Coding.{copies}
+use Rattle.program_run_length_coder.specs.Decoded.{SaysRun, IsNoRun, Decodes}
+use Rattle.program_run_length_coder.specs.declared.runs.Run.{Run}
+
+-- all lines are decoded where no more come
+pub decodes : (a b before after : Option (List ℕ)) (runs : List Run) (w : Bool) → Appends before after (flat_map copies runs)
+    → KeptSoFar SaysRun IsNoRun a b runs w → IsAtEnd b → IfSome a (λ bytes. Decodes bytes w before after)
+decodes None b before after runs w writes s end = tt
+decodes (Some bytes) b before after runs w writes s end = record {
+  lines = s.lines;
+  are_lines = gives_all (Some bytes) b s.lines s.gives end;
+  runs = runs;
+  are_kept = are_kept SaysRun IsNoRun (Some bytes) b runs w s;
+  whole = s.whole;
+  writes = writes;
+}
