@@ -6,6 +6,7 @@ pub mod capitals;
 pub mod closures;
 pub mod equal_groups;
 pub mod families;
+pub mod folds;
 pub mod loops;
 pub mod offsets;
 pub mod plans;

@@ -6,6 +6,7 @@ mod counts;
 mod counts_of_text;
 mod equal_groups;
 mod families;
+mod folds;
 mod joins;
 mod joins_by_key;
 mod loops;

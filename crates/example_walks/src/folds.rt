@@ -1,0 +1,62 @@
+//! What a loop over groups keeps: a total, and one of the groups.
+ghost use Rattle.std.specs.Prelude.{◌≡◌, [], drop, length, sum_by, take, IfSome, MatchOption};
+ghost use Rattle.slice_group_by.specs.Split.{split};
+ghost use Rattle.example_walks.specs.LongGroups.{IsLongest};
+
+use slice_group_by::laws::{one_split, pieces_add_up, sees_pieces};
+use slice_group_by::{LinearGroup, with_offsets};
+
+/// The sum of the numbers, group by group, if it is a number of 64 bits.
+pub fn total_by_groups(xs: &[u32]) -> Option<u64>
+    ensures { IfSome result (λ total. total ≡ sum_by (λ x. x) xs.now) }
+{
+    let groups = LinearGroup::new(xs);
+    sees_pieces(&groups);
+    pieces_add_up::<u32>();
+    let mut total = 0u64;
+    for group in groups {
+        total = total.checked_add(sum(group)?)?;
+    }
+    Some(total)
+}
+
+// The sum of the numbers of a group, if it is a number of 64 bits.
+fn sum(group: &[u32]) -> Option<u64>
+    ensures { IfSome result (λ sum. sum ≡ sum_by (λ x. x) group.now) }
+{
+    let mut sum = 0u64;
+    for x in group {
+        sum = sum.checked_add(u64::from(*x))?;
+    }
+    Some(sum)
+}
+
+/// The longest group, or `None` where there is none.
+pub fn longest_group<T: PartialEq>(xs: &[T]) -> Option<&[T]>
+    ensures { MatchOption result (xs.now ≡ []) (λ group. IsLongest group.now (split T.eq xs.now)) }
+{
+    let groups = LinearGroup::new(xs);
+    sees_pieces(&groups);
+    one_split::<T>();
+    let mut longest: Option<&[T]> = None;
+    for group in groups {
+        match longest {
+            Some(best) if group.len() <= best.len() => {}
+            _ => longest = Some(group),
+        }
+    }
+    longest
+}
+
+/// The longest group, and the row at which it begins.
+pub fn longest_with_row<T: PartialEq>(slice: &[T]) -> Option<(usize, &[T])>
+    ensures { IfSome result (λ found. found.1.now ≡ take (length found.1.now) (drop found.0 slice.now)) }
+{
+    let (mut row, mut len) = (0usize, 0usize);
+    for (start, group) in with_offsets(LinearGroup::new(slice)) {
+        if group.len() > len {
+            (row, len) = (start, group.len());
+        }
+    }
+    Some((row, slice.get(row..row.saturating_add(len))?))
+}
