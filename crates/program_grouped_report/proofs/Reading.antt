@@ -10,6 +10,7 @@ use Rattle.program_grouped_report.specs.declared.entry.Entry.{Entry}
 use Rattle.program_grouped_report.specs.Departments.{amount, IsReport, SaysTheSame}
 use Rattle.program_grouped_report.specs.Report.{sum_line, total_line}
 use Rattle.program_grouped_report.specs.Runs.{SaysRow, IsNoRow, AreRows, Reports}
+use Rattle.program_grouped_report.specs.Words.{words}
 
 -- entries say what they say themselves, and what others do that say the same
 pub same_self : (xs : List Entry) → SaysTheSame xs xs
@@ -41,22 +42,26 @@ same_more xs ys row p = record {
 }
 
 -- the rows are those of the lines where no more come
-pub are_rows : (a b : Option (List ℕ)) (rows : List Entry) (w : Bool) → KeptSoFar SaysRow IsNoRow a b rows w → IsAtEnd b
-    → IfSome a (λ bytes. AreRows bytes rows w)
-are_rows None b rows w s end = tt
-are_rows (Some bytes) b rows w s end = record {
+pub are_rows : (a b : Option (List ℕ)) (n : ℕ) (c d : Option (List ℕ)) (rows : List Entry) (w : Bool)
+    → KeptSoFar SaysRow IsNoRow words a b 0 n c d rows w → IsAtEnd b
+    → IfSome a (λ bytes. AreRows bytes rows w c d)
+are_rows None b n c d rows w s end = tt
+are_rows (Some bytes) b n c d rows w s end = record {
   lines = s.lines;
   are_lines = gives_all (Some bytes) b s.lines s.gives end;
-  are_rows = are_kept SaysRow IsNoRow (Some bytes) b rows w s;
+  left_out = s.left_out;
+  are_rows = are_kept SaysRow IsNoRow words (Some bytes) b 0 n c d rows w s;
+  complains = s.complains;
   whole = s.whole;
 }
 
 -- their report is written
-pub reports : (a before written after : Option (List ℕ)) (rows sums : List Entry) (w : Bool) → IfSome a (λ bytes. AreRows bytes rows w)
-    → SaysTheSame rows sums → IsReport sums → Appends before written (flat_map sum_line sums ++ total_line sums) → Keeps written after
-    → IfSome a (λ bytes. Reports bytes w before after)
-reports None before written after rows sums w read same is_report writes keeps = tt
-reports (Some bytes) before written after rows sums w read same is_report writes keeps = record {
+pub reports : (a before written after c d : Option (List ℕ)) (rows sums : List Entry) (w : Bool)
+    → IfSome a (λ bytes. AreRows bytes rows w c d) → SaysTheSame rows sums → IsReport sums
+    → Appends before written (flat_map sum_line sums ++ total_line sums) → Keeps written after
+    → IfSome a (λ bytes. Reports bytes w before after c d)
+reports None before written after c d rows sums w read same is_report writes keeps = tt
+reports (Some bytes) before written after c d rows sums w read same is_report writes keeps = record {
   rows = rows;
   are_rows = read;
   sums = sums;

@@ -1,3 +1,4 @@
 pub mod Departments
 pub mod Report
 pub mod Runs
+pub mod Words

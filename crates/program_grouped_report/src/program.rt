@@ -47,7 +47,8 @@ pub fn run<R: BufRead + Drop, W: Write, E: Write>(
     complaints: &mut E,
 ) -> u8
     ensures { words.now ≡ [] → result ≡ 0 → IfSome (R.remaining input)
-        (λ bytes. Reports bytes true (W.contents out.old) (W.contents out.new)) }
+        (λ bytes. Reports bytes true (W.contents out.old) (W.contents out.new)
+        (E.contents complaints.old) (E.contents complaints.new)) }
 {
     let done = match task_of(words) {
         Some(Task::Report) => report_rows(alloc, input, out, complaints),

@@ -1,6 +1,7 @@
 //! Rows, as they stand in lines.
 ghost use Rattle.std.specs.Prelude.{◌≡◌, ℕ, ◌<◌, ◌^◌, ◌++◌, codes, decimal, IfErr, IfOk};
 ghost use Rattle.program_parts.specs.Pairs.{Says, IsWrong};
+ghost use Rattle.program_grouped_report.specs.Words.{words};
 
 use crate::entry::Entry;
 use program_parts::pairs::{PairError, parse_pair};
@@ -11,6 +12,8 @@ use std::fmt;
 pub struct Problem(pub PairError);
 
 impl fmt::Display for Problem {
+    ghost output = { λ problem. words problem.0 };
+
     fn fmt<W: fmt::Write>(&self, f: &mut fmt::Formatter<W>) -> fmt::Result {
         match self.0 {
             PairError::NoText => write!(f, "it is not UTF-8"),

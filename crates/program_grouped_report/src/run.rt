@@ -1,5 +1,5 @@
 //! Reads rows, and writes the sums of their amounts.
-ghost use Rattle.std.specs.Prelude.{List, ◌++◌, IfOk, IfSome};
+ghost use Rattle.std.specs.Prelude.{◌≡◌, List, ◌++◌, IfOk, IfSome};
 ghost use Rattle.program_grouped_report.specs.Departments.{SaysTheSame};
 ghost use Rattle.program_grouped_report.specs.Runs.{AreRows, Reports};
 ghost use Rattle.program_grouped_report.specs.declared.entry.Entry.{Entry};
@@ -21,7 +21,8 @@ pub fn report_rows<R: BufRead + Drop, W: Write, E: Write>(
     complaints: &mut E,
 ) -> io::Result<bool>
     ensures { IfOk result (λ is_whole. IfSome (R.remaining input)
-        (λ bytes. Reports bytes is_whole (W.contents out.old) (W.contents out.new))) }
+        (λ bytes. Reports bytes is_whole (W.contents out.old) (W.contents out.new)
+        (E.contents complaints.old) (E.contents complaints.new))) }
 {
     let mut lines = Lines::new(alloc, input);
     let mut sums = Sums::new(alloc);
@@ -38,8 +39,10 @@ fn read_rows<R: BufRead, E: Write>(
     sums: &mut Sums,
     complaints: &mut E,
 ) -> io::Result<bool>
+    requires { lines.old.number ≡ 0 }
     ensures { IfOk result (λ is_whole. (rows : List Entry) × SaysTheSame (sums.old ++ rows) sums.new
-        × IfSome (R.remaining lines.old.reader) (λ bytes. AreRows bytes rows is_whole)) }
+        × IfSome (R.remaining lines.old.reader) (λ bytes. AreRows bytes rows is_whole
+        (E.contents complaints.old) (E.contents complaints.new))) }
 {
     let mut is_whole = true;
     for _ in 0..u64::MAX {

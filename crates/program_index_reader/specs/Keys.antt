@@ -3,8 +3,10 @@ use Rattle.std.specs.Prelude.{◌≡◌, ℕ, ◌-◌, ◌<◌, List, length, no
 use Rattle.std.specs.List.{filter, slice_get}
 use Rattle.std.specs.Option.{option_map}
 use Rattle.std.specs.List.Sorted.{IsNonDecreasingBy}
+use Rattle.std.specs.Str.{IsUtf8}
 use Rattle.program_parts.specs.Pairs as pairs
-use Rattle.program_parts.specs.Pairs.{Says}
+use Rattle.program_parts.specs.Pairs.{Says, IsNoNumber}
+use Rattle.program_parts.specs.declared.pairs.PairError.TheVariants.{NoText}
 use Rattle.program_index_reader.specs.declared.entry.Problem.{Problem}
 use Rattle.program_index_reader.specs.declared.entry.Problem.TheVariants.{NoEntry, Lower, NoQuery}
 use Rattle.program_index_reader.specs.declared.entry.Entry.{Entry}
@@ -34,3 +36,9 @@ abbrev pub IsWrong : List Entry → List ℕ → Problem → Type 0
 IsWrong index line (NoEntry error) = pairs.IsWrong line error
 IsWrong index line (Lower key most) = (place : ℕ) × Says line key place × (key < most) × (greatest index ≡ Some most)
 IsWrong index line NoQuery = ⊥
+
+-- and this is wrong with it as a query: it is no text, or no number
+abbrev pub IsWrongQuery : List ℕ → Problem → Type 0
+IsWrongQuery line (NoEntry NoText) = IsUtf8 line → ⊥
+IsWrongQuery line NoQuery = IsUtf8 line × IsNoNumber 32 line
+IsWrongQuery line _ = ⊥

@@ -49,7 +49,8 @@ pub fn run<R: BufRead + Drop, W: Write, E: Write>(
     complaints: &mut E,
 ) -> u8
     ensures { words.now ≡ [] → result ≡ 0 → IfSome (R.remaining input)
-        (λ bytes. Answers bytes true (W.contents out.old) (W.contents out.new)) }
+        (λ bytes. Answers bytes true (W.contents out.old) (W.contents out.new)
+        (E.contents complaints.old) (E.contents complaints.new)) }
 {
     let done = match task_of(words) {
         Some(Task::Answer) => answer_all(alloc, input, out, complaints),

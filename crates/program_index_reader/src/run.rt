@@ -1,8 +1,9 @@
 //! Reads an index and queries, and answers them.
-ghost use Rattle.std.specs.Prelude.{ℕ, List, true, ◌++◌, ◌⊎◌, IfOk, IfSome};
+ghost use Rattle.std.specs.Prelude.{◌≡◌, ◌<◌, ◌^◌, ℕ, List, true, ◌++◌, ◌⊎◌, IfOk, IfSome};
 ghost use Rattle.std.specs.Io.KnownBytes.{Appends};
 ghost use Rattle.program_parts.specs.Divided.{IsPart, IsUndivided};
 ghost use Rattle.program_index_reader.specs.Runs.{Answers, AreQueries, IsNoEntry, SaysEntry, answers, count_line};
+ghost use Rattle.program_index_reader.specs.Words.{no_divider, words};
 
 use crate::entry::{next_entry, parse_query};
 use crate::index::Index;
@@ -36,7 +37,9 @@ pub fn answer_all<R: BufRead + Drop, W: Write, E: Write>(
 ) -> io::Result<bool>
     ensures { IfOk result (λ is_whole. IfSome (R.remaining input) (λ bytes.
         Answers bytes is_whole (W.contents out.old) (W.contents out.new)
-        ⊎ IsUndivided bytes is_whole (W.contents out.old) (W.contents out.new))) }
+        (E.contents complaints.old) (E.contents complaints.new)
+        ⊎ IsUndivided SaysEntry IsNoEntry words no_divider bytes is_whole (W.contents out.old) (W.contents out.new)
+        (E.contents complaints.old) (E.contents complaints.new))) }
 {
     let mut lines = Lines::new(alloc, input);
     let section = read_index(alloc, &mut lines, complaints)?;
@@ -57,8 +60,10 @@ fn read_index<R: BufRead, E: Write>(
     lines: &mut Lines<R>,
     complaints: &mut E,
 ) -> io::Result<Section>
-    ensures { IfOk result (λ section. IsPart SaysEntry IsNoEntry true (R.remaining lines.old.reader)
-        (R.remaining lines.new.reader) section.index section.is_divided section.is_whole) }
+    requires { lines.old.number ≡ 0 }
+    ensures { IfOk result (λ section. IsPart SaysEntry IsNoEntry words true (R.remaining lines.old.reader)
+        (R.remaining lines.new.reader) 0 lines.new.number (E.contents complaints.old) (E.contents complaints.new)
+        section.index section.is_divided section.is_whole) }
 {
     let mut index = Index::new(alloc);
     let mut is_whole = true;
@@ -95,9 +100,11 @@ fn answer_queries<R: BufRead, W: Write, E: Write>(
     out: &mut W,
     complaints: &mut E,
 ) -> io::Result<bool>
+    requires { lines.old.number < 2 ^ 64 }
     ensures { IfOk result (λ is_whole. (keys : List ℕ)
         × Appends (W.contents out.old) (W.contents out.new) (answers index.now keys ++ count_line keys)
-        × IfSome (R.remaining lines.old.reader) (λ bytes. AreQueries bytes keys is_whole)) }
+        × IfSome (R.remaining lines.old.reader) (λ bytes. AreQueries lines.old.number bytes keys
+        is_whole (E.contents complaints.old) (E.contents complaints.new))) }
 {
     let mut queries = 0u64;
     let mut is_whole = true;

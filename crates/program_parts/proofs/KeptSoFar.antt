@@ -1,79 +1,165 @@
--- What is kept of the lines that a reader gave so far.
-use Rattle.std.proofs.Common.{◌≡◌, ◌≢◌, ◌⊎◌, ℕ, ◌+◌, ◌≤◌, Bool, true, false, nat_eq, List, [], ◌∷◌, ◌++◌}
-use Rattle.std.proofs.Common.{length, Option, IfSome, inl, inr, refl, sym, ap, ◌∙◌, subst, arith, append_assoc, append-nil, length-append}
+-- What is kept of the lines that a reader gave so far, and what is said of the others.
+use Rattle.std.proofs.Common.{◌≡◌, ◌≢◌, ℕ, ◌+◌, ◌<◌, ◌^◌, Bool, true, false, ◌&&◌, List, [], ◌∷◌, ◌++◌, length}
+use Rattle.std.proofs.Common.{Option, None, Some, IfSome, inl, inr, refl, sym, ap, ◌∙◌, subst, arith, append_assoc, append-nil}
+use Rattle.std.proofs.Common.{length-append}
+use Rattle.std.specs.Fmt.{◌++?◌}
+use Rattle.std.specs.Option.{option_map}
 use Rattle.std.specs.Io.BufRead.{first_line, DropsThrough}
-use Rattle.std.proofs.lemmas.Bool.{ne_eqb, eq-eqb}
-use Rattle.std.proofs.lemmas.Bool.Decides.{eqb_tells}
+use Rattle.std.specs.Io.KnownBytes.{Appends}
+use Rattle.program_parts.specs.Complaints.{LeftOut, none_left_out, complaint, complaints, Complains}
+use Rattle.program_parts.specs.Kept.{AreKept, line_number}
 use Rattle.program_parts.specs.Lines.{GivesLines}
-use Rattle.program_parts.specs.Kept.{AreKept}
+use Rattle.program_parts.proofs.Appended.{appends_nothing, appends_both}
 use Rattle.program_parts.proofs.Given.{gives_none, gives_more}
 
--- as many lines as kept ones, where there are one more of both, and where there is one more line
-pub both_more : (a b : ℕ) → nat_eq a b ≡ nat_eq (a + 1) (b + 1)
-both_more a b = by (eqb_tells a b)
-  where
-    by : ((nat_eq a b ≡ true) × (a ≡ b)) ⊎ ((nat_eq a b ≡ false) × (a ≢ b)) → nat_eq a b ≡ nat_eq (a + 1) (b + 1)
-    by (inl same) = same.0 ∙ sym (eq-eqb (a + 1) (b + 1) (ap (λ (n : ℕ). n + 1) same.1))
-    by (inr other) = other.0 ∙ sym (ne_eqb (a + 1) (b + 1) (λ e. other.1 (omega (arith, e))))
+-- no line is left out of either
+pub none_of_both : {P : Type 0} (xs ys : List (LeftOut P)) → (none_left_out xs && none_left_out ys) ≡ none_left_out (xs ++ ys)
+none_of_both [] [] = refl
+none_of_both [] (y ∷ ys) = refl
+none_of_both (x ∷ xs) [] = refl
+none_of_both (x ∷ xs) (y ∷ ys) = refl
 
-pub line_more : (a b : ℕ) → a ≤ b → false ≡ nat_eq a (b + 1)
-line_more a b few = sym (ne_eqb a (b + 1) (λ e. omega (arith, few, e)))
+pub one_of_both : {P : Type 0} (xs : List (LeftOut P)) (y : LeftOut P) → false ≡ none_left_out (xs ++ y ∷ [])
+one_of_both [] y = refl
+one_of_both (x ∷ xs) y = refl
 
-module _ {A : Type 0} (Says : List A → List ℕ → A → Type 0) (IsWrong : List A → List ℕ → Type 0) where
-  -- the lines so far, and what is kept of them
-  pub record KeptSoFar (before after : Option (List ℕ)) (kept : List A) (is_whole : Bool) : Type 0 where
-    pub lines : List (List ℕ)
-    pub gives : GivesLines before after lines
-    pub goes_on : (rest : List (List ℕ)) (more : List A) → AreKept Says IsWrong kept rest more
-        → AreKept Says IsWrong [] (lines ++ rest) (kept ++ more)
-    pub few : length kept ≤ length lines
-    pub whole : is_whole ≡ nat_eq (length kept) (length lines)
+module _ {P : Type 0} (words : P → Option (List ℕ)) where
+  pub complains_none : (o : Option (List ℕ)) → Complains words [] o o
+  complains_none o = appends_nothing o [] refl
 
-  unfoldable pub none_so_far : (a : Option (List ℕ)) → KeptSoFar a a [] true
-  none_so_far a = record {
-    lines = [];
-    gives = gives_none a;
-    goes_on = λ rest more h. h;
-    few = omega arith;
-    whole = refl;
-  }
+  -- the complaints of some lines, and then of others
+  then_written : (o p before said after : Option (List ℕ)) → IfSome o (Appends before said) → IfSome p (Appends said after)
+      → IfSome (o ++? p) (Appends before after)
+  then_written None p before said after h k = tt
+  then_written (Some x) None before said after h k = tt
+  then_written (Some x) (Some y) before said after h k = appends_both before said after x y h k
 
-  -- what is kept of the lines so far, if there are no more
-  pub are_kept : (a b : Option (List ℕ)) (kept : List A) (w : Bool) (s : KeptSoFar a b kept w) → AreKept Says IsWrong [] s.lines kept
-  are_kept a b kept w s =
-      subst (λ lines. AreKept Says IsWrong [] lines kept) (append-nil s.lines)
-      (subst (AreKept Says IsWrong [] (s.lines ++ [])) (append-nil kept) (s.goes_on [] [] refl))
+  first_nothing : (o : Option (List ℕ)) → Some [] ++? o ≡ o
+  first_nothing None = refl
+  first_nothing (Some x) = refl
 
-  module _ (a b c : Option (List ℕ)) (kept : List A) (w : Bool) (line : List ℕ) (s : KeptSoFar a b kept w)
-      (some : IfSome b (λ unread. unread ≢ [])) (first : IfSome b (λ unread. line ≡ first_line unread)) (drops : DropsThrough b c 10) where
-    pub size : length (s.lines ++ line ∷ []) ≡ length s.lines + 1
-    size = length-append s.lines (line ∷ [])
+  assoc : (o p q : Option (List ℕ)) → (o ++? p) ++? q ≡ o ++? (p ++? q)
+  assoc None p q = refl
+  assoc (Some x) None q = refl
+  assoc (Some x) (Some y) None = refl
+  assoc (Some x) (Some y) (Some z) = ap Some (append_assoc x y z)
 
-    -- one line more, that says x
-    unfoldable pub one_kept : (x : A) → Says kept line x → KeptSoFar a c (kept ++ x ∷ []) w
-    one_kept x says =
-        let size_kept = length-append kept (x ∷ []) in
-        record {
+  complaints_both : (xs ys : List (LeftOut P)) → complaints words (xs ++ ys) ≡ complaints words xs ++? complaints words ys
+  complaints_both [] ys = sym (first_nothing (complaints words ys))
+  complaints_both (x ∷ xs) ys =
+      let one = option_map (complaint x.number) (words x.problem) in
+      ap (λ o. one ++? o) (complaints_both xs ys) ∙ sym (assoc one (complaints words xs) (complaints words ys))
+
+  pub complains_both : (xs ys : List (LeftOut P)) (before said after : Option (List ℕ)) → Complains words xs before said
+      → Complains words ys said after → Complains words (xs ++ ys) before after
+  complains_both xs ys before said after h k =
+      subst (λ o. IfSome o (Appends before after)) (sym (complaints_both xs ys))
+      (then_written (complaints words xs) (complaints words ys) before said after h k)
+
+  -- that of one line
+  pub complains_one : (n : ℕ) (problem : P) (before after : Option (List ℕ))
+      → IfSome (words problem) (λ why. Appends before after (complaint n why))
+      → Complains words (record { number = n; problem = problem } ∷ []) before after
+  complains_one n problem before after h = alone (words problem) h
+    where
+      alone : (o : Option (List ℕ)) → IfSome o (λ why. Appends before after (complaint n why))
+          → IfSome (option_map (complaint n) o ++? Some []) (Appends before after)
+      alone None h = tt
+      alone (Some why) h = subst (Appends before after) (sym (append-nil (complaint n why))) h
+
+module _ {A P : Type 0} (Says : List A → List ℕ → A → Type 0) (IsWrong : List A → List ℕ → P → Type 0) where
+  -- lines are kept alike from numbers that are written alike
+  pub kept_from : (m n : ℕ) (before : List A) (lines : List (List ℕ)) (kept : List A) (left_out : List (LeftOut P))
+      → line_number m ≡ line_number n → AreKept Says IsWrong before m lines kept left_out → AreKept Says IsWrong before n lines kept left_out
+  kept_from m n before [] kept left_out same h = h
+  kept_from m n before (line ∷ lines) kept left_out same (inl (x, more, is, says, rest)) =
+      inl (x, more, is, says, kept_from (m + 1) (n + 1) (before ++ x ∷ []) lines more left_out (omega (arith, same)) rest)
+  kept_from m n before (line ∷ lines) kept left_out same (inr (problem, more, is, wrong, rest)) =
+      let first : left_out ≡ record { number = line_number n; problem = problem } ∷ more = subst (λ k. left_out ≡ record { number = k; problem = problem } ∷ more) same is in
+      inr (problem, more, first, wrong, kept_from (m + 1) (n + 1) before lines kept more (omega (arith, same)) rest)
+
+  pub at_number : (m n : ℕ) (before : List A) (lines : List (List ℕ)) (kept : List A) (left_out : List (LeftOut P)) → m ≡ n
+      → AreKept Says IsWrong before m lines kept left_out → AreKept Says IsWrong before n lines kept left_out
+  at_number m n before lines kept left_out same h = subst (λ k. AreKept Says IsWrong before k lines kept left_out) same h
+
+  module _ (words : P → Option (List ℕ)) where
+    -- the lines so far, of which the one before the first has this number, what is kept of them, and what was said of the others
+    pub record KeptSoFar (before after : Option (List ℕ)) (start number : ℕ) (said_before said : Option (List ℕ)) (kept : List A)
+        (is_whole : Bool) : Type 0 where
+      pub lines : List (List ℕ)
+      pub gives : GivesLines before after lines
+      pub counted : number ≡ line_number (start + length lines)
+      pub left_out : List (LeftOut P)
+      pub goes_on : (rest : List (List ℕ)) (more : List A) (others : List (LeftOut P))
+          → AreKept Says IsWrong kept (start + length lines + 1) rest more others
+          → AreKept Says IsWrong [] (start + 1) (lines ++ rest) (kept ++ more) (left_out ++ others)
+      pub complains : Complains words left_out said_before said
+      pub whole : is_whole ≡ none_left_out left_out
+
+    unfoldable pub none_so_far : (a : Option (List ℕ)) (n : ℕ) (said : Option (List ℕ)) → n < 2 ^ 64 → KeptSoFar a a n n said said [] true
+    none_so_far a n said small = record {
+      lines = [];
+      gives = gives_none a;
+      counted = omega (arith, small);
+      left_out = [];
+      goes_on = λ rest more others h. at_number _ _ [] rest more others (omega arith) h;
+      complains = complains_none words said;
+      whole = refl;
+    }
+
+    -- what is kept of the lines so far, if there are no more
+    pub are_kept : (a b : Option (List ℕ)) (start number : ℕ) (c d : Option (List ℕ)) (kept : List A) (w : Bool)
+        (s : KeptSoFar a b start number c d kept w) → AreKept Says IsWrong [] (start + 1) s.lines kept s.left_out
+    are_kept a b start number c d kept w s =
+        rw (append-nil s.lines, append-nil kept, append-nil s.left_out) at (s.goes_on [] [] [] (refl, refl))
+
+    module _ (a b c : Option (List ℕ)) (start number next : ℕ) (said_before said : Option (List ℕ)) (kept : List A) (w : Bool)
+        (line : List ℕ) (s : KeptSoFar a b start number said_before said kept w) (some : IfSome b (λ unread. unread ≢ []))
+        (first : IfSome b (λ unread. line ≡ first_line unread)) (drops : DropsThrough b c 10) (counts : next ≡ line_number (number + 1))
+      where
+        pub size : length (s.lines ++ line ∷ []) ≡ length s.lines + 1
+        size = length-append s.lines (line ∷ [])
+
+        pub now_counted : next ≡ line_number (start + length (s.lines ++ line ∷ []))
+        now_counted = let before = s.counted in omega (arith, before, counts, size)
+
+        -- one line more, that says x
+        unfoldable pub one_kept : (x : A) → Says kept line x → KeptSoFar a c start next said_before said (kept ++ x ∷ []) w
+        one_kept x says = record {
           lines = s.lines ++ line ∷ [];
           gives = gives_more a b c s.lines line s.gives some first drops;
+          counted = now_counted;
+          left_out = s.left_out;
           goes_on =
-              λ rest more h.
-              subst (λ lines. AreKept Says IsWrong [] lines ((kept ++ x ∷ []) ++ more)) (sym (append_assoc s.lines (line ∷ []) rest))
-              (subst (AreKept Says IsWrong [] (s.lines ++ line ∷ rest)) (sym (append_assoc kept (x ∷ []) more))
-              (s.goes_on (line ∷ rest) (x ∷ more) (inl (x, more, refl, says, h))));
-          few = let few = s.few in omega (arith, few, size, size_kept);
-          whole = s.whole ∙ both_more (length kept) (length s.lines) ∙ rw (size, size_kept) refl;
+              λ rest more others h.
+              let here = at_number _ (start + length s.lines + 1 + 1) _ rest more others (omega (arith, size)) h in
+              rw (append_assoc s.lines (line ∷ []) rest, append_assoc kept (x ∷ []) more)
+              (s.goes_on (line ∷ rest) (x ∷ more) others (inl (x, more, refl, says, here)));
+          complains = s.complains;
+          whole = s.whole;
         }
 
-    -- and one that is wrong
-    unfoldable pub one_left : IsWrong kept line → KeptSoFar a c kept false
-    one_left wrong = record {
-      lines = s.lines ++ line ∷ [];
-      gives = gives_more a b c s.lines line s.gives some first drops;
-      goes_on =
-          λ rest more h.
-          subst (λ lines. AreKept Says IsWrong [] lines (kept ++ more)) (sym (append_assoc s.lines (line ∷ []) rest))
-          (s.goes_on (line ∷ rest) more (inr (wrong, h)));
-      few = let few = s.few in omega (arith, few, size);
-      whole = line_more (length kept) (length s.lines) s.few ∙ rw size refl;
-    }
+        -- and one that is left out, as is said
+        unfoldable pub one_left : (said_after : Option (List ℕ)) (problem : P) → IsWrong kept line problem
+            → IfSome (words problem) (λ why. Appends said said_after (complaint next why))
+            → KeptSoFar a c start next said_before said_after kept false
+        one_left said_after problem wrong says =
+            let left : LeftOut P = record { number = next; problem = problem } in
+            record {
+              lines = s.lines ++ line ∷ [];
+              gives = gives_more a b c s.lines line s.gives some first drops;
+              counted = now_counted;
+              left_out = s.left_out ++ left ∷ [];
+              goes_on =
+                  λ rest more others h.
+                  let here = at_number _ (start + length s.lines + 1 + 1) kept rest more others (omega (arith, size)) h in
+                  let before = s.counted in
+                  let same : next ≡ line_number (start + length s.lines + 1) = omega (arith, before, counts) in
+                  let first = ap (λ k. record { number = k; problem = problem } ∷ others) same in
+                  rw (append_assoc s.lines (line ∷ []) rest, append_assoc s.left_out (left ∷ []) others)
+                  (s.goes_on (line ∷ rest) more (left ∷ others) (inr (problem, others, first, wrong, here)));
+              complains =
+                  complains_both words s.left_out (left ∷ []) said_before said said_after s.complains
+                  (complains_one words next problem said said_after says);
+              whole = one_of_both s.left_out left;
+            }

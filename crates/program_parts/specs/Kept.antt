@@ -1,11 +1,18 @@
--- What is kept of lines, one after another.
-use Rattle.std.specs.Prelude.{◌≡◌, ℕ, List, [], ◌∷◌, ◌++◌, ◌⊎◌}
+-- What is kept of lines, one after another, and which are left out.
+use Rattle.std.specs.Prelude.{◌≡◌, ℕ, ◌+◌, ◌-◌, ◌^◌, List, [], ◌∷◌, ◌++◌, ◌⊎◌, min}
+use Rattle.program_parts.specs.Complaints.{LeftOut}
 
--- Says before line x: the line says x, where these are kept before it; IsWrong before line: it says nothing that can be kept.
-module _ {A : Type 0} (Says : List A → List ℕ → A → Type 0) (IsWrong : List A → List ℕ → Type 0) where
-  -- these are kept of the lines, in order: of each line what it says, and nothing of one that is wrong
-  abbrev pub AreKept : List A → List (List ℕ) → List A → Type 0
-  AreKept before [] kept = kept ≡ []
-  AreKept before (line ∷ lines) kept =
-      ((x : A) × (more : List A) × (kept ≡ x ∷ more) × Says before line x × AreKept (before ++ x ∷ []) lines more)
-      ⊎ (IsWrong before line × AreKept before lines kept)
+-- the number that a line has: all behind the line of the greatest number of 64 bits have this one too
+abbrev pub line_number : ℕ → ℕ
+line_number n = min n (2 ^ 64 - 1)
+
+-- Says before line x: the line says x, where these are kept before it; IsWrong before line problem: this is wrong with it
+module _ {A P : Type 0} (Says : List A → List ℕ → A → Type 0) (IsWrong : List A → List ℕ → P → Type 0) where
+  -- these are kept of lines whose first has the number n, in order: of each line what it says, or it is left out
+  abbrev pub AreKept : List A → ℕ → List (List ℕ) → List A → List (LeftOut P) → Type 0
+  AreKept before n [] kept left_out = (kept ≡ []) × (left_out ≡ [])
+  AreKept before n (line ∷ lines) kept left_out =
+      ((x : A) × (more : List A) × (kept ≡ x ∷ more) × Says before line x
+      × AreKept (before ++ x ∷ []) (n + 1) lines more left_out)
+      ⊎ ((problem : P) × (more : List (LeftOut P)) × (left_out ≡ record { number = line_number n; problem = problem } ∷ more)
+      × IsWrong before line problem × AreKept before (n + 1) lines kept more)

@@ -1,5 +1,5 @@
--- The lines of an input, and what is said of one that is left out.
-use Rattle.std.specs.Prelude.{◌≡◌, ◌≢◌, ℕ, List, [], ◌∷◌, ◌++◌, codes, decimal, Option, None, Some}
+-- The lines of an input.
+use Rattle.std.specs.Prelude.{◌≡◌, ◌≢◌, ℕ, List, [], ◌∷◌, ◌++◌, Option, None, Some}
 use Rattle.std.specs.Io.BufRead.{first_line, drop_through}
 
 -- these are the lines of the bytes: each is the first line, as the standard library's `lines` gives it, of what those before it leave
@@ -12,7 +12,3 @@ abbrev pub GivesLines : Option (List ℕ) → Option (List ℕ) → List (List �
 GivesLines None after given = Unit {0}
 GivesLines (Some bytes) None given = ⊥
 GivesLines (Some bytes) (Some left) given = (lines : List (List ℕ)) → AreLines left lines → AreLines bytes (given ++ lines)
-
--- the line of this number is left out, and why
-abbrev pub complaint : ℕ → List ℕ → List ℕ
-complaint number why = codes "line " ++ (decimal number ++ (codes " is left out: " ++ (why ++ 10 ∷ [])))

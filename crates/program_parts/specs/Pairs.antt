@@ -33,9 +33,9 @@ pub record Says (line : List ℕ) (first second : ℕ) : Type 0 where
   pub first_is : IsNumber 32 (first_text line) first
   pub second_is : IsNumber 64 (second_text line) second
 
--- this is wrong with the line, where what the cases before it look at is right
+-- this is wrong with the line, and nothing that the cases before it name
 abbrev pub IsWrong : List ℕ → PairError → Type 0
 IsWrong line NoText = IsUtf8 line → ⊥
-IsWrong line NoComma = HasComma line → ⊥
-IsWrong line First = HasComma line × IsNoNumber 32 (first_text line)
-IsWrong line Second = (n : ℕ) × HasComma line × IsNumber 32 (first_text line) n × IsNoNumber 64 (second_text line)
+IsWrong line NoComma = IsUtf8 line × (HasComma line → ⊥)
+IsWrong line First = IsUtf8 line × HasComma line × IsNoNumber 32 (first_text line)
+IsWrong line Second = (n : ℕ) × IsUtf8 line × HasComma line × IsNumber 32 (first_text line) n × IsNoNumber 64 (second_text line)

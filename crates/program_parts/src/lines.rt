@@ -2,7 +2,7 @@
 ghost use Rattle.std.specs.Prelude.{◌≡◌, ◌≢◌, ◌↔◌, ◌+◌, [], min, IfOk, IfSome, IsTrue, OnOk};
 ghost use Rattle.std.specs.Io.BufRead.{DropsThrough, ends_with_byte, first_line, strip_last};
 ghost use Rattle.std.specs.Io.KnownBytes.{Appends};
-ghost use Rattle.program_parts.specs.Lines.{complaint};
+ghost use Rattle.program_parts.specs.Complaints.{complaint};
 
 use std::alloc::Global;
 use std::fmt::Display;

@@ -1,5 +1,5 @@
 //! The status with which a program ends.
-ghost use Rattle.std.specs.Prelude.{◌≡◌, Ok, true};
+ghost use Rattle.std.specs.Prelude.{◌≡◌, ◌≤◌, ◌↔◌, Ok, true, OnOk};
 
 use std::io;
 use std::io::Write;
@@ -7,7 +7,9 @@ use std::io::Write;
 /// The status of a program of this name that did what it was asked: 0 where nothing was left out, and else 1. Where it failed, a
 /// line of complaint says so, and why.
 pub fn status_of<E: Write>(name: &str, done: io::Result<bool>, complaints: &mut E) -> u8
-    ensures { result ≡ 0 → done ≡ Ok true }
+    ensures whole { (result ≡ 0) ↔ (done ≡ Ok true) }
+    ensures most { result ≤ 1 }
+    ensures silent { OnOk done (E.contents complaints.new ≡ E.contents complaints.old) }
 {
     match done {
         Ok(true) => 0,

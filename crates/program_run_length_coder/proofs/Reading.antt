@@ -5,17 +5,21 @@ use Rattle.program_parts.proofs.Given.{gives_all}
 use Rattle.program_parts.proofs.KeptSoFar.{KeptSoFar, are_kept}
 use Rattle.program_run_length_coder.specs.Coding.{copies}
 use Rattle.program_run_length_coder.specs.Decoded.{SaysRun, IsNoRun, Decodes}
+use Rattle.program_run_length_coder.specs.Words.{words}
 use Rattle.program_run_length_coder.specs.declared.runs.Run.{Run}
 
 -- all lines are decoded where no more come
-pub decodes : (a b before after : Option (List ℕ)) (runs : List Run) (w : Bool) → Appends before after (flat_map copies runs)
-    → KeptSoFar SaysRun IsNoRun a b runs w → IsAtEnd b → IfSome a (λ bytes. Decodes bytes w before after)
-decodes None b before after runs w writes s end = tt
-decodes (Some bytes) b before after runs w writes s end = record {
+pub decodes : (a b : Option (List ℕ)) (n : ℕ) (c d before after : Option (List ℕ)) (runs : List Run) (w : Bool)
+    → Appends before after (flat_map copies runs) → KeptSoFar SaysRun IsNoRun words a b 0 n c d runs w → IsAtEnd b
+    → IfSome a (λ bytes. Decodes bytes w before after c d)
+decodes None b n c d before after runs w writes s end = tt
+decodes (Some bytes) b n c d before after runs w writes s end = record {
   lines = s.lines;
   are_lines = gives_all (Some bytes) b s.lines s.gives end;
   runs = runs;
-  are_kept = are_kept SaysRun IsNoRun (Some bytes) b runs w s;
-  whole = s.whole;
+  left_out = s.left_out;
+  are_kept = are_kept SaysRun IsNoRun words (Some bytes) b 0 n c d runs w s;
   writes = writes;
+  complains = s.complains;
+  whole = s.whole;
 }

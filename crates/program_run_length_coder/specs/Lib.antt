@@ -1,3 +1,4 @@
 pub mod Coding
 pub mod Decoded
 pub mod Lines
+pub mod Words

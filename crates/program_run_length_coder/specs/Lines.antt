@@ -27,9 +27,10 @@ pub record Says (text : List ℕ) (count byte : ℕ) : Type 0 where
   pub some : 0 < count
   pub byte_is : IsNumber 8 (byte_text text) byte
 
--- this is wrong with the text, where what the cases before it look at is right
+-- this is wrong with the text, and nothing that the cases before it name
 abbrev pub IsWrong : List ℕ → RunError → Type 0
 IsWrong text NoRun = IsUtf8 text → HasSpace text → ⊥
-IsWrong text NoCount = HasSpace text × IsNoNumber 64 (count_text text)
-IsWrong text Zero = HasSpace text × IsNumber 64 (count_text text) 0
-IsWrong text NoByte = (n : ℕ) × HasSpace text × IsNumber 64 (count_text text) n × (0 < n) × IsNoNumber 8 (byte_text text)
+IsWrong text NoCount = IsUtf8 text × HasSpace text × IsNoNumber 64 (count_text text)
+IsWrong text Zero = IsUtf8 text × HasSpace text × IsNumber 64 (count_text text) 0
+IsWrong text NoByte =
+    (n : ℕ) × IsUtf8 text × HasSpace text × IsNumber 64 (count_text text) n × (0 < n) × IsNoNumber 8 (byte_text text)

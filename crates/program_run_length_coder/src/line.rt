@@ -15,6 +15,10 @@ pub enum RunError {
 }
 
 impl fmt::Display for RunError {
+    ghost use Rattle.program_run_length_coder.specs.Words.{words};
+
+    ghost output = { words };
+
     fn fmt<W: fmt::Write>(&self, f: &mut fmt::Formatter<W>) -> fmt::Result {
         match self {
             RunError::NoRun => write!(f, "it is no run: two numbers with a space between them"),

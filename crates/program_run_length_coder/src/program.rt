@@ -52,7 +52,8 @@ pub fn run<R: BufRead, W: Write, E: Write>(
 
     // Of any input, where each line says a run.
     ensures decodes_any { map string_bytes words.now ≡ codes "decode" ∷ [] → result ≡ 0 → IfSome (R.remaining input.old)
-        (λ bytes. Decodes bytes true (W.contents out.old) (W.contents out.new)) }
+        (λ bytes. Decodes bytes true (W.contents out.old) (W.contents out.new)
+        (E.contents complaints.old) (E.contents complaints.new)) }
 
     // Of what bytes were coded as.
     ensures decodes { map string_bytes words.now ≡ codes "decode" ∷ [] → result ≡ 0
@@ -90,7 +91,8 @@ fn decode_all<R: BufRead, W: Write, E: Write>(
     complaints: &mut E,
 ) -> io::Result<bool>
     ensures any { IfOk result (λ are_runs. IfSome (R.remaining input.old)
-        (λ bytes. Decodes bytes are_runs (W.contents out.old) (W.contents out.new))) }
+        (λ bytes. Decodes bytes are_runs (W.contents out.old) (W.contents out.new)
+        (E.contents complaints.old) (E.contents complaints.new))) }
     ensures again { (bytes : List ℕ) → All (λ byte. byte < 2 ^ 8) bytes → length bytes < 2 ^ 64
         → R.remaining input.old ≡ Some (coded bytes)
         → IfOk result (λ are_runs. IsTrue are_runs × Appends (W.contents out.old) (W.contents out.new) bytes) }

@@ -3,3 +3,4 @@ pub mod Joins
 pub mod Kinds
 pub mod Rows
 pub mod Runs
+pub mod Words

@@ -65,9 +65,11 @@ pub fn run<R: BufRead + Drop, W: Write, E: Write>(
     complaints: &mut E,
 ) -> u8
     ensures inner { words.now ≡ [] → result ≡ 0 → IfSome (R.remaining input)
-        (λ bytes. Joins Inner bytes true (W.contents out.old) (W.contents out.new)) }
+        (λ bytes. Joins Inner bytes true (W.contents out.old) (W.contents out.new)
+        (E.contents complaints.old) (E.contents complaints.new)) }
     ensures named { (kind : Kind) → map string_bytes words.now ≡ name_of kind ∷ [] → result ≡ 0
-        → IfSome (R.remaining input) (λ bytes. Joins kind bytes true (W.contents out.old) (W.contents out.new)) }
+        → IfSome (R.remaining input) (λ bytes. Joins kind bytes true (W.contents out.old) (W.contents out.new)
+        (E.contents complaints.old) (E.contents complaints.new)) }
 {
     let done = match task_of(words) {
         Some(Task::Join(kind)) => join_tables(alloc, kind, input, out, complaints),

@@ -2,7 +2,7 @@ use Rattle.std.proofs.Common.{ℕ, List, [], ◌∷◌, Option, None, Some, IfSo
 use Rattle.std.specs.Fmt.{◌++?◌}
 use Rattle.std.specs.Io.KnownBytes.{Appends}
 use Rattle.std.proofs.lemmas.Result.{IfOk-weaker}
-use Rattle.program_parts.specs.Lines.{complaint}
+use Rattle.program_parts.specs.Complaints.{complaint}
 use Rattle.program_parts.proofs.lines.complain.Goals as goal
 
 -- the text is known where that of the problem is

@@ -1,0 +1,11 @@
+-- What is said of a line that is no row.
+use Rattle.std.specs.Prelude.{ℕ, List, codes, Option, Some}
+use Rattle.program_parts.specs.declared.pairs.PairError.{PairError}
+use Rattle.program_parts.specs.declared.pairs.PairError.TheVariants.{NoText, NoComma, First, Second}
+
+-- what is wrong with it
+abbrev pub words : PairError → Option (List ℕ)
+words NoText = Some (codes "it is not UTF-8")
+words NoComma = Some (codes "it has no comma")
+words First = Some (codes "its department is no number of 32 bits")
+words Second = Some (codes "its amount is no number of 64 bits")
