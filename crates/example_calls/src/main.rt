@@ -11,6 +11,7 @@ mod numbers;
 mod offsets;
 mod rest;
 mod returned;
+mod searches;
 
 use closures::{Entry, Within};
 use returned::RunReader;
@@ -55,6 +56,7 @@ fn main(rt: HostRuntime) -> io::Result<()> {
     )?;
 
     offsets::print_all(&rt)?;
+    searches::print_all(&rt)?;
 
     let near = [1, 2, 4, 9, 9, 20];
     let counts = (

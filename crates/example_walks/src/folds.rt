@@ -1,10 +1,23 @@
-//! What a loop over groups keeps: a total, and one of the groups.
-ghost use Rattle.std.specs.Prelude.{◌≡◌, [], drop, length, sum_by, take, IfSome, MatchOption};
+//! What a loop over groups keeps: a count, a total, and one of the groups.
+ghost use Rattle.std.specs.Prelude.{◌≡◌, [], drop, length, nat_eq, sum_by, take, IfSome, MatchOption};
 ghost use Rattle.slice_group_by.specs.Split.{split};
 ghost use Rattle.example_walks.specs.LongGroups.{IsLongest};
 
-use slice_group_by::laws::{one_split, pieces_add_up, sees_pieces};
+use slice_group_by::laws::{calls_take_pieces, one_split, pieces_add_up, sees_pieces};
 use slice_group_by::{LinearGroup, with_offsets};
+
+/// How many groups there are, one call after another from the back.
+pub fn count_by_calls(xs: &[u32]) -> usize
+    ensures { result ≡ length (split nat_eq xs.now) }
+{
+    let mut groups = LinearGroup::new(xs);
+    calls_take_pieces(&groups);
+    let mut count = 0usize;
+    while let Some(_) = groups.next_back() {
+        count += 1;
+    }
+    count
+}
 
 /// The sum of the numbers, group by group, if it is a number of 64 bits.
 pub fn total_by_groups(xs: &[u32]) -> Option<u64>

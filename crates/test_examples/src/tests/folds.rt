@@ -1,9 +1,10 @@
-//! A total over groups, and the longest one.
-use example_walks::folds::{longest_group, longest_with_row, total_by_groups};
+//! How many groups there are, a total over them, and the longest one.
+use example_walks::folds::{count_by_calls, longest_group, longest_with_row, total_by_groups};
 
 #[test]
 fn folds(rt: HostRuntime) {
     let slice = [1u32, 1, 2, 3, 3, 3, 4];
+    assert_eq!(rt; count_by_calls(&slice), 4);
     assert_eq!(rt; total_by_groups(&slice), Some(17));
     assert_eq!(rt; total_by_groups(&[]), Some(0));
     assert_eq!(rt; longest_group(&slice), Some(&[3u32, 3, 3][..]));

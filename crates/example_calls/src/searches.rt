@@ -1,0 +1,19 @@
+//! Rows of one key in sorted rows.
+use slice_group_by::{exponential_equal_range_by_key, exponential_partition_point};
+use std::io;
+
+/// All rows of the key, and the index at which they begin.
+pub fn rows_of(rows: &[(u32, u64)], key: u32) -> (usize, &[(u32, u64)]) {
+    (
+        exponential_partition_point(rows, |row| row.0 < key),
+        exponential_equal_range_by_key(rows, &key, |row| row.0),
+    )
+}
+
+/// Prints what these give.
+pub fn print_all(rt: &impl Print) -> io::Result<()> {
+    println!(rt;
+        "searches: {:?}",
+        rows_of(&[(1, 5), (2, 6), (2, 7), (4, 8)], 2)
+    )
+}
