@@ -4,7 +4,7 @@ use crate::entry::Entry;
 use crate::program::run;
 use crate::sums::Sums;
 use std::io;
-use std::io::Write;
+use std::io::{BufWriter, Write};
 use std::test::Fail;
 
 // Takes nothing.
@@ -99,13 +99,22 @@ fn failed_output_is_said(rt: HostRuntime) -> Result<(), Fail> {
         run(rt.alloc(), &[], input, &mut Unflushed, &mut complaints),
         1
     );
+    // What is written stands in the buffer until it is flushed.
+    let mut buffered = BufWriter::new(rt.alloc(), Closed)?;
+    assert_eq!(rt;
+        run(rt.alloc(), &[], input, &mut buffered, &mut complaints),
+        1
+    );
     let help = [String::from_str(rt.alloc(), "--help")?];
     assert_eq!(rt;
         run(rt.alloc(), &help, input, &mut Unflushed, &mut complaints),
         1
     );
-    let said =
-        b"grouped_report: broken pipe\ngrouped_report: broken pipe\ngrouped_report: broken pipe\n".as_slice();
+    let said = b"grouped_report: broken pipe\n\
+        grouped_report: broken pipe\n\
+        grouped_report: broken pipe\n\
+        grouped_report: broken pipe\n"
+        .as_slice();
     assert_eq!(rt; complaints.as_slice(), said);
     Ok(())
 }
@@ -130,7 +139,12 @@ fn arguments_are_known_or_refused(rt: HostRuntime) -> Result<(), Fail> {
         String::from_str(rt.alloc(), "--help")?,
     ];
     assert_eq!(rt; run(rt.alloc(), &more, input, &mut out, &mut complaints), 2);
+    for word in ["", "--", "--helps"] {
+        let unknown = [String::from_str(rt.alloc(), word)?];
+        let status = run(rt.alloc(), &unknown, input, &mut out, &mut complaints);
+        assert_eq!(rt; status, 2);
+    }
     assert_eq!(rt; out.len(), usage_len);
-    assert_eq!(rt; complaints.len(), usage_len.saturating_mul(2));
+    assert_eq!(rt; complaints.len(), usage_len.saturating_mul(5));
     Ok(())
 }

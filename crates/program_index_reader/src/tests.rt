@@ -4,7 +4,7 @@ use crate::entry::Entry;
 use crate::lookup::entries_of;
 use crate::program::run;
 use std::io;
-use std::io::Write;
+use std::io::{BufWriter, Write};
 use std::test::Fail;
 
 // Takes nothing.
@@ -120,13 +120,22 @@ fn failed_output_is_said(rt: HostRuntime) -> Result<(), Fail> {
         run(rt.alloc(), &[], input, &mut Unflushed, &mut complaints),
         1
     );
+    // What is written stands in the buffer until it is flushed.
+    let mut buffered = BufWriter::new(rt.alloc(), Closed)?;
+    assert_eq!(rt;
+        run(rt.alloc(), &[], input, &mut buffered, &mut complaints),
+        1
+    );
     let help = [String::from_str(rt.alloc(), "--help")?];
     assert_eq!(rt;
         run(rt.alloc(), &help, input, &mut Unflushed, &mut complaints),
         1
     );
-    let said =
-        b"index_reader: broken pipe\nindex_reader: broken pipe\nindex_reader: broken pipe\n".as_slice();
+    let said = b"index_reader: broken pipe\n\
+        index_reader: broken pipe\n\
+        index_reader: broken pipe\n\
+        index_reader: broken pipe\n"
+        .as_slice();
     assert_eq!(rt; complaints.as_slice(), said);
     Ok(())
 }
@@ -151,7 +160,12 @@ fn arguments_are_known_or_refused(rt: HostRuntime) -> Result<(), Fail> {
         String::from_str(rt.alloc(), "--help")?,
     ];
     assert_eq!(rt; run(rt.alloc(), &more, input, &mut out, &mut complaints), 2);
+    for word in ["", "--", "--helps"] {
+        let unknown = [String::from_str(rt.alloc(), word)?];
+        let status = run(rt.alloc(), &unknown, input, &mut out, &mut complaints);
+        assert_eq!(rt; status, 2);
+    }
     assert_eq!(rt; out.len(), usage_len);
-    assert_eq!(rt; complaints.len(), usage_len.saturating_mul(2));
+    assert_eq!(rt; complaints.len(), usage_len.saturating_mul(5));
     Ok(())
 }

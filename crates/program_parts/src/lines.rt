@@ -43,6 +43,7 @@ impl<R: BufRead> Lines<R> {
         ensures rest { OnOk result
             (DropsThrough (R.remaining self.old.reader) (R.remaining self.new.reader) 10) }
         ensures number { IfOk result (λ found. IsTrue found → self.new.number ≡ min (self.old.number + 1) u64.MAX) }
+        ensures kept { IfOk result (λ found. (IsTrue found → ⊥) → self.new.number ≡ self.old.number) }
     {
         let found = read_line(&mut self.reader, &mut self.line)?;
         if found {

@@ -105,7 +105,7 @@ fn decode_all<R: BufRead, W: Write, E: Write>(
 #[cfg(test)]
 mod tests {
     use super::*;
-    use std::io::{BufReader, Error, ErrorKind, Read};
+    use std::io::{BufReader, BufWriter, Error, ErrorKind, Read};
     use std::test::Fail;
 
     /// Gives one byte a read, and then fails or ends.
@@ -202,9 +202,14 @@ mod tests {
         let mut input: &[u8] = b"aab";
         let status = run(rt.alloc(), &[], &mut input, &mut Closed, &mut complaints);
         assert_eq!(rt; status, 1);
+        // What is written stands in the buffer until it is flushed.
+        let mut rest: &[u8] = b"a\nb";
+        let mut buffered = BufWriter::new(rt.alloc(), Closed)?;
+        let status = run(rt.alloc(), &[], &mut rest, &mut buffered, &mut complaints);
+        assert_eq!(rt; status, 1);
         assert_eq!(rt;
             complaints.as_slice(),
-            b"program_run_length_coder: broken pipe\n".as_slice()
+            b"program_run_length_coder: broken pipe\nprogram_run_length_coder: broken pipe\n".as_slice()
         );
         Ok(())
     }
@@ -256,6 +261,19 @@ mod tests {
         ];
         assert_eq!(rt;
             run(rt.alloc(), &more, &mut input, &mut out, &mut complaints),
+            2
+        );
+        for word in ["", "--", "--helps", "decoded"] {
+            let unknown = [String::from_str(rt.alloc(), word)?];
+            let status = run(rt.alloc(), &unknown, &mut input, &mut out, &mut complaints);
+            assert_eq!(rt; status, 2);
+        }
+        let file = [
+            String::from_str(rt.alloc(), "decode")?,
+            String::from_str(rt.alloc(), "runs")?,
+        ];
+        assert_eq!(rt;
+            run(rt.alloc(), &file, &mut input, &mut out, &mut complaints),
             2
         );
         Ok(())

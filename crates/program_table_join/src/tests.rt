@@ -3,7 +3,7 @@
 use crate::program::run;
 use program_parts::lines::Lines;
 use std::io;
-use std::io::Write;
+use std::io::{BufWriter, Write};
 use std::test::Fail;
 
 // Takes nothing.
@@ -145,13 +145,22 @@ fn failed_output_is_said(rt: HostRuntime) -> Result<(), Fail> {
         run(rt.alloc(), &[], input, &mut Unflushed, &mut complaints),
         1
     );
+    // What is written stands in the buffer until it is flushed.
+    let mut buffered = BufWriter::new(rt.alloc(), Closed)?;
+    assert_eq!(rt;
+        run(rt.alloc(), &[], input, &mut buffered, &mut complaints),
+        1
+    );
     let help = [String::from_str(rt.alloc(), "--help")?];
     assert_eq!(rt;
         run(rt.alloc(), &help, input, &mut Unflushed, &mut complaints),
         1
     );
-    let said =
-        b"table_join: broken pipe\ntable_join: broken pipe\ntable_join: broken pipe\n".as_slice();
+    let said = b"table_join: broken pipe\n\
+        table_join: broken pipe\n\
+        table_join: broken pipe\n\
+        table_join: broken pipe\n"
+        .as_slice();
     assert_eq!(rt; complaints.as_slice(), said);
     Ok(())
 }
@@ -176,7 +185,52 @@ fn arguments_are_known_or_refused(rt: HostRuntime) -> Result<(), Fail> {
         String::from_str(rt.alloc(), "--help")?,
     ];
     assert_eq!(rt; run(rt.alloc(), &more, input, &mut out, &mut complaints), 2);
+    for word in ["", "--", "--helps"] {
+        let unknown = [String::from_str(rt.alloc(), word)?];
+        let status = run(rt.alloc(), &unknown, input, &mut out, &mut complaints);
+        assert_eq!(rt; status, 2);
+    }
     assert_eq!(rt; out.len(), usage_len);
-    assert_eq!(rt; complaints.len(), usage_len.saturating_mul(2));
+    assert_eq!(rt; complaints.len(), usage_len.saturating_mul(5));
+    Ok(())
+}
+
+#[test]
+fn joins_of_each_kind(rt: HostRuntime) -> Result<(), Fail> {
+    let input = b"a,1\nb,2\n--\nb,3\nc,4\n".as_slice();
+    let joins = [
+        ("inner", b"b,2,3\n".as_slice()),
+        ("left", b"a,1,\nb,2,3\n"),
+        ("full", b"a,1,\nb,2,3\nc,,4\n"),
+        ("semi", b"b,2\n"),
+        ("anti", b"a,1\n"),
+    ];
+    for (kind, want) in joins {
+        let mut out = Vec::new(rt.alloc());
+        let mut complaints = Vec::new(rt.alloc());
+        let words = [String::from_str(rt.alloc(), kind)?];
+        let status = run(rt.alloc(), &words, input, &mut out, &mut complaints);
+        assert_eq!(rt; status, 0);
+        assert_eq!(rt; out.as_slice(), want);
+        assert!(rt; complaints.is_empty());
+    }
+    Ok(())
+}
+
+// Of a key that is not ASCII no contract says how it is written.
+#[test]
+fn names_keys_beyond_ascii(rt: HostRuntime) -> Result<(), Fail> {
+    let mut out = Vec::new(rt.alloc());
+    let mut complaints = Vec::new(rt.alloc());
+    let input = b"\xc3\xa9,1\n\xc3\xa4,2\na,3\n--\nz,4\n".as_slice();
+    let anti = [String::from_str(rt.alloc(), "anti")?];
+    let status = run(rt.alloc(), &anti, input, &mut out, &mut complaints);
+    let said =
+        b"line 2 is left out: its key \"\xc3\xa4\" is lower than \"\xc3\xa9\", the greatest before it\n\
+        line 3 is left out: its key \"a\" is lower than \"\xc3\xa9\", the greatest before it\n"
+            .as_slice();
+    assert_eq!(rt; status, 1);
+    assert_eq!(rt; out.as_slice(), b"\xc3\xa9,1\n".as_slice());
+    assert_eq!(rt; complaints.as_slice(), said);
     Ok(())
 }

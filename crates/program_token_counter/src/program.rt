@@ -76,7 +76,7 @@ fn report_tokens<R: Read, W: Write>(alloc: Global, input: &mut R, out: &mut W) -
 #[cfg(test)]
 mod tests {
     use super::*;
-    use std::io::{Error, ErrorKind};
+    use std::io::{BufWriter, Error, ErrorKind};
     use std::test::Fail;
 
     /// Gives one byte a read, and then fails.
@@ -217,9 +217,14 @@ mod tests {
         let mut input: &[u8] = b"a\nb";
         let status = run(rt.alloc(), &[], &mut input, &mut Closed, &mut complaints);
         assert_eq!(rt; status, 1);
+        // What is written stands in the buffer until it is flushed.
+        let mut rest: &[u8] = b"a\nb";
+        let mut buffered = BufWriter::new(rt.alloc(), Closed)?;
+        let status = run(rt.alloc(), &[], &mut rest, &mut buffered, &mut complaints);
+        assert_eq!(rt; status, 1);
         assert_eq!(rt;
             complaints.as_slice(),
-            b"program_token_counter: broken pipe\n".as_slice()
+            b"program_token_counter: broken pipe\nprogram_token_counter: broken pipe\n".as_slice()
         );
         Ok(())
     }
@@ -273,6 +278,11 @@ mod tests {
             run(rt.alloc(), &more, &mut input, &mut out, &mut complaints),
             2
         );
+        for word in ["", "--", "--helps"] {
+            let unknown = [String::from_str(rt.alloc(), word)?];
+            let status = run(rt.alloc(), &unknown, &mut input, &mut out, &mut complaints);
+            assert_eq!(rt; status, 2);
+        }
         Ok(())
     }
 }

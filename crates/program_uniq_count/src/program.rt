@@ -66,7 +66,7 @@ fn count_all<R: BufRead, W: Write>(alloc: Global, input: &mut R, out: &mut W) ->
 #[cfg(test)]
 mod tests {
     use super::*;
-    use std::io::{BufReader, Error, ErrorKind, Read};
+    use std::io::{BufReader, BufWriter, Error, ErrorKind, Read};
     use std::test::Fail;
 
     /// Gives one byte a read, and then fails.
@@ -76,7 +76,7 @@ mod tests {
     impl Read for Failing<'_> {
         fn read(&mut self, buffer: &mut [u8]) -> io::Result<usize> {
             let [byte, rest @ ..] = self.0 else {
-                return Err(Error::new(ErrorKind::Other, "no more can be read"));
+                return Err(Error::new(ErrorKind::InvalidData, "no more can be read"));
             };
             let Some(first) = buffer.first_mut() else {
                 return Ok(0);
@@ -164,9 +164,14 @@ mod tests {
         let mut input: &[u8] = b"a\nb";
         let status = run(rt.alloc(), &[], &mut input, &mut Closed, &mut complaints);
         assert_eq!(rt; status, 1);
+        // What is written stands in the buffer until it is flushed.
+        let mut rest: &[u8] = b"a\nb";
+        let mut buffered = BufWriter::new(rt.alloc(), Closed)?;
+        let status = run(rt.alloc(), &[], &mut rest, &mut buffered, &mut complaints);
+        assert_eq!(rt; status, 1);
         assert_eq!(rt;
             complaints.as_slice(),
-            b"program_uniq_count: broken pipe\n".as_slice()
+            b"program_uniq_count: broken pipe\nprogram_uniq_count: broken pipe\n".as_slice()
         );
         Ok(())
     }
@@ -220,6 +225,11 @@ mod tests {
             run(rt.alloc(), &more, &mut input, &mut out, &mut complaints),
             2
         );
+        for word in ["", "--", "--helps"] {
+            let unknown = [String::from_str(rt.alloc(), word)?];
+            let status = run(rt.alloc(), &unknown, &mut input, &mut out, &mut complaints);
+            assert_eq!(rt; status, 2);
+        }
         Ok(())
     }
 }
