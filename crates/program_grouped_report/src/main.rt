@@ -1,21 +1,7 @@
-//! Sums the amounts of each department: `program.rt` has what is read and what is written.
-//!
-//! Rows are not kept: they come in blocks of a constant number, and each block is sorted, grouped and added to the sums so
-//! far. What is kept in memory is at most twice the departments and one block, the longest line, and the buffers of the
-//! input and the output.
+//! Sums the amounts of each department in the rows of standard input.
 #![tactic(auto)]
 
-mod entry;
-mod fold;
-mod output;
-mod program;
-mod row;
-mod run;
-mod sums;
-#[cfg(test)]
-mod tests;
-
-use crate::program::run;
+use grouped_report::program::run;
 use std::io::{BufReader, BufWriter};
 use std::process::ExitCode;
 use std::{env, io};

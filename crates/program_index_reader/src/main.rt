@@ -1,19 +1,7 @@
-//! Looks keys up in a sorted index: `program.rt` has what is read and what is written.
-//!
-//! What is kept in memory is the index, the longest line, and the buffers of the input and the output. A query takes time
-//! in proportion to the logarithm of the length of the index, and to what it finds.
+//! Looks keys up in a sorted index, both from standard input.
 #![tactic(auto)]
 
-mod entry;
-mod index;
-mod lookup;
-mod output;
-mod program;
-mod run;
-#[cfg(test)]
-mod tests;
-
-use crate::program::run;
+use index_reader::program::run;
 use std::io::{BufReader, BufWriter};
 use std::process::ExitCode;
 use std::{env, io};

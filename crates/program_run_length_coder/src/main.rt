@@ -1,17 +1,10 @@
-//! Codes the bytes of standard input as runs, a line a run, block by block: input of any size, in the memory of one block. With the
-//! argument `decode` it reads such lines, and writes the bytes again.
+//! Codes the bytes of standard input as runs, a line a run: input of any size, in the memory of one block. With the argument
+//! `decode` it reads such lines, and writes the bytes again.
 //!
-//! The stored input is a portable bitmap of 96 by 64 pixels, in which a pixel is black where it lies within 30 pixels
-//! of the middle: `1` in column x of row y where (x - 48)^2 + (y - 32)^2 <= 900, and else `0`.
+//! The stored input is lines of runs, of which some say none.
 #![tactic(auto)]
 
-mod decoder;
-mod encoder;
-mod line;
-mod program;
-mod runs;
-
-use program::run;
+use run_length_coder::program::run;
 use std::io::{BufReader, BufWriter};
 use std::process::ExitCode;
 use std::{env, io};

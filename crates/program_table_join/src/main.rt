@@ -1,24 +1,10 @@
-//! Joins two tables that are sorted by their keys. The keys are texts that ascend byte by byte, and one may stand several
-//! times. `program.rt` has what is read and what is written.
-//!
-//! Each row of the join goes out as it is found. What is kept in memory is the two tables, the longest line and the
-//! buffers of the input and the output.
+//! Joins two tables of standard input that are sorted by their keys.
 #![tactic(auto)]
 
-mod join;
-mod kind;
-mod output;
-mod program;
-mod row;
-mod run;
-mod table;
-#[cfg(test)]
-mod tests;
-
-use crate::program::run;
 use std::io::{BufReader, BufWriter};
 use std::process::ExitCode;
 use std::{env, io};
+use table_join::program::run;
 
 fn main(rt: HostRuntime) -> io::Result<ExitCode> {
     let words: Vec<String> = env::args(&rt)?.skip(1).collect(rt.alloc())?;

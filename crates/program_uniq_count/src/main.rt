@@ -1,16 +1,11 @@
 //! Counts equal neighbouring lines of standard input, as `uniq -c` does: input of any size, in the memory of its longest line or of
-//! a block of lines. Lines are bytes up to a line feed; the last needs none.
+//! a block of lines.
 #![tactic(auto)]
 
-mod counter;
-mod lines;
-mod program;
-mod repeated;
-
-use program::run;
 use std::io::{BufReader, BufWriter};
 use std::process::ExitCode;
 use std::{env, io};
+use uniq_count::program::run;
 
 fn main(rt: HostRuntime) -> io::Result<ExitCode> {
     let words: Vec<String> = env::args(&rt)?.skip(1).collect(rt.alloc())?;

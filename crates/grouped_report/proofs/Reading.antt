@@ -1,0 +1,71 @@
+-- What sums say of the rows so far.
+use Rattle.std.proofs.Common.{ℕ, ◌+◌, List, [], ◌∷◌, ◌++◌, Bool, cond, nat_eq, sum_by}
+use Rattle.std.proofs.Common.{flat_map, Option, None, Some, IfSome, refl, sym, ap, ◌∙◌, arith}
+use Rattle.std.specs.Io.KnownBytes.{Appends, IsAtEnd, Keeps}
+use Rattle.std.proofs.lemmas.List.Sums.{sum_by-append}
+use Rattle.program_parts.proofs.Appended.{appends_kept}
+use Rattle.program_parts.proofs.Given.{gives_all}
+use Rattle.program_parts.proofs.KeptSoFar.{KeptSoFar, are_kept}
+use Rattle.grouped_report.specs.declared.entry.Entry.{Entry}
+use Rattle.grouped_report.specs.Departments.{amount, IsReport, SaysTheSame}
+use Rattle.grouped_report.specs.Report.{sum_line, total_line}
+use Rattle.grouped_report.specs.Runs.{SaysRow, IsNoRow, AreRows, Reports}
+use Rattle.grouped_report.specs.Words.{words}
+
+-- entries say what they say themselves, and what others do that say the same
+pub same_self : (xs : List Entry) → SaysTheSame xs xs
+same_self xs = record { known = λ d. refl; amounts = λ d. refl; total = refl }
+
+pub same_then : (xs ys zs : List Entry) → SaysTheSame xs ys → SaysTheSame ys zs → SaysTheSame xs zs
+same_then xs ys zs p q = record {
+  known = λ d. q.known d ∙ p.known d;
+  amounts = λ d. q.amounts d ∙ p.amounts d;
+  total = q.total ∙ p.total;
+}
+
+-- with one row more
+pub same_more : (xs ys : List Entry) (row : Entry) → SaysTheSame xs ys → SaysTheSame (xs ++ row ∷ []) (ys ++ row ∷ [])
+same_more xs ys row p = record {
+  known =
+      λ d.
+      let known = p.known d in
+      let f : Entry → ℕ = λ entry. cond (nat_eq d entry.department) 1 0 in
+      let one = sum_by-append f xs (row ∷ []) in
+      let two = sum_by-append f ys (row ∷ []) in
+      omega (arith, known, one, two);
+  amounts =
+      λ d.
+      let f : Entry → ℕ = λ entry. cond (nat_eq d entry.department) entry.amount 0 in
+      sum_by-append f ys (row ∷ []) ∙ ap (λ n. n + sum_by f (row ∷ [])) (p.amounts d) ∙ sym (sum_by-append f xs (row ∷ []));
+  total =
+      sum_by-append amount ys (row ∷ []) ∙ ap (λ n. n + sum_by amount (row ∷ [])) p.total ∙ sym (sum_by-append amount xs (row ∷ []));
+}
+
+-- the rows are those of the lines where no more come
+pub are_rows : (a b : Option (List ℕ)) (n : ℕ) (c d : Option (List ℕ)) (rows : List Entry) (w : Bool)
+    → KeptSoFar SaysRow IsNoRow words a b 0 n c d rows w → IsAtEnd b
+    → IfSome a (λ bytes. AreRows bytes rows w c d)
+are_rows None b n c d rows w s end = tt
+are_rows (Some bytes) b n c d rows w s end = record {
+  lines = s.lines;
+  are_lines = gives_all (Some bytes) b s.lines s.gives end;
+  left_out = s.left_out;
+  are_rows = are_kept SaysRow IsNoRow words (Some bytes) b 0 n c d rows w s;
+  complains = s.complains;
+  whole = s.whole;
+}
+
+-- their report is written
+pub reports : (a before written after c d : Option (List ℕ)) (rows sums : List Entry) (w : Bool)
+    → IfSome a (λ bytes. AreRows bytes rows w c d) → SaysTheSame rows sums → IsReport sums
+    → Appends before written (flat_map sum_line sums ++ total_line sums) → Keeps written after
+    → IfSome a (λ bytes. Reports bytes w before after c d)
+reports None before written after c d rows sums w read same is_report writes keeps = tt
+reports (Some bytes) before written after c d rows sums w read same is_report writes keeps = record {
+  rows = rows;
+  are_rows = read;
+  sums = sums;
+  same = same;
+  is_report = is_report;
+  writes = appends_kept before written after (flat_map sum_line sums ++ total_line sums) writes keeps;
+}

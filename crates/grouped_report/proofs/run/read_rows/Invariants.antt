@@ -1,0 +1,14 @@
+use Rattle.std.proofs.Common.{List, ◌++◌}
+use Rattle.program_parts.proofs.KeptSoFar.{KeptSoFar}
+use Rattle.grouped_report.specs.Departments.{SaysTheSame}
+use Rattle.grouped_report.specs.Runs.{SaysRow, IsNoRow}
+use Rattle.grouped_report.specs.Words.{words}
+use Rattle.grouped_report.specs.declared.entry.Entry.{Entry}
+use Rattle.grouped_report.proofs.run.read_rows.Given as goal
+
+abbrev pub invariant-loop : goal.invariant-loop
+invariant-loop g l =
+    (rows : List Entry) × SaysTheSame (l.initial.sums ++ rows) l.sums
+    × KeptSoFar SaysRow IsNoRow words (g.R.Read.remaining l.initial.lines.reader)
+    (g.R.Read.remaining l.lines.reader) 0 l.lines.number (g.E.Write.contents l.initial.complaints) (g.E.Write.contents l.complaints)
+    rows l.is_whole

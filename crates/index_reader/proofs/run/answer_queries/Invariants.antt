@@ -1,0 +1,13 @@
+use Rattle.std.proofs.Common.{◌≡◌, ℕ, ◌-◌, ◌^◌, List, length, min}
+use Rattle.std.specs.Io.KnownBytes.{Appends}
+use Rattle.program_parts.proofs.KeptSoFar.{KeptSoFar}
+use Rattle.index_reader.specs.Runs.{SaysQuery, IsNoQuery, answers}
+use Rattle.index_reader.specs.Words.{words}
+use Rattle.index_reader.proofs.run.answer_queries.Given as goal
+
+abbrev pub invariant-loop : goal.invariant-loop
+invariant-loop g l =
+    (keys : List ℕ) × Appends (g.W.Write.contents l.initial.out) (g.W.Write.contents l.out) (answers l.index keys)
+    × (l.queries ≡ min (length keys) (2 ^ 64 - 1))
+    × KeptSoFar SaysQuery IsNoQuery words (g.R.Read.remaining l.initial.lines.reader) (g.R.Read.remaining l.lines.reader)
+    l.initial.lines.number l.lines.number (g.E.Write.contents l.initial.complaints) (g.E.Write.contents l.complaints) keys l.is_whole

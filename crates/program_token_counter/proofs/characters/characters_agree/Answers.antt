@@ -1,5 +1,0 @@
-use Rattle.program_token_counter.proofs.BytesOfCharacters.{bytes_agree}
-use Rattle.program_token_counter.proofs.characters.characters_agree.Goals as goal
-
-pub returns : goal.returns
-returns c class bytes h = bytes_agree class bytes h

@@ -1,0 +1,67 @@
+use Rattle.std.proofs.Common.{◌++◌, ◌∷◌, [], false, ap, sym, subst, ◌∙◌, append-nil, arith}
+use Rattle.std.specs.Io.KnownBytes.{Appends}
+use Rattle.std.proofs.KnownBytes.{Appends-nil}
+use Rattle.program_parts.proofs.Appended.{appends_last}
+use Rattle.program_parts.proofs.Given.{none_found, some_found}
+use Rattle.program_parts.proofs.KeptSoFar.{none_so_far, one_kept, one_left}
+use Rattle.run_length_coder.specs.Coding.{copies}
+use Rattle.run_length_coder.specs.Decoded.{SaysRun, IsNoRun}
+use Rattle.run_length_coder.specs.Words.{words}
+use Rattle.run_length_coder.proofs.Decoding.{coded_none, coded_more, coded_wrong, coded_empty}
+use Rattle.run_length_coder.proofs.Reading.{decodes}
+use Rattle.run_length_coder.proofs.decoder.decode.Goals as goal
+use Rattle.run_length_coder.proofs.decoder.decode.Goals.{in-Ok+in_ok-write_bytes-in-Ok, in-Err+in_ok-complain-in-Err}
+
+pub loop-init : goal.loop-init
+loop-init g c = (([], Appends-nil _, rw c.new-lines.ensures.number (none_so_far SaysRun IsNoRun words _ 0 _ (omega arith))), coded_none _ _)
+
+pub returns-then-not-branch-clause-any : goal.returns-then-not-branch-clause-any
+returns-then-not-branch-clause-any g c =
+    let ((runs, writes, s), again) = c.loop.invariant in
+    let end = none_found _ c.in_ok-advance.field-0 c.in_ok-advance.ensures.found c.if-not-branch.true in
+    rw c.new-lines.ensures.reader at (decodes _ _ _ _ _ _ _ runs c.loop.are_runs writes s end)
+
+pub returns-then-not-branch-clause-again : goal.returns-then-not-branch-clause-again
+returns-then-not-branch-clause-again g c bytes small few known =
+    let d = c.loop.invariant.1 bytes small few (rw c.new-lines.ensures.reader known) in
+    let end = none_found _ c.in_ok-advance.field-0 c.in_ok-advance.ensures.found c.if-not-branch.true in
+    let none = coded_empty d.rest (rw d.input at end) in
+    let all = ap (λ l. d.written ++ l) none ∙ append-nil d.written in
+    (d.clean, subst (Appends _ _) (sym (d.whole ∙ all)) d.writes)
+
+pub loop-preserved : goal.loop-preserved
+loop-preserved g c =
+    let ((runs, writes, s), again) = c.loop.invariant in
+    let found = c.in_ok-advance.ensures in
+    let some = some_found _ c.in_ok-advance.field-0 found.found c.if-not-branch.false in
+    let line = c.advance.new.self.line.items in
+    let whole = c.loop.are_runs in
+    let counts = found.number c.if-not-branch.false in
+    elim c.match-parse.branch [
+      | in-Ok+in_ok-write_bytes-in-Ok w ↦
+          let run = w.in-Ok.run' in
+          let says = rw c.deref.ensures.value at w.in-Ok.ensures.says in
+          let copied = w.in_ok-write_bytes-in-Ok.ensures in
+          rw (w.out-is, w.complaints-is, w.are_runs-is) (
+            (
+              runs ++ run ∷ [],
+              appends_last _ _ _ copies runs run writes copied,
+              one_kept SaysRun IsNoRun words _ _ _ _ _ _ _ _ runs whole line s some found.line found.rest counts run says,
+            ),
+            coded_more _ _ _ _ _ whole line again some found.line found.rest _ run
+                (rw (w.in-Ok.is, c.deref.ensures.value) at c.parse.ensures.written)
+                copied,
+          )
+      | in-Err+in_ok-complain-in-Err w ↦
+          let wrong = rw c.deref.ensures.value at w.in-Err.ensures.wrong in
+          rw (w.out-is, w.complaints-is, w.are_runs-is) (
+            (
+              runs,
+              writes,
+              one_left SaysRun IsNoRun words _ _ _ _ _ _ _ _ runs whole line s some found.line found.rest counts _ w.in-Err.error wrong
+                  w.in_ok-complain-in-Err.ensures,
+            ),
+            coded_wrong _ _ _ _ _ whole line again some found.line found.rest _ false
+                (rw (w.in-Err.is, c.deref.ensures.value) at c.parse.ensures.written),
+          )
+    ]

@@ -1,0 +1,45 @@
+//! Decodes lines of runs, one after another.
+ghost use Rattle.std.specs.Prelude.{◌≡◌, ℕ, ◌<◌, ◌^◌, List, length, All, IfOk, IfSome, IsTrue};
+ghost use Rattle.std.specs.Io.KnownBytes.{Appends};
+ghost use Rattle.run_length_coder.specs.Coding.{coded};
+ghost use Rattle.run_length_coder.specs.Decoded.{Decodes};
+
+use crate::runs::Run;
+use program_parts::lines::{Lines, complain};
+use std::alloc::Global;
+use std::io;
+use std::io::{BufRead, Write};
+
+/// Writes the bytes of the runs that the lines of the input say, and gives back whether each line says one. One that
+/// says none is left out, and a line of complaint says so, and why. It keeps one line in memory.
+pub fn decode<R: BufRead, W: Write, E: Write>(
+    alloc: Global,
+    input: &mut R,
+    out: &mut W,
+    complaints: &mut E,
+) -> io::Result<bool>
+    ensures any { IfOk result (λ are_runs. IfSome (R.remaining input.old)
+        (λ bytes. Decodes bytes are_runs (W.contents out.old) (W.contents out.new)
+        (E.contents complaints.old) (E.contents complaints.new))) }
+
+    // Of what bytes were coded as, these bytes are written.
+    ensures again { (bytes : List ℕ) → All (λ byte. byte < 2 ^ 8) bytes → length bytes < 2 ^ 64
+        → R.remaining input.old ≡ Some (coded bytes)
+        → IfOk result (λ are_runs. IsTrue are_runs × Appends (W.contents out.old) (W.contents out.new) bytes) }
+{
+    let mut lines = Lines::new(alloc, input);
+    let mut are_runs = true;
+    for _ in 0..u64::MAX {
+        if !lines.advance()? {
+            return Ok(are_runs);
+        }
+        match Run::parse(&lines.line) {
+            Ok(run) => run.write_bytes(alloc, out)?,
+            Err(error) => {
+                complain(complaints, lines.number, error)?;
+                are_runs = false;
+            }
+        }
+    }
+    Err(io::Error::other("there are too many lines"))
+}

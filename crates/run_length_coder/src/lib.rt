@@ -1,0 +1,8 @@
+//! Runs of equal bytes of a stream, as lines, and the bytes again: block by block, in the memory of one block.
+#![tactic(auto)]
+
+mod decoder;
+mod encoder;
+mod line;
+pub mod program;
+mod runs;

@@ -1,0 +1,61 @@
+//! Arguments that are known or not: `--help` writes the usage and ends with 0, and what is not known says it, with 2.
+use crate::tests::programs::{
+    GroupedReport, IndexReader, Program, RunLengthCoder, TableJoin, TokenCounter, UniqCount, ran,
+};
+use std::alloc::Global;
+use std::test::Fail;
+
+// Whether `--help` writes the usage alone.
+fn helps<P: Program>(alloc: Global, usage: &str) -> Result<bool, Fail> {
+    Ok(ran::<P>(alloc, &["--help"], b"")?.all() == (0, usage.as_bytes(), b"".as_slice()))
+}
+
+// Whether these arguments, and some that no program knows, have the usage complained alone.
+fn refuses<P: Program>(alloc: Global, usage: &str, words: &[&str]) -> Result<bool, Fail> {
+    let refused = (2, b"".as_slice(), usage.as_bytes());
+    let mut are_refused = ran::<P>(alloc, words, b"")?.all() == refused;
+    for word in ["", "--", "--helps", "help", "-c", "Inner", "decoded"] {
+        are_refused &= ran::<P>(alloc, &[word], b"")?.all() == refused;
+    }
+    are_refused &= ran::<P>(alloc, &["--help", "--help"], b"")?.all() == refused;
+    Ok(are_refused)
+}
+
+#[test]
+fn help_is_written(rt: HostRuntime) -> Result<(), Fail> {
+    let alloc = rt.alloc();
+    assert!(rt; helps::<RunLengthCoder>(alloc, run_length_coder::program::USAGE)?);
+    assert!(rt; helps::<UniqCount>(alloc, uniq_count::program::USAGE)?);
+    assert!(rt; helps::<TokenCounter>(alloc, token_counter::program::USAGE)?);
+    assert!(rt; helps::<GroupedReport>(alloc, grouped_report::program::USAGE)?);
+    assert!(rt; helps::<TableJoin>(alloc, table_join::program::USAGE)?);
+    assert!(rt; helps::<IndexReader>(alloc, index_reader::program::USAGE)?);
+    Ok(())
+}
+
+#[test]
+fn others_are_refused(rt: HostRuntime) -> Result<(), Fail> {
+    let alloc = rt.alloc();
+    let coder = refuses::<RunLengthCoder>(
+        alloc,
+        run_length_coder::program::USAGE,
+        &["decode", "a"],
+    )?;
+    assert!(rt; coder);
+    assert!(rt; refuses::<UniqCount>(alloc, uniq_count::program::USAGE, &["a"])?);
+    assert!(rt; refuses::<TokenCounter>(alloc, token_counter::program::USAGE, &["a"])?);
+    assert!(rt; refuses::<GroupedReport>(alloc, grouped_report::program::USAGE, &["a"])?);
+    assert!(rt; refuses::<TableJoin>(alloc, table_join::program::USAGE, &["left", "right"])?);
+    assert!(rt; refuses::<IndexReader>(alloc, index_reader::program::USAGE, &["a"])?);
+    Ok(())
+}
+
+#[test]
+fn usages_begin_with_the_name(rt: HostRuntime) {
+    assert!(rt; run_length_coder::program::USAGE.starts_with("usage: run_length_coder ["));
+    assert!(rt; uniq_count::program::USAGE.starts_with("usage: uniq_count ["));
+    assert!(rt; token_counter::program::USAGE.starts_with("usage: token_counter ["));
+    assert!(rt; grouped_report::program::USAGE.starts_with("usage: grouped_report ["));
+    assert!(rt; table_join::program::USAGE.starts_with("usage: table_join ["));
+    assert!(rt; index_reader::program::USAGE.starts_with("usage: index_reader ["));
+}

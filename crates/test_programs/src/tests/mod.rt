@@ -1,0 +1,11 @@
+mod arguments;
+mod cut_off;
+mod failures;
+mod grouped_reports;
+mod index_readers;
+mod programs;
+mod run_lengths;
+mod streams;
+mod table_joins;
+mod tokens;
+mod uniq_counts;

@@ -1,0 +1,5 @@
+use Rattle.token_counter.proofs.BytesOfCharacters.{bytes_agree}
+use Rattle.token_counter.proofs.characters.characters_agree.Goals as goal
+
+pub returns : goal.returns
+returns c class bytes h = bytes_agree class bytes h

@@ -1,0 +1,194 @@
+-- Where the lines of a text may be cut.
+use Rattle.std.proofs.Common.{◌≡◌, ◌≢◌, ℕ, suc, ◌+◌, ◌<◌, Bool, true, false, eqb, not, List, [], ◌∷◌, ◌++◌, length, take, drop, refl, ap, sym, ◌∙◌, arith, append_assoc, append-nil, Option, None, Some, IfSome, ltb, map, subst}
+use borrow.Author.Tests.{ltb-false}
+use Rattle.std.specs.Option.{unwrap_or}
+use Rattle.std.specs.Io.KnownBytes.{IsAtEnd}
+use Rattle.std.proofs.lemmas.List.{drop-drop, map-append}
+use Rattle.std.proofs.lemmas.List.Sums.{prefix_len-le-length}
+use Rattle.std.specs.List.{position, position_or_len, onto_first}
+use Rattle.std.specs.Io.BufRead.{take_through, drop_through}
+use Rattle.std.specs.Io.BufRead.{DropsThrough}
+use Rattle.uniq_count.specs.Counting.{lines, GivesLines}
+
+abbrev is_feed : ℕ → Bool
+is_feed x = eqb x 10
+
+-- the byte at the front ends a line, or belongs to the first one
+lines_at_feed : (x : ℕ) (xs : List ℕ) → is_feed x ≡ true → lines (x ∷ xs) ≡ [] ∷ lines xs
+lines_at_feed x xs e = rw e refl
+
+lines_at_other : (x : ℕ) (xs : List ℕ) → is_feed x ≡ false → lines (x ∷ xs) ≡ onto_first x (lines xs)
+lines_at_other x xs e = rw e refl
+
+-- the first line, and the others
+IsCutAtFirst : List ℕ → Type 0
+IsCutAtFirst xs = lines xs ≡ take (position_or_len is_feed xs) xs ∷ lines (drop (position_or_len is_feed xs + 1) xs)
+
+first_after : (x : ℕ) (xs : List ℕ) (b : Bool) → is_feed x ≡ b → (0 < length xs → IsCutAtFirst xs) → IsCutAtFirst (x ∷ xs)
+unfolding IsCutAtFirst
+first_after x xs true e h = rw e refl
+first_after x [] false e h = rw e refl
+first_after x (y ∷ ys) false e h =
+    let n = position_or_len is_feed (y ∷ ys) in
+    let one : 1 + n ≡ suc n = omega arith in
+    let two : suc n + 1 ≡ suc (n + 1) = omega arith in
+    lines_at_other x (y ∷ ys) e ∙ ap (onto_first x) (h (omega arith)) ∙ rw e (rw (one, two) refl)
+
+lines_first : (xs : List ℕ) → 0 < length xs → IsCutAtFirst xs
+lines_first [] some = absurd (omega arith)
+lines_first (x ∷ xs) some = first_after x xs (is_feed x) refl (lines_first xs)
+
+pub first_line : (xs : List ℕ) → 0 < length xs
+    → lines xs ≡ take (position_or_len is_feed xs) xs ∷ lines (drop (position_or_len is_feed xs + 1) xs)
+unfolding IsCutAtFirst
+first_line xs some = lines_first xs some
+
+-- a text that is not empty has a line
+onto_some : (x : ℕ) (a : List (List ℕ)) → onto_first x a ≢ []
+onto_some x [] e = cc
+onto_some x (l ∷ ls) e = cc
+
+some_line : (x : ℕ) (xs : List ℕ) (b : Bool) → is_feed x ≡ b → lines (x ∷ xs) ≢ []
+some_line x xs true e h = let k = sym (lines_at_feed x xs e) ∙ h in cc
+some_line x xs false e h = onto_some x (lines xs) (sym (lines_at_other x xs e) ∙ h)
+
+onto_joined : (x : ℕ) (a b : List (List ℕ)) → (a ≡ [] → b ≡ []) → onto_first x (a ++ b) ≡ onto_first x a ++ b
+onto_joined x [] b h = rw (h refl) refl
+onto_joined x (l ∷ ls) b h = refl
+
+-- nothing is left where nothing came
+some_came : (x : ℕ) (xs : List ℕ) (b : Bool) → is_feed x ≡ b → lines (take_through 10 (x ∷ xs)) ≢ []
+some_came x xs true e h = let t : take_through 10 (x ∷ xs) ≡ x ∷ [] = rw e refl in some_line x [] (is_feed x) refl (ap lines (sym t) ∙ h)
+some_came x xs false e h =
+    let t : take_through 10 (x ∷ xs) ≡ x ∷ take_through 10 xs = rw e refl in
+    some_line x (take_through 10 xs) (is_feed x) refl (ap lines (sym t) ∙ h)
+
+none_left : (xs : List ℕ) → lines (take_through 10 xs) ≡ [] → lines (drop_through 10 xs) ≡ []
+none_left [] e = refl
+none_left (x ∷ xs) e = absurd (some_came x xs (is_feed x) refl e)
+
+-- the lines up to a first line feed and those after it
+IsCutThrough : List ℕ → Type 0
+IsCutThrough xs = lines xs ≡ lines (take_through 10 xs) ++ lines (drop_through 10 xs)
+
+through_after : (x : ℕ) (xs : List ℕ) (b : Bool) → is_feed x ≡ b → IsCutThrough xs → IsCutThrough (x ∷ xs)
+unfolding IsCutThrough
+through_after x xs true e h = rw e (rw e refl)
+through_after x xs false e h =
+    rw e (rw e (ap (onto_first x) h ∙ onto_joined x _ _ (none_left xs)))
+
+cut_through : (xs : List ℕ) → IsCutThrough xs
+unfolding IsCutThrough
+cut_through [] = refl
+cut_through (x ∷ xs) = through_after x xs (is_feed x) refl (cut_through xs)
+
+pub lines_through : (xs : List ℕ) → lines xs ≡ lines (take_through 10 xs) ++ lines (drop_through 10 xs)
+unfolding IsCutThrough
+lines_through xs = cut_through xs
+
+-- what stands before a line feed ends a line
+abbrev pub EndsLine : List ℕ → Type 0
+EndsLine text = (more : List ℕ) → lines (text ++ more) ≡ lines text ++ lines more
+
+ends_after : (x : ℕ) (xs : List ℕ) (b : Bool) → is_feed x ≡ b → (drop_through 10 xs ≢ [] → EndsLine (take_through 10 xs))
+    → drop_through 10 (x ∷ xs) ≢ [] → EndsLine (take_through 10 (x ∷ xs))
+ends_after x xs true e h some more =
+    let t : take_through 10 (x ∷ xs) ≡ x ∷ [] = rw e refl in
+    rw t (lines_at_feed x more e ∙ ap (λ l. l ++ lines more) (sym (lines_at_feed x [] e)))
+ends_after x [] false e h some more = absurd (some (rw e refl))
+ends_after x (y ∷ ys) false e h some more =
+    let t : take_through 10 (x ∷ y ∷ ys) ≡ x ∷ take_through 10 (y ∷ ys) = rw e refl in
+    let d : drop_through 10 (x ∷ y ∷ ys) ≡ drop_through 10 (y ∷ ys) = rw e refl in
+    let front = take_through 10 (y ∷ ys) in
+    rw t (lines_at_other x (front ++ more) e ∙ ap (onto_first x) (h (λ k. some (d ∙ k)) more)
+    ∙ onto_joined x (lines front) (lines more) (λ k. absurd (some_came y ys (is_feed y) refl k))
+    ∙ ap (λ l. l ++ lines more) (sym (lines_at_other x front e)))
+
+through_ends : (xs : List ℕ) → drop_through 10 xs ≢ [] → EndsLine (take_through 10 xs)
+through_ends [] some more = refl
+through_ends (x ∷ xs) some more = ends_after x xs (is_feed x) refl (through_ends xs) some more
+
+-- a text that ends a line still does so with a line feed's bytes after it
+ends_both : (text more : List ℕ) → EndsLine text → EndsLine more → EndsLine (text ++ more)
+ends_both text more p q rest =
+    ap lines (append_assoc text more rest) ∙ p (more ++ rest) ∙ ap (λ l. lines text ++ l) (q rest)
+    ∙ sym (append_assoc (lines text) (lines more) (lines rest)) ∙ ap (λ l. l ++ lines rest) (sym (p more))
+
+-- the text holds the lines that a reader gave, and ends a line unless nothing is left
+abbrev pub Reads : Option (List ℕ) → Option (List ℕ) → List ℕ → Type 0
+Reads None new text = Unit {0}
+Reads (Some all) None text = ⊥
+Reads (Some all) (Some xs) text = (lines all ≡ lines text ++ lines xs) × (xs ≢ [] → EndsLine text)
+
+pub Reads-none : (a : Option (List ℕ)) → Reads a a []
+Reads-none None = tt
+Reads-none (Some xs) = (refl, λ some more. refl)
+
+pub Reads-gives : (a b : Option (List ℕ)) (text : List ℕ) → Reads a b text → GivesLines a b (lines text)
+Reads-gives None b text p = tt
+Reads-gives (Some all) None text p = p
+Reads-gives (Some all) (Some xs) text p = p.0
+
+-- one more line
+pub Reads-more : (a b c : Option (List ℕ)) (text new : List ℕ) → Reads a b text
+    → IfSome b (λ xs. new ≡ text ++ take_through 10 xs) → DropsThrough b c 10 → Reads a c new
+Reads-more None b c text new p grown left = tt
+Reads-more (Some all) None c text new p grown left = absurd p
+Reads-more (Some all) (Some []) c text new p grown left = rw (left, grown, append-nil text) (p.0, λ some. absurd (some refl))
+Reads-more (Some all) (Some (x ∷ xs)) c text new p grown left =
+    let front = take_through 10 (x ∷ xs) in
+    let rest = drop_through 10 (x ∷ xs) in
+    let ends = p.1 (λ e. cc) in
+    rw (left, grown) (
+      p.0 ∙ ap (λ l. lines text ++ l) (lines_through (x ∷ xs)) ∙ sym (append_assoc (lines text) (lines front) (lines rest))
+          ∙ ap (λ l. l ++ lines rest) (sym (ends front)),
+      λ some. ends_both text front ends (through_ends (x ∷ xs) some),
+    )
+
+-- how many bytes stand before the first line feed
+pub unwrap_or_position : (p : ℕ → Bool) (xs : List ℕ) → unwrap_or (position p xs) (length xs) ≡ position_or_len p xs
+unwrap_or_position p xs = at_end (ltb (position_or_len p xs) (length xs)) refl where
+  at_end : (b : Bool) → ltb (position_or_len p xs) (length xs) ≡ b → unwrap_or (position p xs) (length xs) ≡ position_or_len p xs
+  at_end true e = rw e refl
+  at_end false e = rw e (omega (arith, ltb-false, prefix_len-le-length (λ x. not (p x)) xs))
+
+-- a reader that gives no line has no bytes left
+no_lines : (xs : List ℕ) → lines xs ≡ [] → xs ≡ []
+no_lines [] e = refl
+no_lines (x ∷ xs) e = absurd (some_line x xs (is_feed x) refl e)
+
+pub Reads-end : (a b : Option (List ℕ)) (text new : List ℕ) → Reads a b text → IsAtEnd b
+    → IfSome b (λ xs. new ≡ text ++ take_through 10 xs) → new ≡ [] → IsAtEnd a
+Reads-end None b text new p end grown none = tt
+Reads-end (Some all) None text new p end grown none = absurd p
+Reads-end (Some all) (Some xs) text new p end grown none =
+    let same : text ≡ [] = sym (append-nil text) ∙ ap (λ l. text ++ take_through 10 l) (sym end) ∙ sym grown ∙ none in
+    no_lines all (p.0 ∙ ap (λ l. lines l ++ lines xs) same ∙ ap lines end)
+
+-- one more line is found
+pub lines_push : {A : Type 0} (f : A → List ℕ) (found new : List A) (line : A) (rest after next : List ℕ) (all : List (List ℕ)) (n : ℕ)
+    → 0 < length rest → n ≡ position_or_len is_feed rest → f line ≡ take n rest → after ≡ drop n rest → next ≡ drop 1 after
+    → new ≡ found ++ line ∷ [] → map f found ++ lines rest ≡ all → map f new ++ lines next ≡ all
+lines_push f found new line rest after next all n some at front back others grown so_far =
+    let one : map f new ≡ map f found ++ take n rest ∷ [] =
+    ap (map f) grown ∙ map-append f found (line ∷ []) ∙ ap (λ l. map f found ++ l ∷ []) front in
+    let tail : next ≡ drop (n + 1) rest = others ∙ ap (drop 1) back ∙ drop-drop 1 n rest in
+    rw (one, tail, at) (append_assoc (map f found) _ _ ∙ ap (λ l. map f found ++ l) (sym (first_line rest some)) ∙ so_far)
+
+-- lines that a reader gave, one block after another
+pub GivesLines-none : (a : Option (List ℕ)) → GivesLines a a []
+GivesLines-none None = tt
+GivesLines-none (Some xs) = refl
+
+pub GivesLines-trans : (a b c : Option (List ℕ)) (ls ms : List (List ℕ)) → GivesLines a b ls → GivesLines b c ms → GivesLines a c (ls ++ ms)
+GivesLines-trans None b c ls ms p q = tt
+GivesLines-trans (Some x) None c ls ms p q = absurd p
+GivesLines-trans (Some x) (Some y) None ls ms p q = absurd q
+GivesLines-trans (Some x) (Some y) (Some z) ls ms p q = p ∙ ap (λ l. ls ++ l) q ∙ sym (append_assoc ls ms (lines z))
+
+-- at the end they are all
+pub GivesLines-whole : (a b : Option (List ℕ)) (ls : List (List ℕ)) (P : List (List ℕ) → Type 0) → GivesLines a b ls → IsAtEnd b → P ls
+    → IfSome a (λ xs. P (lines xs))
+GivesLines-whole None b ls P p end h = tt
+GivesLines-whole (Some x) None ls P p end h = absurd p
+GivesLines-whole (Some x) (Some y) ls P p end h = subst P (sym (p ∙ ap (λ l. ls ++ lines l) end ∙ append-nil ls)) h

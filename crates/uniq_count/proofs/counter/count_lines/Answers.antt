@@ -1,0 +1,29 @@
+use Rattle.std.proofs.lemmas.Grind.{common_steps}
+use Rattle.std.proofs.Common.{[], arith}
+use Rattle.std.proofs.lemmas.Result.{on_ok_weaker}
+use Rattle.std.specs.Io.KnownBytes.{Appends}
+use Rattle.uniq_count.specs.Counting.{counted}
+use Rattle.uniq_count.proofs.LinesCut.{GivesLines-none, GivesLines-trans, GivesLines-whole}
+use Rattle.uniq_count.proofs.LineGroups.{Counts-none, Counts-more, counted_at_end}
+use Rattle.uniq_count.proofs.counter.count_lines.Goals as goal
+
+pub loop-init : goal.loop-init
+loop-init g c = ([], GivesLines-none _, rw c.none-last.ensures (Counts-none _ []))
+
+pub loop-preserved : goal.loop-preserved
+loop-preserved g c =
+    let (found, given, so_far) = c.loop.invariant in
+    let block = rw c.deref.ensures.value at c.in_ok-found.ensures in (
+      _,
+      GivesLines-trans _ _ _ found _ given c.in_ok-read_lines.ensures.given,
+      rw (c.deref-in-loop.ensures.value, block) at (Counts-more _ _ so_far c.in_ok-take_lines.ensures),
+    )
+
+pub returns-then-is_empty : goal.returns-then-is_empty
+returns-then-is_empty g c =
+    let (found, given, so_far) = c.loop.invariant in
+    let none = c.in_ok-read_lines.ensures.end (grind (arith, common_steps)) in
+    on_ok_weaker c.write_entry.result
+    (λ written. GivesLines-whole _ _ found (λ l. Appends (g.W.Write.contents c.args.out.now) (g.W.Write.contents c.write_entry.new.out) (counted l))
+    given none (counted_at_end _ _ _ found _ so_far written))
+    c.write_entry.ensures

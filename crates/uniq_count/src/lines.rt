@@ -1,0 +1,65 @@
+//! The lines of an input, some at a time.
+ghost use Rattle.std.specs.Prelude.{◌≡◌, ◌==◌, [], drop, map, IfOk, OnOk};
+ghost use Rattle.std.specs.List.{position, position_or_len};
+ghost use Rattle.std.specs.Io.KnownBytes.{IsAtEnd};
+ghost use Rattle.uniq_count.specs.Counting.{lines, GivesLines};
+
+use std::alloc::{AllocError, Global};
+use std::io;
+use std::io::BufRead;
+
+/// How many bytes of lines are read at once, where no line is longer.
+const BLOCK_LEN: usize = 65536;
+
+/// Reads the next lines into the text, in place of what it holds: as many as make a block, or all that are left. The text is empty
+/// only at the end of the input.
+pub fn read_lines<R: BufRead>(input: &mut R, text: &mut Vec<u8>) -> io::Result<()>
+    ensures given { OnOk result (GivesLines (R.remaining input.old) (R.remaining input.new) (lines text.new.items)) }
+    ensures end { OnOk result (text.new.items ≡ [] → IsAtEnd (R.remaining input.old)) }
+{
+    text.clear();
+    'block: while text.len() < BLOCK_LEN {
+        if input.read_until(b'\n', text)? == 0 {
+            return Ok(());
+        }
+    }
+    Ok(())
+}
+
+/// The lines of a text, in order.
+pub fn lines_of<'a>(alloc: Global, text: &'a [u8]) -> Result<Vec<&'a [u8]>, AllocError>
+    ensures { IfOk result (λ found. map (λ line. line.now) found.items ≡ lines text.now) }
+{
+    let mut found = Vec::new(alloc);
+    let mut rest = text;
+    while !rest.is_empty() {
+        let (line, after) = rest.split_at(line_len(rest));
+        found.push(line)?;
+        rest = without_first(after);
+    }
+    Ok(found)
+}
+
+/// How many bytes stand before the first line feed, or how many there are where there is none.
+fn line_len(text: &[u8]) -> usize
+    ensures { result ≡ position_or_len (λ byte. byte == 10) text.now }
+{
+    first_feed(text).unwrap_or(text.len())
+}
+
+/// Where the first line feed stands.
+fn first_feed(text: &[u8]) -> Option<usize>
+    ensures { result ≡ position (λ byte. byte == 10) text.now }
+{
+    text.iter().position(|byte| *byte == b'\n')
+}
+
+/// The bytes but the first, or none where there is none.
+fn without_first(bytes: &[u8]) -> &[u8]
+    ensures { result.now ≡ drop 1 bytes.now }
+{
+    match bytes {
+        [] => bytes,
+        [_, others @ ..] => others,
+    }
+}
