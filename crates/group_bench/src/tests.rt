@@ -1,6 +1,6 @@
 //! The lines as they are written, of rows that differ too, and through writers with too little room.
-use crate::lines::{write_groups, write_texts};
 use crate::rows::run;
+use bench_rows::lines::{write_groups, write_texts};
 
 const LINES: &str = "row 1: [1, 1, 1] [3, 3] [2, 2, 2] None\n\
 row 2: [1, 1, 1] [2, 2, 2] [3, 3] None None\n\

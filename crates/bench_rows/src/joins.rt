@@ -7,8 +7,8 @@ type Pair = Option<(&'static [i32], &'static [i32])>;
 
 const ROW_19: [Pair; 3] = [Some((&[1, 1], &[1])), Some((&[2], &[2, 2])), None];
 
-// The pairs of groups of two sorted slices with equal elements.
-pub(crate) fn row_19<W: Write>(out: &mut W) -> Result<bool, Error> {
+/// The pairs of groups of two sorted slices with equal elements.
+pub fn row_19<W: Write>(out: &mut W) -> Result<bool, Error> {
     let left = [1, 1, 2, 4];
     let right = [1, 2, 2, 3];
     let mut pairs = MergeJoin::new(&left, |x| *x, &right, |y| *y);

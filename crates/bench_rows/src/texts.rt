@@ -9,8 +9,8 @@ type Text = Option<&'static str>;
 
 const ROW_9: [Text; 5] = [Some("aaaa"), Some("bbbbb"), Some("饰饰"), Some("cccc"), None];
 
-// Groups of a text by a predicate, with the bytes that remain before each call and after the last.
-pub(crate) fn row_9<W: Write>(out: &mut W) -> Result<bool, Error> {
+/// Groups of a text by a predicate, with the bytes that remain before each call and after the last.
+pub fn row_9<W: Write>(out: &mut W) -> Result<bool, Error> {
     let text = "aaaabbbbb饰饰cccc";
     let questions = Cell::new(0usize);
     let mut groups = text.linear_group_by(|a, b| {
@@ -33,8 +33,8 @@ pub(crate) fn row_9<W: Write>(out: &mut W) -> Result<bool, Error> {
 
 const ROW_10: [Text; 1] = [Some("ab")];
 
-// Groups by a predicate that is not symmetric, from the back.
-pub(crate) fn row_10<W: Write>(out: &mut W) -> Result<bool, Error> {
+/// Groups by a predicate that is not symmetric, from the back.
+pub fn row_10<W: Write>(out: &mut W) -> Result<bool, Error> {
     let mut groups = LinearStrGroupBy::new("ab", |a, b| a < b);
     write_texts(out, 10, &[groups.next_back()], &ROW_10, true)
 }
@@ -49,9 +49,9 @@ const SECOND: [u8; 4] = [195, 169, 195, 169];
 
 const AFTERWARDS: [u8; 5] = [0xFF, 195, 169, 195, 169];
 
-// Groups of bytes for writing: what is written into a group leaves the remainder a text. The first walk shows that the groups
-// come as they are wanted; the second prints each as it comes, the first before it is written over.
-pub(crate) fn row_16<W: Write>(out: &mut W) -> Result<bool, Error> {
+/// Groups of bytes for writing: what is written into a group leaves the remainder a text. The first walk shows that the groups
+/// come as they are wanted; the second prints each as it comes, the first before it is written over.
+pub fn row_16<W: Write>(out: &mut W) -> Result<bool, Error> {
     let mut bytes = BYTES;
     if !walk_16(&mut io::sink(), &mut bytes)? || bytes != AFTERWARDS {
         return differs(out, 16);

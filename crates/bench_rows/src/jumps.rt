@@ -9,8 +9,8 @@ use std::io::{Error, Write};
 
 type Group = Option<&'static [i32]>;
 
-// Nothing, from both ends.
-pub(crate) fn row_4<W: Write>(out: &mut W) -> Result<bool, Error> {
+/// Nothing, from both ends.
+pub fn row_4<W: Write>(out: &mut W) -> Result<bool, Error> {
     let slice: [i32; 0] = [];
     let mut groups = BinaryGroup::new(&slice);
     let mut answers: [Option<&[i32]>; 2] = [None; 2];
@@ -20,8 +20,8 @@ pub(crate) fn row_4<W: Write>(out: &mut W) -> Result<bool, Error> {
 
 const ROW_5: [Group; 3] = [Some(&[1]), None, None];
 
-// One element, from both ends: a second iterator, whose questions are counted, gives the same and asks nothing.
-pub(crate) fn row_5<W: Write>(out: &mut W) -> Result<bool, Error> {
+/// One element, from both ends: a second iterator, whose questions are counted, gives the same and asks nothing.
+pub fn row_5<W: Write>(out: &mut W) -> Result<bool, Error> {
     let slice = [1];
     let ends = [End::Back, End::Back, End::Front];
     let mut answers: [Option<&[i32]>; 3] = [None; 3];
@@ -48,8 +48,8 @@ const ROW_6: [Group; 5] = [
 // The most questions of each call of row 6.
 const MOST: [usize; 5] = [3, 3, 2, 0, 0];
 
-// Groups of a sorted slice by halving, from both ends.
-pub(crate) fn row_6<W: Write>(out: &mut W) -> Result<bool, Error> {
+/// Groups of a sorted slice by halving, from both ends.
+pub fn row_6<W: Write>(out: &mut W) -> Result<bool, Error> {
     let slice = [1, 1, 1, 2, 2, 2, 3, 3];
     let ends = [End::Front, End::Back, End::Front, End::Back, End::Front];
     let mut answers: [Option<&[i32]>; 5] = [None; 5];
@@ -83,9 +83,9 @@ fn four_in_reverse<'a>(slice: &'a mut &mut [i32]) -> [Option<&'a [i32]>; 4] {
     ]
 }
 
-// Groups of a sorted slice for writing by galloping, in reverse: at most five questions a call. They are counted on a
-// second iterator, from the back.
-pub(crate) fn row_7<W: Write>(out: &mut W) -> Result<bool, Error> {
+/// Groups of a sorted slice for writing by galloping, in reverse: at most five questions a call. They are counted on a
+/// second iterator, from the back.
+pub fn row_7<W: Write>(out: &mut W) -> Result<bool, Error> {
     let mut slice: &mut [i32] = &mut [1, 1, 1, 2, 2, 2, 3, 3];
     let answers = four_in_reverse(&mut slice);
     let mut other = [1, 1, 1, 2, 2, 2, 3, 3];
@@ -103,8 +103,8 @@ pub(crate) fn row_7<W: Write>(out: &mut W) -> Result<bool, Error> {
     write_groups(out, 7, &answers, &ROW_7, counted)
 }
 
-// A slice that is not grouped: the group ends at a local boundary.
-pub(crate) fn row_11<W: Write>(out: &mut W) -> Result<bool, Error> {
+/// A slice that is not grouped: the group ends at a local boundary.
+pub fn row_11<W: Write>(out: &mut W) -> Result<bool, Error> {
     let slice = [1, 2, 1];
     match BinaryGroup::new(&slice).next() {
         Some([1] | [1, 2, 1]) => {
@@ -115,8 +115,8 @@ pub(crate) fn row_11<W: Write>(out: &mut W) -> Result<bool, Error> {
     }
 }
 
-// Elements that take no bytes.
-pub(crate) fn row_12<W: Write>(out: &mut W) -> Result<bool, Error> {
+/// Elements that take no bytes.
+pub fn row_12<W: Write>(out: &mut W) -> Result<bool, Error> {
     let slice: &[()] = &[(), (), (), (), ()];
     let mut groups = slice.binary_group_by(|a, b| a == b);
     let len = groups.remainder_len();
@@ -129,8 +129,8 @@ pub(crate) fn row_12<W: Write>(out: &mut W) -> Result<bool, Error> {
     }
 }
 
-// A short group after a long one, from the back: galloping from its own end asks little.
-pub(crate) fn row_18<W: Write>(out: &mut W) -> Result<bool, Error> {
+/// A short group after a long one, from the back: galloping from its own end asks little.
+pub fn row_18<W: Write>(out: &mut W) -> Result<bool, Error> {
     let mut slice = [0; 1001];
     slice[1000] = 1;
     let mut questions = 0usize;

@@ -22,8 +22,8 @@ const PAIRS: [(i32, i32); 13] = [
     (4, 55),
 ];
 
-// Searches by element, with the questions that a comparator counts, and by key.
-pub(crate) fn row_8<W: Write>(out: &mut W) -> Result<bool, Error> {
+/// Searches by element, with the questions that a comparator counts, and by key.
+pub fn row_8<W: Write>(out: &mut W) -> Result<bool, Error> {
     let slice = NUMBERS;
     let none: [i32; 0] = [];
     let found = [
@@ -69,8 +69,8 @@ fn count(number: i32) -> usize {
     questions
 }
 
-// A length that refutes a plan which asks nothing.
-pub(crate) fn row_15<W: Write>(out: &mut W) -> Result<bool, Error> {
+/// A length that refutes a plan which asks nothing.
+pub fn row_15<W: Write>(out: &mut W) -> Result<bool, Error> {
     let len = refute(&Plan::Answer(1), 2);
     if len != 2 {
         return differs(out, 15);
