@@ -180,6 +180,60 @@ fn by_their_families(rt: HostRuntime) {
     assert!(rt; exponential_by_key_mut_back(&mut xs) == galloped);
 }
 
+// Elements that differ in their lowest bit alone have one key.
+#[test]
+fn by_their_keys(rt: HostRuntime) {
+    let mut xs = [2, 3, 2, 4, 5, 6, 7, 6, 6, 7, 8, 10];
+    let wanted = sum_of(&[3, 2, 5, 1, 1]);
+    assert!(rt;
+        all_give!(
+            wanted,
+            &xs,
+            linear_by_key_front,
+            binary_by_key_front,
+            exponential_by_key_front
+        )
+    );
+    assert!(rt;
+        all_give!(
+            wanted,
+            &mut xs,
+            linear_by_key_mut_front,
+            binary_by_key_mut_front,
+            exponential_by_key_mut_front
+        )
+    );
+    let wanted = sum_of(&[1, 1, 5, 2, 3]);
+    assert!(rt;
+        all_give!(
+            wanted,
+            &xs,
+            linear_by_key_back,
+            binary_by_key_back,
+            exponential_by_key_back
+        )
+    );
+    assert!(rt;
+        all_give!(
+            wanted,
+            &mut xs,
+            linear_by_key_mut_back,
+            binary_by_key_mut_back,
+            exponential_by_key_mut_back
+        )
+    );
+}
+
+#[test]
+fn from_both_ends(rt: HostRuntime) {
+    assert!(rt; linear_both_ends(&[1, 1, 2, 3, 3, 3]) == sum_of(&[2, 3, 1]));
+    assert!(rt; linear_both_ends(&[1, 2, 3]) == sum_of(&[1, 1, 1]));
+    assert!(rt; linear_both_ends(&[7]) == 1);
+    assert!(rt; text_both_ends("aab".as_bytes()) == sum_of(&[2, 1]));
+    assert!(rt; text_both_ends("abc".as_bytes()) == sum_of(&[1, 1, 1]));
+    assert!(rt; text_both_ends("a".as_bytes()) == 1);
+}
+
 #[test]
 fn of_numbers(rt: HostRuntime) {
     let (front, back) = (sum_of(&[3, 1, 2]), sum_of(&[2, 1, 3]));
@@ -211,7 +265,6 @@ fn of_texts(rt: HostRuntime) {
     if std::str::from_utf8(&bytes).is_ok() {
         assert!(rt; text_mut_back(&mut bytes) == sum_of(&[4, 1, 3]));
     }
-    assert!(rt; linear_both_ends(&[1, 1, 2, 3, 3, 3]) == sum_of(&[2, 3, 1]));
 }
 
 #[test]
