@@ -59,7 +59,7 @@ pub fn count_words(index: &[Entry]) -> usize {
 /// A page of the word in a sorted index.
 pub fn find_page(index: &[Entry], word: &str) -> Option<u32> {
     let place = exponential_search_by(index, |entry| entry.word.as_str().cmp(word)).ok()?;
-    Some(index.get(place)?.page)
+    Some(index[place].page)
 }
 
 /// All entries of the word in a sorted index.

@@ -28,7 +28,7 @@ fn main(rt: HostRuntime) -> io::Result<()> {
 
     let mut reader = RunReader::new(&[1, 1, 2]);
     let reads = (reader.next_run(), reader.next_run(), reader.next_run());
-    let longest = returned::longest_run(&[1, 1, 2, 3, 3]);
+    let longest = returned::longest_run(&[1, 1, 2, 3, 3, 4]);
     println!(rt;
         "returned: {longest:?} {:?} {reads:?}",
         returned::all_runs(rt.alloc(), "aab")?
@@ -51,8 +51,8 @@ fn main(rt: HostRuntime) -> io::Result<()> {
 
     println!(rt;
         "numbers: {} {}",
-        numbers::longest_equal(&[1u8, 1, 1, 2, 2]),
-        numbers::longest_equal(&[0.5f64, 2.5])
+        numbers::longest_equal(&[1u8, 2, 2, 2, 3, 3]),
+        numbers::longest_equal(&[0.5f64, 2.5, 2.5])
     )?;
 
     offsets::print_all(&rt)?;
@@ -62,7 +62,7 @@ fn main(rt: HostRuntime) -> io::Result<()> {
     let counts = (
         closures::stretches(&near, 2),
         closures::questions(&near),
-        closures::count_groups(&near, |a, b| a <= b),
+        closures::count_groups(&near, |a, b| a < b),
         closures::count_together(&near, &Within(5)),
     );
     let mut index = Vec::new(rt.alloc());
@@ -79,7 +79,9 @@ fn main(rt: HostRuntime) -> io::Result<()> {
     println!(rt;
         "closures: {counts:?} {} {found:?} {}",
         closures::count_words(&index),
-        closures::entries_of(&index, "ant").len()
+        closures::entries_of(&index, "ant")
+            .last()
+            .map_or(0, |entry| entry.page)
     )?;
 
     println!(rt;
@@ -92,7 +94,7 @@ fn main(rt: HostRuntime) -> io::Result<()> {
     bytes::clear_repeats(&mut repeats);
     let mut words = *b"one two";
     bytes::capitalize(&mut words);
-    let mut crossed = *b"aab";
+    let mut crossed = *b"aa\xc3\xa9b";
     let was_text = (bytes::cross_out(&mut crossed), bytes::cross_out(&mut [255]));
     println!(rt; "bytes: {repeats:?} {words:?} {crossed:?} {was_text:?}")?;
 

@@ -13,7 +13,8 @@ pub fn rows_of(rows: &[(u32, u64)], key: u32) -> (usize, &[(u32, u64)]) {
 /// Prints what these give.
 pub fn print_all(rt: &impl Print) -> io::Result<()> {
     println!(rt;
-        "searches: {:?}",
-        rows_of(&[(1, 5), (2, 6), (2, 7), (4, 8)], 2)
+        "searches: {:?} {:?}",
+        rows_of(&[(1, 5), (2, 6), (2, 7), (4, 8)], 2),
+        rows_of(&[(1, 5), (2, 6), (4, 8)], 3)
     )
 }

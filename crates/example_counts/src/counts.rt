@@ -1,6 +1,8 @@
 //! Calls of closures that they count in a variable of their caller's: what a walk over groups costs.
-ghost use Rattle.std.specs.Prelude.{◌≡◌, ◌+◌, ◌-◌, ◌*◌, ◌≤◌, length, MatchOption};
+ghost use Rattle.std.specs.Prelude.{◌≡◌, ◌+◌, ◌-◌, ◌*◌, ◌≤◌, length, map, option_map, nat_eq, MatchOption};
+ghost use Rattle.slice_group_by.specs.Queue.{pops};
 ghost use Rattle.slice_group_by.specs.Searching.{digits};
+ghost use Rattle.slice_group_by.specs.Split.{IsGrouped, split};
 
 use slice_group_by::laws::{
     calls_ask, linear_counts, mapped_calls_ask, questions_count, search_asks,
@@ -58,7 +60,9 @@ pub fn exponential_questions(xs: &[u32]) -> usize
 /// The questions of any list of calls on binary groups: no more than a walk over all of them may ask.
 pub fn walk_binary<'a>(xs: &'a [u32], ends: &[End], out: &mut [Option<&'a [u32]>]) -> usize
     requires { length out.old ≡ length ends.now }
-    ensures { result ≤ length xs.now * digits (length xs.now) }
+    ensures most { result ≤ length xs.now * digits (length xs.now) }
+    ensures answers { IsGrouped nat_eq xs.now
+        → map (option_map (λ group. group.now)) out.new ≡ pops (split nat_eq xs.now) ends.now }
 {
     let mut count = 0usize;
     let mut groups = BinaryGroupBy::new(xs, |first: &u32, other: &u32| {

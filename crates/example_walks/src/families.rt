@@ -1,5 +1,5 @@
 //! The families of groups beside each other, and functions over binary and exponential groups.
-ghost use Rattle.std.specs.Prelude.{◌≡◌, ◌≤◌, ◌<◌, ◌-◌, ◌/◌, ℕ, [], ◌∷◌, Some, not, length, map, option_map, nat_eq};
+ghost use Rattle.std.specs.Prelude.{◌≡◌, ◌≤◌, ◌<◌, ◌-◌, ◌/◌, [], ◌∷◌, not, length, map, option_map, nat_eq, IfSome, IsSome};
 ghost use Rattle.std.specs.Ordering.{nat_cmp};
 ghost use Rattle.slice_group_by.specs.Split.{IsGrouped, split};
 ghost use Rattle.slice_group_by.specs.Searching.{digits, IsLocalEnd};
@@ -29,6 +29,7 @@ pub fn walk_families<'a, T: Ord>(
     requires linear { length linear.old ≡ length ends.now }
     requires binary { length binary.old ≡ length ends.now }
     requires exponential { length exponential.old ≡ length ends.now }
+    ensures linear { map (option_map (λ group. group.now)) linear.new ≡ pops (split T.eq slice.now) ends.now }
     ensures binary { map (option_map (λ group. group.now)) binary.new
         ≡ map (option_map (λ group. group.now)) linear.new }
     ensures exponential { map (option_map (λ group. group.now)) exponential.new
@@ -60,6 +61,7 @@ pub fn walk_families_mut<'a, T: Ord>(
     requires linear { length linear.old ≡ length ends.now }
     requires binary { length binary.old ≡ length ends.now }
     requires exponential { length exponential.old ≡ length ends.now }
+    ensures reading { map (option_map (λ group. group.now)) reading.new ≡ pops (split T.eq slice.now) ends.now }
     ensures linear { map (option_map (λ group. group.now)) linear.new
         ≡ map (option_map (λ group. group.now)) reading.new }
     ensures binary { map (option_map (λ group. group.now)) binary.new
@@ -86,7 +88,8 @@ pub fn walk_two_families<'a, T: Ord>(
     requires same { other.old ≡ slice.now }
     requires reading { length reading.old ≡ length ends.now }
     requires writing { length writing.old ≡ length ends.now }
-    ensures { map (option_map (λ group. group.now)) writing.new
+    ensures reading { map (option_map (λ group. group.now)) reading.new ≡ pops (split T.eq slice.now) ends.now }
+    ensures writing { map (option_map (λ group. group.now)) writing.new
         ≡ map (option_map (λ group. group.now)) reading.new }
 {
     ascending_is_grouped::<T, T>();
@@ -125,7 +128,8 @@ pub fn walk_by_first<'a>(
 
 /// How many groups a sorted slice has, and none of one that is not.
 pub fn count_sorted<T: Ord>(slice: &[T]) -> Option<usize>
-    ensures { (n : ℕ) → result ≡ Some n → n ≡ length (split T.eq slice.now) }
+    ensures counts { IfSome result (λ n. n ≡ length (split T.eq slice.now)) }
+    ensures sorted { NeverDescends T.cmp slice.now → IsSome result }
 {
     if !is_sorted_for_groups(slice) {
         return None;

@@ -5,13 +5,17 @@ ghost use Rattle.slice_group_by.specs.Split.{concat, split};
 ghost use Rattle.example_walks.specs.LongGroups.{is_long, cleared_if_long};
 
 use slice_group_by::LinearGroupMut;
+use slice_group_by::laws::{equal_pieces_are_copies, one_split};
 use slice_group_by::loans::{Ended, resolve, resolve_and_return};
 
 // Each group is filled with its first element, and has ended.
+#[tactic(auto, using(std::proofs::lemmas::Grind::common_steps, slice_group_by::proofs::EqualPieces::equal_piece))]
 fn filled(slice: &mut [u8]) -> Ended<'_, u8>
     ensures name { result.name ≡ slice.entry.ghost_name }
-    ensures len { length result.value ≡ length slice.old }
+    ensures value { result.value ≡ slice.old }
 {
+    one_split::<u8>();
+    equal_pieces_are_copies::<u8>();
     let mut groups = LinearGroupMut::new(slice);
     while let Some(group) = groups.next() {
         let first = group[0];
@@ -21,9 +25,9 @@ fn filled(slice: &mut [u8]) -> Ended<'_, u8>
     groups.finish()
 }
 
-/// Writes the first element of each group over the whole group.
+/// Writes the first element of each group over the whole group: the slice holds what it held.
 pub fn fill_with_first(slice: &mut [u8])
-    ensures { length slice.new ≡ length slice.old }
+    ensures { slice.new ≡ slice.old }
 {
     resolve(slice, |part| filled(part));
 }

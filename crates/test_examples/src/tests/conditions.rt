@@ -1,11 +1,13 @@
 //! Calls whose conditions are met.
-use example_counts::conditions::{count_by_distance, count_equal_characters, three_outer_groups};
+use example_counts::conditions::{
+    count_by_distance, count_equal_characters, count_of_one, three_outer_groups,
+};
 
 #[test]
 fn meets_conditions(rt: HostRuntime) {
     let outer: [Option<&'static [i32]>; 3] = [Some(&[1, 1]), Some(&[3]), Some(&[2])];
     assert!(rt; three_outer_groups(&[1, 1, 2, 3]) == outer);
-    assert_eq!(rt; count_by_distance(), 2);
+    assert_eq!(rt; [count_by_distance(), count_of_one()], [2, 1]);
     let mut bytes = [0x61, 0x61, 0xC3, 0xA9, 0xC3, 0xA9, 0x62];
     assert!(rt; matches!(count_equal_characters(&mut bytes), Some(3)));
     assert!(rt; count_equal_characters(&mut [0x61, 0xC3]).is_none());

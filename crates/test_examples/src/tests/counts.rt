@@ -1,9 +1,11 @@
 //! Counts of the questions that a walk asks.
 use example_counts::counts::{
-    binary_questions, exponential_questions, first_exponential_group, linear_keys,
-    linear_questions, linear_questions_of_for, linear_questions_of_rev, longest_and_binary_keys,
-    longest_and_questions,
+    binary_questions, exponential_keys_of_rev, exponential_questions, first_exponential_group,
+    linear_keys, linear_questions, linear_questions_of_for, linear_questions_of_rev,
+    longest_and_binary_keys, longest_and_questions, walk_binary,
 };
+use example_counts::searches::{keys_of_search, questions_of_search};
+use slice_group_by::End;
 
 #[test]
 fn linear_questions_are_pairs(rt: HostRuntime) {
@@ -17,6 +19,62 @@ fn binary_questions_of_two(rt: HostRuntime) {
     assert!(rt; binary_questions(&[1, 1, 1, 2, 2, 3]) <= 18);
 }
 
+// Halving 7 others takes three questions, and galloping over them more. Which of two unequal elements is the greater is not asked.
+#[test]
+fn questions_of_eight(rt: HostRuntime) {
+    assert_eq!(rt; binary_questions(&[5; 8]), 3);
+    let galloping = exponential_questions(&[5; 8]);
+    assert!(rt; galloping > 3 && galloping < 7);
+    let (ascending, descending) = ([1, 2, 3, 4, 5, 6, 7, 8], [8, 7, 6, 5, 4, 3, 2, 1]);
+    assert_eq!(rt;
+        [
+            binary_questions(&ascending),
+            exponential_questions(&ascending)
+        ],
+        [
+            binary_questions(&descending),
+            exponential_questions(&descending)
+        ]
+    );
+}
+
+// Two keys a question, which are the tens.
+#[test]
+fn keys_from_the_back(rt: HostRuntime) {
+    assert_eq!(rt;
+        [
+            exponential_keys_of_rev(&[10, 11]),
+            exponential_keys_of_rev(&[10])
+        ],
+        [2, 0]
+    );
+    let (alike, tens) = ([10, 10, 10, 20, 20], [10, 14, 19, 20, 25]);
+    assert_eq!(rt;
+        exponential_keys_of_rev(&alike),
+        exponential_keys_of_rev(&tens)
+    );
+}
+
+#[test]
+fn questions_of_calls(rt: HostRuntime) {
+    let mut out: [Option<&[u32]>; 3] = [None; 3];
+    let ends = [End::Back, End::Front, End::Front];
+    assert_eq!(rt; walk_binary(&[7, 7], &ends, &mut out), 1);
+    assert!(rt; matches!(out, [Some([7, 7]), None, None]));
+}
+
+#[test]
+fn searches_find_and_count(rt: HostRuntime) {
+    let numbers = [1, 3, 5];
+    let found = [1, 5, 4].map(|elem| questions_of_search(&numbers, elem).0);
+    assert_eq!(rt; found, [Ok(0), Ok(2), Err(2)]);
+    assert!(rt; questions_of_search(&numbers, 5).1 >= 2);
+    let rows = [(1, 9), (3, 8), (5, 7)];
+    let found = [1, 5, 4].map(|key| keys_of_search(&rows, key).0);
+    assert_eq!(rt; found, [Ok(0), Ok(2), Err(2)]);
+    assert!(rt; keys_of_search(&rows, 5).1 >= 2);
+}
+
 #[test]
 fn exponential_questions_of_two(rt: HostRuntime) {
     let counts = [exponential_questions(&[1, 2]), exponential_questions(&[7])];
@@ -28,6 +86,8 @@ fn exponential_questions_of_two(rt: HostRuntime) {
 fn first_group_of_two(rt: HostRuntime) {
     assert!(rt; matches!(first_exponential_group(&[1, 2]), (Some([1]), 1)));
     assert!(rt; matches!(first_exponential_group(&[]), (None, 0)));
+    assert!(rt; matches!(first_exponential_group(&[2, 2, 1]).0, Some([2, 2])));
+    assert!(rt; matches!(first_exponential_group(&[2, 2, 3]).0, Some([2, 2])));
 }
 
 #[test]

@@ -51,8 +51,12 @@ fn walks_two_families(rt: HostRuntime) {
 
 #[test]
 fn counts_sorted(rt: HostRuntime) {
-    let counts = [count_sorted(&[1, 1, 2, 5, 5]), count_sorted(&[2, 1])];
-    assert_eq!(rt; counts, [Some(3), None]);
+    let counts = [
+        count_sorted(&[1, 1, 2, 5, 5]),
+        count_sorted::<i32>(&[]),
+        count_sorted(&[2, 1]),
+    ];
+    assert_eq!(rt; counts, [Some(3), Some(0), None]);
     let mut mixed = [3, 1, 3, 2, 1];
     assert_eq!(rt; sort_and_count(&mut mixed), 3);
     assert_eq!(rt; mixed, [1, 1, 2, 3, 3]);

@@ -26,5 +26,5 @@ fn walks_through(rt: HostRuntime) {
     let mut out: [Option<&[i32]>; 2] = [None; 2];
     let mut groups = walk_through(&slice, &[End::Back, End::Front], &mut out);
     assert_eq!(rt; groups.next(), None);
-    assert_eq!(rt; out[1], Some([1].as_slice()));
+    assert!(rt; matches!(out, [Some([2]), Some([1])]));
 }

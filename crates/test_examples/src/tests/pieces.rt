@@ -1,9 +1,19 @@
 //! Numbers of groups, as `dedup` has them, from a descending slice, and of two slices that may not be sorted.
-use example_counts::pieces::{common_keys_if_sorted, count_descending, deduped_len, first_two};
+use example_counts::pieces::{
+    common_keys_if_sorted, count_descending, deduped_len, first_two, groups_and_chunks,
+};
 
 #[test]
 fn as_dedup_counts(rt: HostRuntime) {
     assert_eq!(rt; [deduped_len(&[]), deduped_len(&[1, 1, 2, 2, 1])], [0, 3]);
+}
+
+#[test]
+fn as_chunk_by_counts(rt: HostRuntime) {
+    assert_eq!(rt;
+        [groups_and_chunks(&[]), groups_and_chunks(&[1, 1, 2])],
+        [(0, 0), (2, 2)]
+    );
 }
 
 #[test]

@@ -2,8 +2,8 @@ use Rattle.std.proofs.Common.{sym, ◌∙◌, subst}
 use Rattle.slice_group_by.specs.Search.{NeverDescends}
 use Rattle.example_walks.proofs.families.walk_two_families.Goals as goal
 
-pub returns : goal.returns
-returns g c =
+pub returns-clause-writing : goal.returns-clause-writing
+returns-clause-writing g c =
     let ascends = subst (NeverDescends g.T.Ord.cmp) (sym c.requires.same) c.requires.sorted in
     let grouped = c.ascending_is_grouped.ensures.by_itself _ ascends in
     c.families_agree.ensures g.T.PartialEq.eq c.new-others.result c.walk-2.new.queue c.new-groups.result c.walk.new.queue

@@ -1,4 +1,4 @@
-use Rattle.std.proofs.Common.{Some, rules, arith, ap, ◌∙◌, ◌≡◌, ◌+◌, length, nat_eq, ◌++◌, [], ◌∷◌}
+use Rattle.std.proofs.Common.{Some, rules, arith, ap, ◌∙◌, length, nat_eq}
 use Rattle.std.proofs.lemmas.List.{length-append}
 use Rattle.slice_group_by.specs.Gives.{groups_of}
 use Rattle.slice_group_by.specs.End.TheVariants.{Back}

@@ -1,4 +1,5 @@
-use Rattle.std.proofs.Common.{length, ◌≡◌, ◌+◌, []}
+use Rattle.std.proofs.Common.{length, map, nat_eq, replicate, get_or, ◌≡◌, ◌++◌, []}
+use Rattle.slice_group_by.specs.Split.{concat, split}
 use Rattle.example_walks.proofs.writers.filled.Given as goal
 
 abbrev pub invariant-loop-group : goal.invariant-loop-group
@@ -6,7 +7,8 @@ invariant-loop-group l = record {
   root : l.groups.loans.root ≡ l.initial.groups.loans.root;
   cuts : l.groups.loans.cuts ≡ [];
   after : l.groups.loans.after ≡ [];
-  kept : length l.groups.loans.before + length l.groups.remainder ≡ length l.initial.groups.remainder;
+  done : l.groups.loans.before ++ concat (map (λ g. replicate (length g) (get_or g 0 0)) (split nat_eq l.groups.remainder))
+      ≡ concat (map (λ g. replicate (length g) (get_or g 0 0)) (split nat_eq l.initial.groups.remainder));
 }
 
 abbrev pub decreases-loop-group : goal.decreases-loop-group
