@@ -92,7 +92,7 @@ fn main(rt: HostRuntime) -> io::Result<()> {
 
     let mut repeats = [5, 5, 5, 6, 7, 7];
     bytes::clear_repeats(&mut repeats);
-    let mut words = *b"one two";
+    let mut words = *b"na\xc3\xafve x";
     bytes::capitalize(&mut words);
     let mut crossed = *b"aa\xc3\xa9b";
     let was_text = (bytes::cross_out(&mut crossed), bytes::cross_out(&mut [255]));

@@ -44,7 +44,7 @@ fn sum(group: &[u32]) -> Option<u64>
     Some(sum)
 }
 
-/// The longest group, or `None` where there is none.
+/// The longest group, the first of several, or `None` where there is none.
 pub fn longest_group<T: PartialEq>(xs: &[T]) -> Option<&[T]>
     ensures { MatchOption result (xs.now ≡ []) (λ group. IsLongest group.now (split T.eq xs.now)) }
 {
@@ -61,7 +61,7 @@ pub fn longest_group<T: PartialEq>(xs: &[T]) -> Option<&[T]>
     longest
 }
 
-/// The longest group, and the row at which it begins.
+/// The longest group, the first of several, and the row at which it begins.
 pub fn longest_with_row<T: PartialEq>(slice: &[T]) -> Option<(usize, &[T])>
     ensures { IfSome result (λ found. found.1.now ≡ take (length found.1.now) (drop found.0 slice.now)) }
 {

@@ -9,6 +9,7 @@ fn folds(rt: HostRuntime) {
     assert_eq!(rt; total_by_groups(&[]), Some(0));
     assert_eq!(rt; total_by_groups(&[u32::MAX; 2]), Some(8_589_934_590));
     assert_eq!(rt; longest_group(&slice), Some(&[3u32, 3, 3][..]));
+    assert_eq!(rt; longest_group(&[1u32, 1, 2, 2]), Some(&[1u32, 1][..]));
     assert_eq!(rt; longest_group::<u32>(&[]), None);
     assert_eq!(rt; longest_with_row(&slice), Some((3, &[3u32, 3, 3][..])));
     assert_eq!(rt; longest_with_row(&[1u32, 2, 3]), Some((0, &[1u32][..])));
