@@ -277,6 +277,9 @@ fn of_searches_and_joins(rt: HostRuntime) {
 #[test]
 fn of_questions(rt: HostRuntime) {
     assert!(rt; linear_questions(&[5; 8]) == 7 && binary_questions(&[5; 8]) == 3);
+    assert!(rt; linear_questions(&[5, 5, 6, 6]) == 3);
+    assert!(rt; binary_questions(&[5, 6]) == 1 && binary_questions(&[5, 6, 7]) == 2);
+    assert!(rt; exponential_questions(&[5, 6]) == 1);
     let galloping = exponential_questions(&[5; 8]);
     assert!(rt; galloping > 3 && galloping < 7);
 }

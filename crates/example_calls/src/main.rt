@@ -1,5 +1,5 @@
-//! Small programs over groups, each proved with no proof file, which the README and `docs/CALLING.md` show. Each line that is printed belongs
-//! to one module.
+//! Small programs over groups, each proved with no proof file, which the README and `docs/CALLING.md` show. Each line that
+//! is printed belongs to one module.
 #![tactic(auto)]
 
 mod bytes;
@@ -18,17 +18,17 @@ use returned::RunReader;
 use std::io;
 
 fn main(rt: HostRuntime) -> io::Result<()> {
-    let mut vec = vec![in rt.alloc(); 7, 7, 8, 1]?;
+    let mut vec = vec![in rt.alloc(); 7, 8, 7, 7]?;
     let string = format!(in rt.alloc(); "aab")?;
     let mut array = [1, 2, 3, 2, 3];
-    let by_new = inputs::runs_by_new([7, 7, 8, 1], &vec, &string);
-    let by_methods = inputs::runs_by_methods([7, 7, 8, 1], &vec, &string);
+    let by_new = inputs::runs_by_new([7, 8, 7, 7], &vec, &string);
+    let by_methods = inputs::runs_by_methods([7, 8, 7, 7], &vec, &string);
     inputs::turn_stretches(&mut array, &mut vec);
     println!(rt; "inputs: {by_new:?} {by_methods:?} {array:?} {vec:?}")?;
 
-    let mut reader = RunReader::new(&[1, 1, 2]);
+    let mut reader = RunReader::new(&[2, 1, 2]);
     let reads = (reader.next_run(), reader.next_run(), reader.next_run());
-    let longest = returned::longest_run(&[1, 1, 2, 3, 3, 4]);
+    let longest = returned::longest_run(&[2, 1, 2, 2, 3, 3, 4]);
     println!(rt;
         "returned: {longest:?} {:?} {reads:?}",
         returned::all_runs(rt.alloc(), "aab")?
@@ -39,7 +39,7 @@ fn main(rt: HostRuntime) -> io::Result<()> {
         loops::shared(&left, &right),
         loops::shared_by_join(&left, &right),
     );
-    let runs = [1, 2, 2, 2, 3, 4];
+    let runs = [1, 2, 1, 1, 1, 3, 4, 5];
     let (longer, equal) = (
         loops::longer_than_before(&runs),
         loops::as_long_as_next(&runs),
@@ -51,14 +51,14 @@ fn main(rt: HostRuntime) -> io::Result<()> {
 
     println!(rt;
         "numbers: {} {}",
-        numbers::longest_equal(&[1u8, 2, 2, 2, 3, 3]),
+        numbers::longest_equal(&[2u8, 1, 2, 2, 2, 3]),
         numbers::longest_equal(&[0.5f64, 2.5, 2.5])
     )?;
 
     offsets::print_all(&rt)?;
     searches::print_all(&rt)?;
 
-    let near = [1, 2, 4, 9, 9, 20];
+    let near = [1, 2, 4, 9, 9, 20, 3];
     let counts = (
         closures::stretches(&near, 2),
         closures::questions(&near),
@@ -86,11 +86,11 @@ fn main(rt: HostRuntime) -> io::Result<()> {
 
     println!(rt;
         "rest: {:?} {:?}",
-        rest::after_first_run(&[1, 1, 2]),
+        rest::after_first_run(&[2, 1, 2]),
         rest::after_first_letters("aab")
     )?;
 
-    let mut repeats = [5, 5, 5, 6, 7, 7];
+    let mut repeats = [5, 5, 6, 5, 5, 7];
     bytes::clear_repeats(&mut repeats);
     let mut words = *b"na\xc3\xafve x";
     bytes::capitalize(&mut words);
@@ -98,7 +98,7 @@ fn main(rt: HostRuntime) -> io::Result<()> {
     let was_text = (bytes::cross_out(&mut crossed), bytes::cross_out(&mut [255]));
     println!(rt; "bytes: {repeats:?} {words:?} {crossed:?} {was_text:?}")?;
 
-    let mut ends = [1, 1, 2, 3, 3];
+    let mut ends = [1, 2, 1, 3, 3];
     first_page::fill_ends(&mut ends);
     println!(rt;
         "first page: {:?} {ends:?} {}",

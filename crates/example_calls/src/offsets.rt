@@ -50,7 +50,7 @@ pub fn print_all(rt: &(impl Print + AllocGlobal)) -> io::Result<()> {
     let words = words(rt.alloc(), "to be, or é not")?;
     println!(rt;
         "offsets: {sessions:?} {words:?} {:?} {:?}",
-        last_run(&[1, 1, 2, 2, 2]),
-        keyed(rt.alloc(), &[(7, 1), (7, 2), (8, 3)])?
+        last_run(&[2, 2, 1, 2]),
+        keyed(rt.alloc(), &[(7, 1), (7, 2), (8, 3), (7, 4)])?
     )
 }

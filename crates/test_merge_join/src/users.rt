@@ -95,6 +95,8 @@ fn of_every_kind(rt: HostRuntime) {
     assert!(rt; are(present(alloc, &left, &right), &[&2, &5]));
     let groups: [(&[u32], &[u32]); 2] = [(&[2], &[2]), (&[5], &[5, 5])];
     assert!(rt; are(common_groups(alloc, &left, &right), &groups));
+    let groups: [(&[u32], &[u32]); 1] = [(&[4, 4], &[4])];
+    assert!(rt; are(common_groups(alloc, &[1, 4, 4], &[2, 4]), &groups));
 }
 
 #[test]

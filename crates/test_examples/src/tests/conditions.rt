@@ -7,8 +7,11 @@ use example_counts::conditions::{
 fn meets_conditions(rt: HostRuntime) {
     let outer: [Option<&'static [i32]>; 3] = [Some(&[1, 1]), Some(&[3]), Some(&[2])];
     assert!(rt; three_outer_groups(&[1, 1, 2, 3]) == outer);
+    let outer: [Option<&'static [i32]>; 3] = [Some(&[1]), Some(&[1]), Some(&[2])];
+    assert!(rt; three_outer_groups(&[1, 2, 1, 2, 1]) == outer);
     assert_eq!(rt; [count_by_distance(), count_of_one()], [2, 1]);
     let mut bytes = [0x61, 0x61, 0xC3, 0xA9, 0xC3, 0xA9, 0x62];
     assert!(rt; matches!(count_equal_characters(&mut bytes), Some(3)));
+    assert!(rt; matches!(count_equal_characters(&mut []), Some(0)));
     assert!(rt; count_equal_characters(&mut [0x61, 0xC3]).is_none());
 }

@@ -26,16 +26,16 @@ fn questions_of_eight(rt: HostRuntime) {
     let galloping = exponential_questions(&[5; 8]);
     assert!(rt; galloping > 3 && galloping < 7);
     let (ascending, descending) = ([1, 2, 3, 4, 5, 6, 7, 8], [8, 7, 6, 5, 4, 3, 2, 1]);
-    assert_eq!(rt;
-        [
-            binary_questions(&ascending),
-            exponential_questions(&ascending)
-        ],
-        [
-            binary_questions(&descending),
-            exponential_questions(&descending)
-        ]
-    );
+    let counts = [
+        binary_questions(&ascending),
+        exponential_questions(&ascending),
+    ];
+    for others in [descending, [10, 20, 30, 40, 50, 60, 70, 80]] {
+        assert_eq!(rt;
+            [binary_questions(&others), exponential_questions(&others)],
+            counts
+        );
+    }
 }
 
 // Two keys a question, which are the tens.
@@ -48,11 +48,10 @@ fn keys_from_the_back(rt: HostRuntime) {
         ],
         [2, 0]
     );
-    let (alike, tens) = ([10, 10, 10, 20, 20], [10, 14, 19, 20, 25]);
-    assert_eq!(rt;
-        exponential_keys_of_rev(&alike),
-        exponential_keys_of_rev(&tens)
-    );
+    let alike = exponential_keys_of_rev(&[10, 10, 10, 20, 20]);
+    assert_eq!(rt; exponential_keys_of_rev(&[10, 14, 19, 20, 25]), alike);
+    let apart = exponential_keys_of_rev(&[10, 20, 30]);
+    assert_eq!(rt; exponential_keys_of_rev(&[10, 110, 210]), apart);
 }
 
 #[test]
@@ -103,6 +102,9 @@ fn adapters_ask_no_more(rt: HostRuntime) {
     ];
     assert_eq!(rt; counts, [2, 2]);
     assert_eq!(rt; longest_and_questions(&[1, 2, 2, 2, 2, 3, 3]), (4, 6));
+    assert_eq!(rt; longest_and_questions(&[1, 2, 2]), (2, 2));
     let (longest, keys) = longest_and_binary_keys(&[10, 21, 22, 23, 29, 31, 32]);
     assert!(rt; longest == 4 && keys > 0);
+    assert_eq!(rt; longest_and_binary_keys(&[5, 15, 115]).0, 1);
+    assert_eq!(rt; longest_and_binary_keys(&[5, 15, 16]).0, 2);
 }

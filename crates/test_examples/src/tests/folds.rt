@@ -13,5 +13,6 @@ fn folds(rt: HostRuntime) {
     assert_eq!(rt; longest_group::<u32>(&[]), None);
     assert_eq!(rt; longest_with_row(&slice), Some((3, &[3u32, 3, 3][..])));
     assert_eq!(rt; longest_with_row(&[1u32, 2, 3]), Some((0, &[1u32][..])));
+    assert_eq!(rt; longest_with_row(&[1u32, 2, 2]), Some((1, &[2u32, 2][..])));
     assert_eq!(rt; longest_with_row::<u32>(&[]), Some((0, &[][..])));
 }

@@ -21,6 +21,16 @@ fn counts(rt: HostRuntime) {
 }
 
 #[test]
+fn walks_on_where_nothing_is_left(rt: HostRuntime) {
+    let slice = [1, 2];
+    let held = [9];
+    let mut out: [Option<&[i32]>; 4] = [Some(&held); 4];
+    let ends = [End::Back, End::Front, End::Back, End::Front];
+    let _groups = walk_through(&slice, &ends, &mut out);
+    assert!(rt; matches!(out, [Some([2]), Some([1]), None, None]));
+}
+
+#[test]
 fn walks_through(rt: HostRuntime) {
     let slice = [1, 2];
     let mut out: [Option<&[i32]>; 2] = [None; 2];

@@ -10,6 +10,7 @@ mod folds;
 mod joins;
 mod joins_by_key;
 mod loops;
+mod offsets;
 mod parts;
 mod pieces;
 mod plans;

@@ -14,6 +14,9 @@ fn writers(rt: HostRuntime) {
     assert_eq!(rt; slice, [0, 0, 5, 0, 0]);
     clear_all(&mut slice);
     assert_eq!(rt; slice, [0, 0, 0, 0, 0]);
+    let mut unsorted = [4, 5, 4, 6, 4];
+    clear_ends(&mut unsorted);
+    assert_eq!(rt; unsorted, [0, 5, 4, 6, 0]);
     let mut one = [8, 8];
     clear_ends(&mut one);
     assert_eq!(rt; one, [0, 0]);

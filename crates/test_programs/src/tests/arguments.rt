@@ -14,7 +14,10 @@ fn helps<P: Program>(alloc: Global, usage: &str) -> Result<bool, Fail> {
 fn refuses<P: Program>(alloc: Global, usage: &str, words: &[&str]) -> Result<bool, Fail> {
     let refused = (2, b"".as_slice(), usage.as_bytes());
     let mut are_refused = ran::<P>(alloc, words, b"")?.all() == refused;
-    for word in ["", "--", "--helps", "help", "-c", "Inner", "decoded"] {
+    for word in [
+        "", "-", "--", "--helps", "help", "-h", "-c", "-d", "d", "Decode", "decoded", "INNER",
+        "join", "1",
+    ] {
         are_refused &= ran::<P>(alloc, &[word], b"")?.all() == refused;
     }
     are_refused &= ran::<P>(alloc, &["--help", "--help"], b"")?.all() == refused;

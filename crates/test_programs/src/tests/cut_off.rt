@@ -66,22 +66,7 @@ fn fails_with_less<P: Program>(alloc: Global, words: &[&str], input: &[u8]) -> R
 }
 
 #[test]
-fn streams_cut_off(rt: HostRuntime) -> Result<(), Fail> {
-    let alloc = rt.alloc();
-    assert!(rt; fails_with_less::<RunLengthCoder>(alloc, &[], b"aaab\0\0\xff")?);
-    assert!(rt; fails_with_less::<RunLengthCoder>(alloc, &["decode"], b"3 97\n1 98\n12 255\n")?);
-    assert!(rt; fails_with_less::<UniqCount>(alloc, &[], b"a\na\nb\n\nccc\n")?);
-    assert!(rt; fails_with_less::<TokenCounter>(alloc, &[], b"let x1 = \xc3\xa9;\n")?);
-    Ok(())
-}
-
-#[test]
-fn tables_cut_off(rt: HostRuntime) -> Result<(), Fail> {
-    let alloc = rt.alloc();
-    assert!(rt; fails_with_less::<GroupedReport>(alloc, &[], b"9,1\n7,65\n9,2\n10,3\n")?);
-    let tables = b"a,1\nb,2\nb,x\n--\nb,3\nc,5\n";
-    assert!(rt; fails_with_less::<TableJoin>(alloc, &["full"], tables)?);
-    assert!(rt; fails_with_less::<TableJoin>(alloc, &["anti"], tables)?);
-    assert!(rt; fails_with_less::<IndexReader>(alloc, &[], b"3,30\n5,51\n5,50\n--\n5\n4\n3\n")?);
+fn inputs_and_outputs_cut_off(rt: HostRuntime) -> Result<(), Fail> {
+    assert_eq!(rt; holds_of_all!(fails_with_less, rt.alloc()), [true; 8]);
     Ok(())
 }

@@ -35,37 +35,55 @@ impl Write for Unflushed {
     }
 }
 
-// The statuses with outputs that are closed, that are closed behind a buffer, in which what is written stands until it is flushed,
-// and that cannot be flushed, of a run and of `--help`; and whether each was complained of.
-fn failing<P: Program>(alloc: Global, input: &[u8]) -> Result<([u8; 4], bool), Fail> {
+// Whether outputs that are closed, that are closed behind a buffer, in which what is written stands until it is flushed, and that
+// cannot be flushed, end a run with 1, the last `--help` too, and each is said.
+fn says_outputs<P: Program>(alloc: Global, words: &[&str], input: &[u8]) -> Result<bool, Fail> {
     let mut complaints = Vec::new(alloc);
+    let words = owned(alloc, words)?;
     let help = owned(alloc, &["--help"])?;
     let mut buffered = BufWriter::new(alloc, Closed)?;
     let statuses = [
-        P::run(alloc, &[], input, &mut Closed, &mut complaints),
-        P::run(alloc, &[], input, &mut buffered, &mut complaints),
-        P::run(alloc, &[], input, &mut Unflushed, &mut complaints),
+        P::run(alloc, &words, input, &mut Closed, &mut complaints),
+        P::run(alloc, &words, input, &mut buffered, &mut complaints),
+        P::run(alloc, &words, input, &mut Unflushed, &mut complaints),
         P::run(alloc, &help, input, &mut Unflushed, &mut complaints),
     ];
     let mut said = Vec::new(alloc);
     for _ in statuses {
         writeln!(&mut said, "{}: broken pipe", P::NAME)?;
     }
-    Ok((statuses, said.as_slice() == complaints.as_slice()))
+    Ok(statuses == [1; 4] && said.as_slice() == complaints.as_slice())
 }
 
 #[test]
-fn closed_outputs_are_said(rt: HostRuntime) -> Result<(), Fail> {
+fn outputs_that_fail_are_said(rt: HostRuntime) -> Result<(), Fail> {
+    assert_eq!(rt; holds_of_all!(says_outputs, rt.alloc()), [true; 8]);
+    Ok(())
+}
+
+// Whether an output that cannot be flushed is said behind the complaints of lines.
+fn says_it_last<P: Program>(alloc: Global, words: &[&str], input: &[u8]) -> Result<bool, Fail> {
+    let mut complaints = Vec::new(alloc);
+    let words = owned(alloc, words)?;
+    let status = P::run(alloc, &words, input, &mut Unflushed, &mut complaints);
+    let said = format!(in alloc; "{}: broken pipe\n", P::NAME)?;
+    Ok(
+        status == 1
+            && complaints.starts_with(b"line 1 is left out")
+            && complaints.ends_with(said.as_bytes()),
+    )
+}
+
+#[test]
+fn outputs_that_fail_are_said_behind_lines(rt: HostRuntime) -> Result<(), Fail> {
     let alloc = rt.alloc();
-    let all = [
-        failing::<RunLengthCoder>(alloc, b"aab")?,
-        failing::<UniqCount>(alloc, b"a\nb")?,
-        failing::<TokenCounter>(alloc, b"a\nb")?,
-        failing::<GroupedReport>(alloc, b"1,2\n")?,
-        failing::<TableJoin>(alloc, b"a,1\n--\na,2\n")?,
-        failing::<IndexReader>(alloc, b"1,2\n--\n1\n")?,
+    let are_said = [
+        says_it_last::<RunLengthCoder>(alloc, &["decode"], b"no run\n1 97\n")?,
+        says_it_last::<GroupedReport>(alloc, &[], b"no row\n1,2\n")?,
+        says_it_last::<TableJoin>(alloc, &[], b"no row\na,1\n--\na,2\n")?,
+        says_it_last::<IndexReader>(alloc, &[], b"no row\n1,2\n--\n1\n")?,
     ];
-    assert_eq!(rt; all, [([1; 4], true); 6]);
+    assert_eq!(rt; are_said, [true; 4]);
     Ok(())
 }
 

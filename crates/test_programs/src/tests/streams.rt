@@ -1,8 +1,22 @@
-//! Inputs that come byte by byte, fail or are interrupted.
+//! Inputs that come byte by byte, fail, are interrupted, or go on after their end.
+use crate::tests::programs::{
+    GroupedReport, IndexReader, Program, RunLengthCoder, TableJoin, TokenCounter, UniqCount, ran,
+    ran_over,
+};
 use std::alloc::Global;
 use std::io;
 use std::io::{BufReader, Error, ErrorKind, Read};
 use std::test::Fail;
+
+// Gives the first of the bytes.
+fn give(bytes: &mut &[u8], buffer: &mut [u8]) -> usize {
+    let ([byte, rest @ ..], Some(first)) = (*bytes, buffer.first_mut()) else {
+        return 0;
+    };
+    *first = *byte;
+    *bytes = rest;
+    1
+}
 
 /// Gives one byte a read, and then fails or ends.
 #[derive(Drop)]
@@ -13,41 +27,47 @@ pub struct Slowly<'a> {
 
 impl Read for Slowly<'_> {
     fn read(&mut self, buffer: &mut [u8]) -> io::Result<usize> {
-        let [byte, rest @ ..] = self.bytes else {
-            return if self.fails {
-                Err(Error::new(ErrorKind::InvalidData, "no more can be read"))
-            } else {
-                Ok(0)
-            };
-        };
-        let Some(first) = buffer.first_mut() else {
-            return Ok(0);
-        };
-        *first = *byte;
-        self.bytes = rest;
-        Ok(1)
+        if self.bytes.is_empty() && self.fails {
+            return Err(Error::new(ErrorKind::InvalidData, "no more can be read"));
+        }
+        Ok(give(&mut self.bytes, buffer))
     }
 }
 
-// Is interrupted before each byte.
+// Is interrupted so often before each byte.
 #[derive(Drop)]
 struct Interrupted<'a> {
     bytes: &'a [u8],
-    is_due: bool,
+    times: u32,
+    left: u32,
 }
 
 impl Read for Interrupted<'_> {
     fn read(&mut self, buffer: &mut [u8]) -> io::Result<usize> {
-        self.is_due = !self.is_due;
-        if self.is_due {
+        if self.left > 0 {
+            self.left -= 1;
             return Err(Error::from(ErrorKind::Interrupted));
         }
-        let ([byte, rest @ ..], Some(first)) = (self.bytes, buffer.first_mut()) else {
-            return Ok(0);
-        };
-        *first = *byte;
-        self.bytes = rest;
-        Ok(1)
+        self.left = self.times;
+        Ok(give(&mut self.bytes, buffer))
+    }
+}
+
+// Ends, and has more where it is read once more.
+#[derive(Drop)]
+struct GoesOn<'a> {
+    bytes: &'a [u8],
+    more: &'a [u8],
+}
+
+impl Read for GoesOn<'_> {
+    fn read(&mut self, buffer: &mut [u8]) -> io::Result<usize> {
+        let given = give(&mut self.bytes, buffer);
+        if given == 0 {
+            self.bytes = self.more;
+            self.more = &[];
+        }
+        Ok(given)
     }
 }
 
@@ -56,12 +76,6 @@ impl Read for Interrupted<'_> {
 struct Once {
     code: i32,
     is_due: bool,
-}
-
-impl Once {
-    fn new(code: i32) -> Self {
-        Self { code, is_due: true }
-    }
 }
 
 impl Read for Once {
@@ -74,115 +88,104 @@ impl Read for Once {
     }
 }
 
-// The statuses of all programs where the first read fails by this code.
-fn statuses(alloc: Global, code: i32) -> Result<[u8; 6], Fail> {
-    let mut out = Vec::new(alloc);
-    let mut said = Vec::new(alloc);
-    let mut runs = BufReader::new(alloc, Once::new(code))?;
-    let mut lines = BufReader::new(alloc, Once::new(code))?;
-    Ok([
-        run_length_coder::program::run(alloc, &[], &mut runs, &mut out, &mut said),
-        uniq_count::program::run(alloc, &[], &mut lines, &mut out, &mut said),
-        token_counter::program::run(alloc, &[], &mut Once::new(code), &mut out, &mut said),
-        grouped_report::program::run(
-            alloc,
-            &[],
-            BufReader::new(alloc, Once::new(code))?,
-            &mut out,
-            &mut said,
-        ),
-        table_join::program::run(
-            alloc,
-            &[],
-            BufReader::new(alloc, Once::new(code))?,
-            &mut out,
-            &mut said,
-        ),
-        index_reader::program::run(
-            alloc,
-            &[],
-            BufReader::new(alloc, Once::new(code))?,
-            &mut out,
-            &mut said,
-        ),
-    ])
+// Whether the reader leads to what the bytes lead to.
+fn is_the_same<P: Program, R: Read + Drop>(
+    alloc: Global,
+    words: &[&str],
+    input: &[u8],
+    reader: R,
+) -> Result<bool, Fail> {
+    let whole = ran::<P>(alloc, words, input)?;
+    let by_bytes = ran_over::<P, _>(alloc, words, BufReader::with_capacity(alloc, 1, reader)?)?;
+    Ok(whole.all() == by_bytes.all())
 }
 
-#[test]
-fn reads_are_made_again_where_they_were_interrupted_alone(rt: HostRuntime) -> Result<(), Fail> {
-    let interrupted = 4;
-    for code in 1..134 {
-        if code != interrupted {
-            assert_eq!(rt; statuses(rt.alloc(), code)?, [1; 6], "code {code}");
-        }
-    }
-    Ok(())
-}
-
-#[test]
-fn runs_go_on_across_reads(rt: HostRuntime) -> Result<(), Fail> {
-    let mut out = Vec::new(rt.alloc());
-    let mut complaints = Vec::new(rt.alloc());
+// Whether it is the same byte by byte, and with interruptions.
+fn streams<P: Program>(alloc: Global, words: &[&str], input: &[u8]) -> Result<bool, Fail> {
     let slowly = Slowly {
-        bytes: b"aaab\0\0\xff",
+        bytes: input,
         fails: false,
     };
-    let mut input = BufReader::with_capacity(rt.alloc(), 1, slowly)?;
-    let status = run_length_coder::program::run(
-        rt.alloc(),
-        &[],
-        &mut input,
-        &mut out,
-        &mut complaints,
-    );
-    assert_eq!(rt; status, 0);
-    assert_eq!(rt; out.as_slice(), b"3 97\n1 98\n2 0\n1 255\n".as_slice());
-    assert!(rt; complaints.is_empty());
-    Ok(())
-}
-
-#[test]
-fn interrupted_reads_go_on(rt: HostRuntime) -> Result<(), Fail> {
-    let mut out = Vec::new(rt.alloc());
-    let mut complaints = Vec::new(rt.alloc());
-    let mut input = Interrupted {
-        bytes: b"ab 1",
-        is_due: false,
+    let once = Interrupted {
+        bytes: input,
+        times: 1,
+        left: 1,
     };
-    let status = token_counter::program::run(
-        rt.alloc(),
-        &[],
-        &mut input,
-        &mut out,
-        &mut complaints,
-    );
-    assert_eq!(rt; status, 0);
-    assert_eq!(rt;
-        out.as_slice(),
-        b"letters: 1\ndigits: 1\nspace: 1\nother: 0\n".as_slice()
-    );
-    Ok(())
+    let often = Interrupted {
+        bytes: input,
+        times: 0,
+        left: 100_000,
+    };
+    Ok(
+        is_the_same::<P, _>(alloc, words, input, slowly)?
+            && is_the_same::<P, _>(alloc, words, input, once)?
+            && is_the_same::<P, _>(alloc, words, input, often)?,
+    )
+}
+
+// Whether it ends with the input, whatever a further read would give.
+fn ends<P: Program>(alloc: Global, words: &[&str], input: &[u8]) -> Result<bool, Fail> {
+    let goes_on = GoesOn {
+        bytes: input,
+        more: b"1,1\n",
+    };
+    is_the_same::<P, _>(alloc, words, input, goes_on)
 }
 
 #[test]
-fn failed_reads_of_lines_are_said(rt: HostRuntime) -> Result<(), Fail> {
+fn inputs_come_in_any_way(rt: HostRuntime) -> Result<(), Fail> {
+    assert_eq!(rt; holds_of_all!(streams, rt.alloc()), [true; 8]);
+    Ok(())
+}
+
+// Not `uniq_count`, which reads once more behind its last block.
+#[test]
+fn inputs_end_once(rt: HostRuntime) -> Result<(), Fail> {
+    let alloc = rt.alloc();
+    assert!(rt; ends::<RunLengthCoder>(alloc, &[], b"aab")?);
+    assert!(rt; ends::<RunLengthCoder>(alloc, &["decode"], b"2 97\n")?);
+    assert!(rt; ends::<TokenCounter>(alloc, &[], b"let x1;")?);
+    assert!(rt; ends::<GroupedReport>(alloc, &[], b"9,1\n")?);
+    assert!(rt; ends::<TableJoin>(alloc, &[], b"a,1\n--\na,2\n")?);
+    assert!(rt; ends::<IndexReader>(alloc, &[], b"3,30\n--\n3\n")?);
+    Ok(())
+}
+
+// Whether each error of the system but an interruption ends the run, and is said.
+fn says_errors<P: Program>(alloc: Global, words: &[&str], _input: &[u8]) -> Result<bool, Fail> {
+    let interrupted = 4;
+    let mut are_said = true;
+    for code in 1..134 {
+        if code != interrupted {
+            let reader = BufReader::with_capacity(alloc, 1, Once { code, is_due: true })?;
+            let ran = ran_over::<P, _>(alloc, words, reader)?;
+            let said = format!(in alloc; "{}: {}\n", P::NAME, Error::from_raw_os_error(code))?;
+            are_said &= ran.all() == (1, b"".as_slice(), said.as_bytes());
+        }
+    }
+    Ok(are_said)
+}
+
+#[test]
+fn errors_are_said(rt: HostRuntime) -> Result<(), Fail> {
+    assert_eq!(rt; holds_of_all!(says_errors, rt.alloc()), [true; 8]);
+    Ok(())
+}
+
+// What was read is lost with the read that failed, where its group may go on.
+#[test]
+fn failed_reads_of_many_lines_are_said(rt: HostRuntime) -> Result<(), Fail> {
     let mut bytes = Vec::new(rt.alloc());
     for _ in 0..40_000u32 {
         bytes.extend_from_slice(b"a\n")?;
     }
-    let mut out = Vec::new(rt.alloc());
-    let mut complaints = Vec::new(rt.alloc());
     let slowly = Slowly {
         bytes: &bytes,
         fails: true,
     };
-    let mut input = BufReader::with_capacity(rt.alloc(), 1, slowly)?;
-    let status = uniq_count::program::run(rt.alloc(), &[], &mut input, &mut out, &mut complaints);
-    assert_eq!(rt; status, 1);
-    assert!(rt; out.is_empty());
-    assert_eq!(rt;
-        complaints.as_slice(),
-        b"uniq_count: no more can be read\n".as_slice()
-    );
+    let input = BufReader::with_capacity(rt.alloc(), 1, slowly)?;
+    let ran = ran_over::<UniqCount, _>(rt.alloc(), &[], input)?;
+    let said = b"uniq_count: no more can be read\n".as_slice();
+    assert_eq!(rt; ran.all(), (1, b"".as_slice(), said));
     Ok(())
 }
