@@ -152,18 +152,11 @@ unwrap_or_position p xs = at_end (ltb (position_or_len p xs) (length xs)) refl w
   at_end true e = rw e refl
   at_end false e = rw e (omega (arith, ltb-false, prefix_len-le-length (λ x. not (p x)) xs))
 
--- a reader that gives no line has no bytes left
-no_lines : (xs : List ℕ) → lines xs ≡ [] → xs ≡ []
-no_lines [] e = refl
-no_lines (x ∷ xs) e = absurd (some_line x xs (is_feed x) refl e)
-
-pub Reads-end : (a b : Option (List ℕ)) (text new : List ℕ) → Reads a b text → IsAtEnd b
-    → IfSome b (λ xs. new ≡ text ++ take_through 10 xs) → new ≡ [] → IsAtEnd a
-Reads-end None b text new p end grown none = tt
-Reads-end (Some all) None text new p end grown none = absurd p
-Reads-end (Some all) (Some xs) text new p end grown none =
-    let same : text ≡ [] = sym (append-nil text) ∙ ap (λ l. text ++ take_through 10 l) (sym end) ∙ sym grown ∙ none in
-    no_lines all (p.0 ∙ ap (λ l. lines l ++ lines xs) same ∙ ap lines end)
+-- a reader at its end is at its end behind one read more
+pub Reads-end : (a b c : Option (List ℕ)) (text : List ℕ) → Reads a b text → IsAtEnd b → DropsThrough b c 10 → IfSome a (λ _. IsAtEnd c)
+Reads-end None b c text p end left = tt
+Reads-end (Some all) None c text p end left = absurd p
+Reads-end (Some all) (Some xs) c text p end left = rw (left, end) refl
 
 -- one more line is found
 pub lines_push : {A : Type 0} (f : A → List ℕ) (found new : List A) (line : A) (rest after next : List ℕ) (all : List (List ℕ)) (n : ℕ)
@@ -192,3 +185,11 @@ pub GivesLines-whole : (a b : Option (List ℕ)) (ls : List (List ℕ)) (P : Lis
 GivesLines-whole None b ls P p end h = tt
 GivesLines-whole (Some x) None ls P p end h = absurd p
 GivesLines-whole (Some x) (Some y) ls P p end h = subst P (sym (p ∙ ap (λ l. ls ++ lines l) end ∙ append-nil ls)) h
+
+-- so are those of one block more, where the reader is at its end behind it
+pub GivesLines-ends : (a b c : Option (List ℕ)) (ls ms : List (List ℕ)) (P : List (List ℕ) → Type 0) → GivesLines a b ls → GivesLines b c ms
+    → IfSome b (λ _. IsAtEnd c) → P (ls ++ ms) → IfSome a (λ xs. P (lines xs))
+GivesLines-ends None b c ls ms P p q end h = tt
+GivesLines-ends (Some x) None c ls ms P p q end h = absurd p
+GivesLines-ends (Some x) (Some y) c ls ms P p q end h =
+    GivesLines-whole (Some x) c (ls ++ ms) P (GivesLines-trans (Some x) (Some y) c ls ms p q) end h

@@ -25,12 +25,12 @@ pub fn count_lines<R: BufRead, W: Write>(
     let mut text = Vec::new(alloc);
     let mut last = Repeated::none(alloc);
     for _ in 0..u64::MAX {
-        read_lines(input, &mut text)?;
-        if text.is_empty() {
-            return write_entry(out, &last);
-        }
+        let may_go_on = read_lines(input, &mut text)?;
         let found = lines_of(alloc, &text)?;
         take_lines(&mut last, &found, out)?;
+        if !may_go_on {
+            return write_entry(out, &last);
+        }
     }
     Err(Error::new(ErrorKind::InvalidData, "the input does not end"))
 }

@@ -1,5 +1,5 @@
 //! The lines of an input, some at a time.
-ghost use Rattle.std.specs.Prelude.{◌≡◌, ◌==◌, [], drop, map, IfOk, OnOk};
+ghost use Rattle.std.specs.Prelude.{◌≡◌, ◌==◌, drop, false, map, IfOk, IfSome, OnOk};
 ghost use Rattle.std.specs.List.{position, position_or_len};
 ghost use Rattle.std.specs.Io.KnownBytes.{IsAtEnd};
 ghost use Rattle.uniq_count.specs.Counting.{lines, GivesLines};
@@ -11,19 +11,20 @@ use std::io::BufRead;
 /// How many bytes of lines are read at once, where no line is longer.
 const BLOCK_LEN: usize = 65536;
 
-/// Reads the next lines into the text, in place of what it holds: as many as make a block, or all that are left. The text is empty
-/// only at the end of the input.
-pub fn read_lines<R: BufRead>(input: &mut R, text: &mut Vec<u8>) -> io::Result<()>
+/// Reads the next lines into the text, in place of what it holds: as many as make a block, or all that are left. The answer is
+/// whether the input may go on; where it may not, nothing is read behind its end.
+pub fn read_lines<R: BufRead>(input: &mut R, text: &mut Vec<u8>) -> io::Result<bool>
     ensures given { OnOk result (GivesLines (R.remaining input.old) (R.remaining input.new) (lines text.new.items)) }
-    ensures end { OnOk result (text.new.items ≡ [] → IsAtEnd (R.remaining input.old)) }
+    ensures end { IfOk result (λ may_go_on. may_go_on ≡ false
+        → IfSome (R.remaining input.old) (λ _. IsAtEnd (R.remaining input.new))) }
 {
     text.clear();
     'block: while text.len() < BLOCK_LEN {
         if input.read_until(b'\n', text)? == 0 {
-            return Ok(());
+            return Ok(false);
         }
     }
-    Ok(())
+    Ok(true)
 }
 
 /// The lines of a text, in order.

@@ -138,16 +138,9 @@ fn inputs_come_in_any_way(rt: HostRuntime) -> Result<(), Fail> {
     Ok(())
 }
 
-// Not `uniq_count`, which reads once more behind its last block.
 #[test]
 fn inputs_end_once(rt: HostRuntime) -> Result<(), Fail> {
-    let alloc = rt.alloc();
-    assert!(rt; ends::<RunLengthCoder>(alloc, &[], b"aab")?);
-    assert!(rt; ends::<RunLengthCoder>(alloc, &["decode"], b"2 97\n")?);
-    assert!(rt; ends::<TokenCounter>(alloc, &[], b"let x1;")?);
-    assert!(rt; ends::<GroupedReport>(alloc, &[], b"9,1\n")?);
-    assert!(rt; ends::<TableJoin>(alloc, &[], b"a,1\n--\na,2\n")?);
-    assert!(rt; ends::<IndexReader>(alloc, &[], b"3,30\n--\n3\n")?);
+    assert_eq!(rt; holds_of_all!(ends, rt.alloc()), [true; 8]);
     Ok(())
 }
 

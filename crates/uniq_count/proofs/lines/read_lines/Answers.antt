@@ -7,6 +7,6 @@ block-preserved g c =
     Reads-more _ _ _ _ _ c.block.invariant read.bytes read.rest
 
 pub returns-then-branch-eq0-clause-end : goal.returns-then-branch-eq0-clause-end
-returns-then-branch-eq0-clause-end g c none =
+returns-then-branch-eq0-clause-end g c over =
     let read = c.in_ok-read_until.ensures in
-    Reads-end _ _ _ _ c.block.invariant (read.end c.if-branch-eq0.true) read.bytes none
+    Reads-end _ _ _ _ c.block.invariant (read.end c.if-branch-eq0.true) read.rest
