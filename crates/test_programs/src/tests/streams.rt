@@ -1,7 +1,9 @@
 //! Inputs that come byte by byte, fail, are interrupted, or go on after their end.
+ghost use Rattle.std.specs.Prelude.{◌≤◌, length};
+
 use crate::tests::programs::{
-    GroupedReport, IndexReader, Program, RunLengthCoder, TableJoin, TokenCounter, UniqCount, ran,
-    ran_over,
+    GroupedReport, IndexReader, Program, RunLengthCoder, TableJoin, TokenCounter, UniqCount, owned,
+    ran, ran_over,
 };
 use std::alloc::Global;
 use std::io;
@@ -9,7 +11,9 @@ use std::io::{BufReader, Error, ErrorKind, Read};
 use std::test::Fail;
 
 // Gives the first of the bytes.
-fn give(bytes: &mut &[u8], buffer: &mut [u8]) -> usize {
+fn give(bytes: &mut &[u8], buffer: &mut [u8]) -> usize
+    ensures { result ≤ length buffer.new }
+{
     let ([byte, rest @ ..], Some(first)) = (*bytes, buffer.first_mut()) else {
         return 0;
     };
@@ -68,6 +72,22 @@ impl Read for GoesOn<'_> {
             self.more = &[];
         }
         Ok(given)
+    }
+}
+
+// Never ends: these bytes, again and again.
+#[derive(Drop)]
+struct Endless<'a> {
+    bytes: &'a [u8],
+    rest: &'a [u8],
+}
+
+impl Read for Endless<'_> {
+    fn read(&mut self, buffer: &mut [u8]) -> io::Result<usize> {
+        if self.rest.is_empty() {
+            self.rest = self.bytes;
+        }
+        Ok(give(&mut self.rest, buffer))
     }
 }
 
@@ -141,6 +161,36 @@ fn inputs_come_in_any_way(rt: HostRuntime) -> Result<(), Fail> {
 #[test]
 fn inputs_end_once(rt: HostRuntime) -> Result<(), Fail> {
     assert_eq!(rt; holds_of_all!(ends, rt.alloc()), [true; 8]);
+    Ok(())
+}
+
+// The status of a run over an input that never ends, with an output that has room for its first bytes alone.
+fn over_endless<P: Program>(
+    alloc: Global,
+    words: &[&str],
+    first: &[u8],
+    bytes: &[u8],
+) -> Result<u8, Fail> {
+    let words = owned(alloc, words)?;
+    let mut complaints = Vec::new(alloc);
+    let mut room = [0u8; 100];
+    let mut rest: &mut [u8] = &mut room;
+    let endless = Endless { bytes, rest: first };
+    let input = BufReader::with_capacity(alloc, 8, endless)?;
+    Ok(P::run(alloc, &words, input, &mut rest, &mut complaints))
+}
+
+// A write that fails ends the run, whatever is still to be read.
+#[test]
+fn endless_inputs_end_with_the_output(rt: HostRuntime) -> Result<(), Fail> {
+    let alloc = rt.alloc();
+    let statuses = [
+        over_endless::<RunLengthCoder>(alloc, &[], b"", b"a\n")?,
+        over_endless::<RunLengthCoder>(alloc, &["decode"], b"", b"3 97\n")?,
+        over_endless::<UniqCount>(alloc, &[], b"", b"a\nb\n")?,
+        over_endless::<IndexReader>(alloc, &[], b"1,2\n--\n", b"1\n")?,
+    ];
+    assert_eq!(rt; statuses, [1; 4]);
     Ok(())
 }
 
