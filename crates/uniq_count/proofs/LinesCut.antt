@@ -153,7 +153,8 @@ unwrap_or_position p xs = at_end (ltb (position_or_len p xs) (length xs)) refl w
   at_end false e = rw e (omega (arith, ltb-false, prefix_len-le-length (λ x. not (p x)) xs))
 
 -- a reader at its end is at its end behind one read more
-pub Reads-end : (a b c : Option (List ℕ)) (text : List ℕ) → Reads a b text → IsAtEnd b → DropsThrough b c 10 → IfSome a (λ _. IsAtEnd c)
+pub Reads-end : (a b c : Option (List ℕ)) (text : List ℕ) → Reads a b text → IsAtEnd b → DropsThrough b c 10
+    → IfSome a (λ _. IsAtEnd c)
 Reads-end None b c text p end left = tt
 Reads-end (Some all) None c text p end left = absurd p
 Reads-end (Some all) (Some xs) c text p end left = rw (left, end) refl
@@ -187,8 +188,8 @@ GivesLines-whole (Some x) None ls P p end h = absurd p
 GivesLines-whole (Some x) (Some y) ls P p end h = subst P (sym (p ∙ ap (λ l. ls ++ lines l) end ∙ append-nil ls)) h
 
 -- so are those of one block more, where the reader is at its end behind it
-pub GivesLines-ends : (a b c : Option (List ℕ)) (ls ms : List (List ℕ)) (P : List (List ℕ) → Type 0) → GivesLines a b ls → GivesLines b c ms
-    → IfSome b (λ _. IsAtEnd c) → P (ls ++ ms) → IfSome a (λ xs. P (lines xs))
+pub GivesLines-ends : (a b c : Option (List ℕ)) (ls ms : List (List ℕ)) (P : List (List ℕ) → Type 0) → GivesLines a b ls
+    → GivesLines b c ms → IfSome b (λ _. IsAtEnd c) → P (ls ++ ms) → IfSome a (λ xs. P (lines xs))
 GivesLines-ends None b c ls ms P p q end h = tt
 GivesLines-ends (Some x) None c ls ms P p q end h = absurd p
 GivesLines-ends (Some x) (Some y) c ls ms P p q end h =

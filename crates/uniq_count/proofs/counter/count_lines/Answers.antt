@@ -24,6 +24,7 @@ returns-then-not-may_go_on g c =
     let block = rw c.deref.ensures.value at c.in_ok-found.ensures in
     let taken = rw (c.deref-in-loop.ensures.value, block) at (Counts-more _ _ so_far c.in_ok-take_lines.ensures) in
     on_ok_weaker c.write_entry.result
-    (λ written. GivesLines-ends _ _ _ found _ (λ l. Appends (g.W.Write.contents c.args.out.now) (g.W.Write.contents c.write_entry.new.out) (counted l))
+    (λ written. GivesLines-ends _ _ _ found _
+    (λ l. Appends (g.W.Write.contents c.args.out.now) (g.W.Write.contents c.write_entry.new.out) (counted l))
     given c.in_ok-may_go_on.ensures.given (c.in_ok-may_go_on.ensures.end (search rules)) (counted_at_end _ _ _ _ _ taken written))
     c.write_entry.ensures
