@@ -183,7 +183,7 @@ fn by_their_families(rt: HostRuntime) {
 // Elements that differ in their lowest bit alone have one key.
 #[test]
 fn by_their_keys(rt: HostRuntime) {
-    let mut xs = [2, 3, 2, 4, 5, 6, 7, 6, 6, 7, 8, 10];
+    let mut xs = [2, 3, 2, 2_147_483_650, 2_147_483_651, 6, 7, 6, 6, 7, 8, 10];
     let wanted = sum_of(&[3, 2, 5, 1, 1]);
     assert!(rt;
         all_give!(

@@ -19,14 +19,14 @@ use std::io;
 
 fn main(rt: HostRuntime) -> io::Result<()> {
     let mut vec = vec![in rt.alloc(); 7, 8, 7, 7]?;
-    let string = format!(in rt.alloc(); "aab")?;
+    let string = format!(in rt.alloc(); "ééb")?;
     let mut array = [1, 2, 3, 2, 3];
     let by_new = inputs::runs_by_new([7, 8, 7, 7], &vec, &string);
     let by_methods = inputs::runs_by_methods([7, 8, 7, 7], &vec, &string);
     inputs::turn_stretches(&mut array, &mut vec);
     println!(rt; "inputs: {by_new:?} {by_methods:?} {array:?} {vec:?}")?;
 
-    let mut reader = RunReader::new(&[2, 1, 2]);
+    let mut reader = RunReader::new(&[2, 1, 1, 3]);
     let reads = (reader.next_run(), reader.next_run(), reader.next_run());
     let longest = returned::longest_run(&[2, 1, 2, 2, 3, 3, 4]);
     println!(rt;
@@ -39,7 +39,7 @@ fn main(rt: HostRuntime) -> io::Result<()> {
         loops::shared(&left, &right),
         loops::shared_by_join(&left, &right),
     );
-    let runs = [1, 2, 1, 1, 1, 3, 4, 5];
+    let runs = [1, 1, 1, 2, 3, 3, 4, 5, 6];
     let (longer, equal) = (
         loops::longer_than_before(&runs),
         loops::as_long_as_next(&runs),
@@ -74,6 +74,7 @@ fn main(rt: HostRuntime) -> io::Result<()> {
     }
     let found = (
         closures::find_page(&index, "bee"),
+        closures::find_page(&index, "bat"),
         closures::find_page(&index, "cat"),
     );
     println!(rt;
@@ -90,9 +91,9 @@ fn main(rt: HostRuntime) -> io::Result<()> {
         rest::after_first_letters("aab")
     )?;
 
-    let mut repeats = [5, 5, 6, 5, 5, 7];
+    let mut repeats = [5, 5, 5, 6, 5, 5, 7];
     bytes::clear_repeats(&mut repeats);
-    let mut words = *b"na\xc3\xafve x";
+    let mut words = *b"(na\xc3\xafve x";
     bytes::capitalize(&mut words);
     let mut crossed = *b"aa\xc3\xa9b";
     let was_text = (bytes::cross_out(&mut crossed), bytes::cross_out(&mut [255]));

@@ -1,5 +1,5 @@
 //! The families of groups beside each other, and functions over binary and exponential groups.
-ghost use Rattle.std.specs.Prelude.{◌≡◌, ◌≤◌, ◌<◌, ◌-◌, ◌/◌, [], ◌∷◌, not, length, map, option_map, nat_eq, IfSome, IsSome};
+ghost use Rattle.std.specs.Prelude.{◌≡◌, ◌↔◌, ◌≤◌, ◌<◌, ◌-◌, ◌/◌, [], ◌∷◌, not, length, map, option_map, nat_eq, IfSome, IsSome};
 ghost use Rattle.std.specs.Ordering.{nat_cmp};
 ghost use Rattle.slice_group_by.specs.Split.{IsGrouped, split};
 ghost use Rattle.slice_group_by.specs.Searching.{digits, IsLocalEnd};
@@ -129,7 +129,7 @@ pub fn walk_by_first<'a>(
 /// How many groups a sorted slice has, and none of one that is not.
 pub fn count_sorted<T: Ord>(slice: &[T]) -> Option<usize>
     ensures counts { IfSome result (λ n. n ≡ length (split T.eq slice.now)) }
-    ensures sorted { NeverDescends T.cmp slice.now → IsSome result }
+    ensures sorted { IsSome result ↔ NeverDescends T.cmp slice.now }
 {
     if !is_sorted_for_groups(slice) {
         return None;

@@ -1,8 +1,12 @@
 //! What the program does by its arguments, what it says, and its status.
-ghost use Rattle.std.specs.Prelude.{◌≡◌, [], Some, true, IfSome, ◌≤◌, length, None};
+ghost use Rattle.std.specs.Prelude.{◌≡◌, ◌≢◌, [], true, IfSome, codes};
+ghost use Rattle.std.specs.Io.KnownBytes.{Appends};
+ghost use Rattle.program_parts.specs.Arguments.{IsOnly};
 ghost use Rattle.index_reader.specs.Runs.{Answers};
+ghost use Rattle.index_reader.specs.declared.program.TheConstants.{USAGE};
 
 use crate::run::answer_all;
+use program_parts::arguments::is_only;
 use program_parts::status::status_of;
 use program_parts::texts::write_all;
 use std::alloc::Global;
@@ -23,24 +27,6 @@ left out, and standard error says why. The status is then 1, and so it is where 
 is not there or where reading or writing fails. It is 2 where an argument is not known.
 ";
 
-/// What the program is asked to do.
-enum Task {
-    Answer,
-    Help,
-}
-
-/// What the arguments ask for: to answer where there are none. `None` where they are not known.
-fn task_of(words: &[String]) -> Option<Task>
-    ensures none { words.now ≡ [] → result ≡ Some Task.Answer }
-    ensures unknown { 2 ≤ length words.now → result ≡ None }
-{
-    match words {
-        [] => Some(Task::Answer),
-        [word] if word.as_str() == "--help" => Some(Task::Help),
-        _ => None,
-    }
-}
-
 /// Does what the arguments ask for, and gives back the status: 0, or 1 where a read or a write failed or a line is left
 /// out, or 2 where the arguments are not known. What went wrong is said in lines of complaint.
 pub fn run<R: BufRead + Drop, W: Write, E: Write>(
@@ -53,15 +39,18 @@ pub fn run<R: BufRead + Drop, W: Write, E: Write>(
     ensures whole { words.now ≡ [] → result ≡ 0 → IfSome (R.remaining input)
         (λ bytes. Answers bytes true (W.contents out.old) (W.contents out.new)
         (E.contents complaints.old) (E.contents complaints.new)) }
-    ensures unknown { 2 ≤ length words.now → result ≡ 2 }
+    ensures help { IsOnly words.now (codes "--help") → result ≡ 0
+        → Appends (W.contents out.old) (W.contents out.new) USAGE.now }
+    ensures unknown { words.now ≢ [] → (IsOnly words.now (codes "--help") → ⊥)
+        → (result ≡ 2) × (W.contents out.new ≡ W.contents out.old) }
 {
-    let done = match task_of(words) {
-        Some(Task::Answer) => answer_all(alloc, input, out, complaints),
-        Some(Task::Help) => write_all(out, USAGE).and(Ok(true)),
-        None => {
-            let _ = write_all(complaints, USAGE);
-            return 2;
-        }
+    let done = if words.is_empty() {
+        answer_all(alloc, input, out, complaints)
+    } else if is_only(words, "--help") {
+        write_all(out, USAGE).and(Ok(true))
+    } else {
+        let _ = write_all(complaints, USAGE);
+        return 2;
     };
     status_of("index_reader", done, complaints)
 }

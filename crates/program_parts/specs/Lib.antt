@@ -1,3 +1,4 @@
+pub mod Arguments
 pub mod Complaints
 pub mod Divided
 pub mod Kept

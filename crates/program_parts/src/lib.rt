@@ -2,6 +2,7 @@
 //! lines, texts that are written whole, and the status of a program.
 #![tactic(auto)]
 
+pub mod arguments;
 pub mod blocks;
 pub mod lines;
 pub mod pairs;

@@ -1,12 +1,15 @@
 //! What the program does by its arguments, what it says, and its status.
-ghost use Rattle.std.specs.Prelude.{◌≡◌, ℕ, ◌<◌, ◌^◌, List, [], ◌∷◌, length, map, true, codes, string_bytes, ◌≤◌, None};
+ghost use Rattle.std.specs.Prelude.{◌≡◌, ◌≢◌, ℕ, ◌<◌, ◌^◌, List, [], length, true, codes};
 ghost use Rattle.std.specs.Prelude.{All, IfOk, IfSome, IsTrue, OnOk};
 ghost use Rattle.std.specs.Io.KnownBytes.{Appends};
+ghost use Rattle.program_parts.specs.Arguments.{IsOnly};
 ghost use Rattle.run_length_coder.specs.Coding.{coded};
 ghost use Rattle.run_length_coder.specs.Decoded.{Decodes};
+ghost use Rattle.run_length_coder.specs.declared.program.TheConstants.{USAGE};
 
 use crate::decoder::decode;
 use crate::encoder::encode;
+use program_parts::arguments::is_only;
 use program_parts::status::status_of;
 use program_parts::texts::write_all;
 use std::alloc::Global;
@@ -18,27 +21,6 @@ pub const USAGE: &str = "usage: run_length_coder [decode | --help] < INPUT
 Writes each run of equal bytes of standard input as a line `COUNT BYTE`, two decimal numbers.
 With `decode` it reads such lines and writes the bytes again. A line that says no run is named, and left out.
 ";
-
-/// What the program is asked to do.
-enum Task {
-    Encode,
-    Decode,
-    Help,
-}
-
-/// What the arguments ask for: to encode where there are none. `None` where they are not known.
-fn task_of(words: &[String]) -> Option<Task>
-    ensures encode { words.now ≡ [] → result ≡ Some Task.Encode }
-    ensures decode { map string_bytes words.now ≡ codes "decode" ∷ [] → result ≡ Some Task.Decode }
-    ensures unknown { 2 ≤ length words.now → result ≡ None }
-{
-    match words {
-        [] => Some(Task::Encode),
-        [word] if word.as_str() == "decode" => Some(Task::Decode),
-        [word] if word.as_str() == "--help" => Some(Task::Help),
-        _ => None,
-    }
-}
 
 /// Does what the arguments ask for, and gives back the status: 0, or 1 where a read or a write failed or a line is no run, or 2
 /// where the arguments are not known. What went wrong is said in lines of complaint.
@@ -53,26 +35,30 @@ pub fn run<R: BufRead, W: Write, E: Write>(
         (λ bytes. Appends (W.contents out.old) (W.contents out.new) (coded bytes)) }
 
     // Of any input, where each line says a run.
-    ensures decodes_any { map string_bytes words.now ≡ codes "decode" ∷ [] → result ≡ 0 → IfSome (R.remaining input.old)
+    ensures decodes_any { IsOnly words.now (codes "decode") → result ≡ 0 → IfSome (R.remaining input.old)
         (λ bytes. Decodes bytes true (W.contents out.old) (W.contents out.new)
         (E.contents complaints.old) (E.contents complaints.new)) }
 
     // Of what bytes were coded as.
-    ensures decodes { map string_bytes words.now ≡ codes "decode" ∷ [] → result ≡ 0
+    ensures decodes { IsOnly words.now (codes "decode") → result ≡ 0
         → (bytes : List ℕ) → All (λ byte. byte < 2 ^ 8) bytes → length bytes < 2 ^ 64
         → R.remaining input.old ≡ Some (coded bytes) → Appends (W.contents out.old) (W.contents out.new) bytes }
 
-    // Of more arguments than one.
-    ensures unknown { 2 ≤ length words.now → result ≡ 2 }
+    // Of other arguments.
+    ensures help { IsOnly words.now (codes "--help") → result ≡ 0
+        → Appends (W.contents out.old) (W.contents out.new) USAGE.now }
+    ensures unknown { words.now ≢ [] → (IsOnly words.now (codes "decode") → ⊥)
+        → (IsOnly words.now (codes "--help") → ⊥) → (result ≡ 2) × (W.contents out.new ≡ W.contents out.old) }
 {
-    let done = match task_of(words) {
-        Some(Task::Encode) => encode_all(alloc, input, out),
-        Some(Task::Decode) => decode_all(alloc, input, out, complaints),
-        Some(Task::Help) => write_all(out, USAGE).and(Ok(true)),
-        None => {
-            let _ = write_all(complaints, USAGE);
-            return 2;
-        }
+    let done = if words.is_empty() {
+        encode_all(alloc, input, out)
+    } else if is_only(words, "decode") {
+        decode_all(alloc, input, out, complaints)
+    } else if is_only(words, "--help") {
+        write_all(out, USAGE).and(Ok(true))
+    } else {
+        let _ = write_all(complaints, USAGE);
+        return 2;
     };
     status_of("run_length_coder", done, complaints)
 }

@@ -1,12 +1,16 @@
 //! What the program does by its arguments, what it says, and its status.
-ghost use Rattle.std.specs.Prelude.{◌≡◌, [], ◌∷◌, Some, map, string_bytes, true, IfSome, ◌≤◌, length, None};
+ghost use Rattle.std.specs.Prelude.{◌≡◌, ◌≢◌, [], true, IfSome, codes};
+ghost use Rattle.std.specs.Io.KnownBytes.{Appends};
+ghost use Rattle.program_parts.specs.Arguments.{IsOnly};
 ghost use Rattle.table_join.specs.Kinds.{name_of};
 ghost use Rattle.table_join.specs.Runs.{Joins};
 ghost use Rattle.table_join.specs.declared.kind.Kind.{Kind};
 ghost use Rattle.table_join.specs.declared.kind.Kind.TheVariants.{Inner};
+ghost use Rattle.table_join.specs.declared.program.TheConstants.{USAGE};
 
-use crate::kind::{Kind, parse_kind};
+use crate::kind::{Kind, kind_of};
 use crate::run::join_tables;
+use program_parts::arguments::is_only;
 use program_parts::status::status_of;
 use program_parts::texts::write_all;
 use std::alloc::Global;
@@ -34,29 +38,6 @@ and standard error says why. The status is then 1, and so it is where the line `
 there or where reading or writing fails. It is 2 where an argument is not known.
 ";
 
-/// What the program is asked to do.
-enum Task {
-    Help,
-    Join(Kind),
-}
-
-/// What the arguments ask for: an inner join where there are none. `None` where they are not known.
-fn task_of(words: &[String]) -> Option<Task>
-    ensures inner { words.now ≡ [] → result ≡ Some (Task.Join Inner) }
-    ensures named { (kind : Kind) → map string_bytes words.now ≡ name_of kind ∷ [] → result ≡ Some (Task.Join kind) }
-    ensures unknown { 2 ≤ length words.now → result ≡ None }
-{
-    match words {
-        [] => Some(Task::Join(Kind::Inner)),
-        [word] => match parse_kind(word.as_str()) {
-            Some(kind) => Some(Task::Join(kind)),
-            None if word.as_str() == "--help" => Some(Task::Help),
-            None => None,
-        },
-        _ => None,
-    }
-}
-
 /// Does what the arguments ask for, and gives back the status: 0, or 1 where a read or a write failed or a line is left
 /// out, or 2 where the arguments are not known. What went wrong is said in lines of complaint.
 pub fn run<R: BufRead + Drop, W: Write, E: Write>(
@@ -69,18 +50,23 @@ pub fn run<R: BufRead + Drop, W: Write, E: Write>(
     ensures inner { words.now ≡ [] → result ≡ 0 → IfSome (R.remaining input)
         (λ bytes. Joins Inner bytes true (W.contents out.old) (W.contents out.new)
         (E.contents complaints.old) (E.contents complaints.new)) }
-    ensures named { (kind : Kind) → map string_bytes words.now ≡ name_of kind ∷ [] → result ≡ 0
+    ensures named { (kind : Kind) → IsOnly words.now (name_of kind) → result ≡ 0
         → IfSome (R.remaining input) (λ bytes. Joins kind bytes true (W.contents out.old) (W.contents out.new)
         (E.contents complaints.old) (E.contents complaints.new)) }
-    ensures unknown { 2 ≤ length words.now → result ≡ 2 }
+    ensures help { IsOnly words.now (codes "--help") → result ≡ 0
+        → Appends (W.contents out.old) (W.contents out.new) USAGE.now }
+    ensures unknown { words.now ≢ [] → ((kind : Kind) → IsOnly words.now (name_of kind) → ⊥)
+        → (IsOnly words.now (codes "--help") → ⊥) → (result ≡ 2) × (W.contents out.new ≡ W.contents out.old) }
 {
-    let done = match task_of(words) {
-        Some(Task::Join(kind)) => join_tables(alloc, kind, input, out, complaints),
-        Some(Task::Help) => write_all(out, USAGE).and(Ok(true)),
-        None => {
-            let _ = write_all(complaints, USAGE);
-            return 2;
-        }
+    let done = if words.is_empty() {
+        join_tables(alloc, Kind::Inner, input, out, complaints)
+    } else if let Some(kind) = kind_of(words) {
+        join_tables(alloc, kind, input, out, complaints)
+    } else if is_only(words, "--help") {
+        write_all(out, USAGE).and(Ok(true))
+    } else {
+        let _ = write_all(complaints, USAGE);
+        return 2;
     };
     status_of("table_join", done, complaints)
 }

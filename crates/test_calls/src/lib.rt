@@ -90,3 +90,6 @@ macro_rules! views {
         )
     };
 }
+
+#[cfg(test)]
+mod tests;

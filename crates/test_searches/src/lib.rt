@@ -6,6 +6,8 @@ mod by_key;
 #[cfg(test)]
 mod by_predicate;
 #[cfg(test)]
+mod comparisons;
+#[cfg(test)]
 mod counted;
 #[cfg(test)]
 mod counted_groups;

@@ -20,6 +20,8 @@ mod offsets;
 #[cfg(test)]
 mod owners;
 #[cfg(test)]
+mod surface;
+#[cfg(test)]
 mod threads;
 #[cfg(test)]
 mod walks;

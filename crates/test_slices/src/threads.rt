@@ -1,15 +1,19 @@
-//! Every iterator may be sent to another thread and shared between threads, where its elements, its closure and its keys may.
+//! Every iterator may be sent to another thread and shared between threads, where its elements, its closure and its keys may, and stays
+//! at its end.
 use slice_group_by::{
     BinaryGroup, BinaryGroupBy, BinaryGroupByKey, BinaryGroupByKeyMut, BinaryGroupByMut,
     BinaryGroupMut, ExponentialGroup, ExponentialGroupBy, ExponentialGroupByKey,
     ExponentialGroupByKeyMut, ExponentialGroupByMut, ExponentialGroupMut, LinearGroup,
     LinearGroupBy, LinearGroupByKey, LinearGroupByKeyMut, LinearGroupByMut, LinearGroupMut,
-    LinearStrGroup, LinearStrGroupBy, LinearStrGroupByKey, LinearStrGroupByKeyMut,
-    LinearStrGroupByMut, LinearStrGroupMut, MergeJoin,
+    LinearNumberGroup, LinearNumberGroupMut, LinearStrGroup, LinearStrGroupBy, LinearStrGroupByKey,
+    LinearStrGroupByKeyMut, LinearStrGroupByMut, LinearStrGroupMut, MergeJoin, MergeJoinBy,
+    with_offsets,
 };
+use std::cmp::Ordering;
+use std::iter::FusedIterator;
 
-// Takes only what may be sent and shared.
-fn crosses_threads<G: Send + Sync + Drop>(_groups: G) {}
+// Takes only what may be sent and shared, and stays at its end.
+fn crosses_threads<G: FusedIterator + Send + Sync + Drop>(_groups: G) {}
 
 fn tens(x: &u32) -> u32 {
     *x / 10
@@ -17,6 +21,10 @@ fn tens(x: &u32) -> u32 {
 
 fn same(a: &u32, b: &u32) -> bool {
     a == b
+}
+
+fn order(a: &u32, b: &u32) -> Ordering {
+    a.cmp(b)
 }
 
 fn is_digit(c: char) -> bool {
@@ -39,13 +47,17 @@ fn slices_cross_threads() {
     crosses_threads(ExponentialGroup::new(&xs));
     crosses_threads(ExponentialGroupBy::new(&xs, same));
     crosses_threads(ExponentialGroupByKey::new(&xs, tens));
+    crosses_threads(LinearNumberGroup::new(&xs));
     crosses_threads(MergeJoin::new(&xs, tens, &xs, tens));
+    crosses_threads(MergeJoinBy::new(&xs, &xs, order));
+    crosses_threads(with_offsets(LinearGroupBy::new(&xs, same)));
 }
 
 #[test]
 fn slices_for_writing_cross_threads() {
     let mut xs = [1u32, 1, 12];
     crosses_threads(LinearGroupMut::new(&mut xs));
+    crosses_threads(LinearNumberGroupMut::new(&mut xs));
     crosses_threads(LinearGroupByMut::new(&mut xs, same));
     crosses_threads(LinearGroupByKeyMut::new(&mut xs, tens));
     crosses_threads(BinaryGroupMut::new(&mut xs));
@@ -59,6 +71,7 @@ fn slices_for_writing_cross_threads() {
 #[test]
 fn texts_cross_threads() {
     crosses_threads(LinearStrGroup::new("aab"));
+    crosses_threads(with_offsets(LinearStrGroup::new("aab")));
     crosses_threads(LinearStrGroupBy::new("aab", same_char));
     crosses_threads(LinearStrGroupByKey::new("aab", is_digit));
     let [mut first, mut second, mut third] = [*b"aab"; 3];

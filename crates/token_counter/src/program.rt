@@ -1,13 +1,16 @@
 //! What the program does by its arguments, what it says, and its status.
-ghost use Rattle.std.specs.Prelude.{◌≡◌, [], IfSome, OnOk, ◌≤◌, length, None};
+ghost use Rattle.std.specs.Prelude.{◌≡◌, ◌≢◌, [], IfSome, OnOk, codes};
 ghost use Rattle.std.specs.Str.{chars, IsUtf8};
 ghost use Rattle.std.specs.Io.KnownBytes.{Appends};
+ghost use Rattle.program_parts.specs.Arguments.{IsOnly};
 ghost use Rattle.token_counter.specs.Classes.{token_count};
 ghost use Rattle.token_counter.specs.Tallies.{report};
+ghost use Rattle.token_counter.specs.declared.program.TheConstants.{USAGE};
 
 use crate::characters::characters_agree;
 use crate::counter::count_tokens;
 use crate::report::write_report;
+use program_parts::arguments::is_only;
 use program_parts::status::status_of;
 use program_parts::texts::write_all;
 use std::alloc::Global;
@@ -18,24 +21,6 @@ use std::io::{Read, Write};
 pub const USAGE: &str = "usage: token_counter [--help] < INPUT
 Counts the tokens of standard input, the longest runs of letters, of digits, of white space, each of ASCII, and of all else.
 ";
-
-/// What the program is asked to do.
-enum Task {
-    Count,
-    Help,
-}
-
-/// What the arguments ask for: to count where there are none. `None` where they are not known.
-fn task_of(words: &[String]) -> Option<Task>
-    ensures none { words.now ≡ [] → result ≡ Some Task.Count }
-    ensures unknown { 2 ≤ length words.now → result ≡ None }
-{
-    match words {
-        [] => Some(Task::Count),
-        [word] if word.as_str() == "--help" => Some(Task::Help),
-        _ => None,
-    }
-}
 
 /// Does what the arguments ask for, and gives back the status: 0, or 1 where a read or a write failed, or 2 where the arguments are
 /// not known. What went wrong is said in a line of complaint.
@@ -50,15 +35,18 @@ pub fn run<R: Read, W: Write, E: Write>(
         (λ bytes. Appends (W.contents out.old) (W.contents out.new) (report (λ class. token_count class bytes))) }
     ensures characters { words.now ≡ [] → result ≡ 0 → IfSome (R.remaining input.old) (λ bytes. IsUtf8 bytes
         → Appends (W.contents out.old) (W.contents out.new) (report (λ class. token_count class (chars bytes)))) }
-    ensures unknown { 2 ≤ length words.now → result ≡ 2 }
+    ensures help { IsOnly words.now (codes "--help") → result ≡ 0
+        → Appends (W.contents out.old) (W.contents out.new) USAGE.now }
+    ensures unknown { words.now ≢ [] → (IsOnly words.now (codes "--help") → ⊥)
+        → (result ≡ 2) × (W.contents out.new ≡ W.contents out.old) }
 {
-    let done = match task_of(words) {
-        Some(Task::Count) => report_tokens(alloc, input, out).and(Ok(true)),
-        Some(Task::Help) => write_all(out, USAGE).and(Ok(true)),
-        None => {
-            let _ = write_all(complaints, USAGE);
-            return 2;
-        }
+    let done = if words.is_empty() {
+        report_tokens(alloc, input, out).and(Ok(true))
+    } else if is_only(words, "--help") {
+        write_all(out, USAGE).and(Ok(true))
+    } else {
+        let _ = write_all(complaints, USAGE);
+        return 2;
     };
     status_of("token_counter", done, complaints)
 }

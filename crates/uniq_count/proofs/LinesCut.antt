@@ -1,13 +1,16 @@
 -- Where the lines of a text may be cut.
-use Rattle.std.proofs.Common.{◌≡◌, ◌≢◌, ℕ, suc, ◌+◌, ◌<◌, Bool, true, false, eqb, not, List, [], ◌∷◌, ◌++◌, length, take, drop, refl, ap, sym, ◌∙◌, arith, append_assoc, append-nil, Option, None, Some, IfSome, ltb, map, subst}
+use Rattle.std.proofs.Common.{◌≡◌, ◌≢◌, ℕ, suc, ◌+◌, ◌-◌, ◌<◌, Bool, true, false, eqb, not, List, [], ◌∷◌, ◌++◌, length, take, drop, refl, ap, sym, ◌∙◌, arith, append_assoc, append-nil, Option, None, Some, IfSome, ltb, map, subst}
 use borrow.Author.Tests.{ltb-false}
 use Rattle.std.specs.Option.{unwrap_or}
 use Rattle.std.specs.Io.KnownBytes.{IsAtEnd}
 use Rattle.std.proofs.lemmas.List.{drop-drop, map-append}
 use Rattle.std.proofs.lemmas.List.Sums.{prefix_len-le-length}
 use Rattle.std.specs.List.{position, position_or_len, onto_first}
-use Rattle.std.specs.Io.BufRead.{take_through, drop_through}
-use Rattle.std.specs.Io.BufRead.{DropsThrough}
+use Rattle.std.specs.Io.BufRead.{take_through, drop_through, ends_with_byte, DropsThrough}
+use Rattle.std.proofs.Math.Seq.{get_or-append_seam}
+use Rattle.std.proofs.lemmas.Bool.{eqb-true}
+use Rattle.std.proofs.lemmas.Bool.Decides.{nat_tests}
+use Rattle.std.proofs.lemmas.List.{length-append}
 use Rattle.uniq_count.specs.Counting.{lines, GivesLines}
 
 abbrev is_feed : ℕ → Bool
@@ -158,6 +161,38 @@ pub Reads-end : (a b c : Option (List ℕ)) (text : List ℕ) → Reads a b text
 Reads-end None b c text p end left = tt
 Reads-end (Some all) None c text p end left = absurd p
 Reads-end (Some all) (Some xs) c text p end left = rw (left, end) refl
+
+-- what is cut before the end ends with a line feed
+through_feed : (xs : List ℕ) → drop_through 10 xs ≢ [] → (front : List ℕ) × (take_through 10 xs ≡ front ++ 10 ∷ [])
+through_feed [] some = absurd (some refl)
+through_feed (x ∷ xs) some = feed_after x xs (is_feed x) refl (through_feed xs) some where
+  feed_after : (x : ℕ) (xs : List ℕ) (b : Bool) → is_feed x ≡ b
+      → (drop_through 10 xs ≢ [] → (front : List ℕ) × (take_through 10 xs ≡ front ++ 10 ∷ []))
+      → drop_through 10 (x ∷ xs) ≢ [] → (front : List ℕ) × (take_through 10 (x ∷ xs) ≡ front ++ 10 ∷ [])
+  feed_after x xs true e h some = ([], rw e (ap (λ y. y ∷ []) (eqb-true x 10 e)))
+  feed_after x xs false e h some =
+      let (front, cut) = h (λ k. some (rw e k)) in (x ∷ front, rw e (ap (λ l. x ∷ l) cut))
+
+feed_ends : (text : List ℕ) → ends_with_byte 10 (text ++ 10 ∷ []) ≡ true
+feed_ends text =
+    let long : length (text ++ 10 ∷ []) ≡ length text + 1 = length-append text (10 ∷ []) in
+    let less : length text + 1 - 1 ≡ length text = omega arith in
+    let some : ltb 0 (length text + 1) ≡ true = grind (arith, nat_tests) in
+    rw (long, less, some, get_or-append_seam text 10 [] 0) refl
+
+-- so a reader is at its end behind a line with no line feed
+pub Reads-cut : (a b c : Option (List ℕ)) (text new : List ℕ) → Reads a b text → IfSome b (λ xs. new ≡ text ++ take_through 10 xs)
+    → DropsThrough b c 10 → ends_with_byte 10 new ≡ false → IfSome a (λ _. IsAtEnd c)
+Reads-cut None b c text new p grown left no_feed = tt
+Reads-cut (Some all) None c text new p grown left no_feed = absurd p
+Reads-cut (Some all) (Some xs) c text new p grown left no_feed = at_end (drop_through 10 xs) refl where
+  at_end : (rest : List ℕ) → drop_through 10 xs ≡ rest → IsAtEnd c
+  at_end [] e = rw (left, e) refl
+  at_end (y ∷ ys) e =
+      let (front, cut) = through_feed xs (λ none. let k = sym e ∙ none in cc) in
+      let fed : ends_with_byte 10 new ≡ true =
+      ap (ends_with_byte 10) (grown ∙ ap (λ l. text ++ l) cut ∙ sym (append_assoc text front (10 ∷ []))) ∙ feed_ends (text ++ front) in
+      let k = sym fed ∙ no_feed in cc
 
 -- one more line is found
 pub lines_push : {A : Type 0} (f : A → List ℕ) (found new : List A) (line : A) (rest after next : List ℕ) (all : List (List ℕ)) (n : ℕ)

@@ -1,6 +1,7 @@
 //! The lines of an input, some at a time.
 ghost use Rattle.std.specs.Prelude.{◌≡◌, ◌==◌, drop, false, map, IfOk, IfSome, OnOk};
 ghost use Rattle.std.specs.List.{position, position_or_len};
+ghost use Rattle.std.specs.Io.BufRead.{ends_with_byte};
 ghost use Rattle.std.specs.Io.KnownBytes.{IsAtEnd};
 ghost use Rattle.uniq_count.specs.Counting.{lines, GivesLines};
 
@@ -23,8 +24,18 @@ pub fn read_lines<R: BufRead>(input: &mut R, text: &mut Vec<u8>) -> io::Result<b
         if input.read_until(b'\n', text)? == 0 {
             return Ok(false);
         }
+        if !ends_with_feed(text) {
+            return Ok(false);
+        }
     }
     Ok(true)
+}
+
+/// Whether the last byte is a line feed.
+fn ends_with_feed(text: &[u8]) -> bool
+    ensures { result ≡ ends_with_byte 10 text.now }
+{
+    text.last() == Some(&b'\n')
 }
 
 /// The lines of a text, in order.

@@ -12,6 +12,7 @@ fn meets_conditions(rt: HostRuntime) {
     assert_eq!(rt; [count_by_distance(), count_of_one()], [2, 1]);
     let mut bytes = [0x61, 0x61, 0xC3, 0xA9, 0xC3, 0xA9, 0x62];
     assert!(rt; matches!(count_equal_characters(&mut bytes), Some(3)));
+    assert!(rt; matches!(count_equal_characters(&mut [0x61, 0x41]), Some(2)));
     assert!(rt; matches!(count_equal_characters(&mut []), Some(0)));
     assert!(rt; count_equal_characters(&mut [0x61, 0xC3]).is_none());
 }

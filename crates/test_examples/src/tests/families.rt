@@ -54,7 +54,7 @@ fn counts_sorted(rt: HostRuntime) {
     let counts = [
         count_sorted(&[1, 1, 2, 5, 5]),
         count_sorted::<i32>(&[]),
-        count_sorted(&[2, 1]),
+        count_sorted(&[1, 3, 2]),
     ];
     assert_eq!(rt; counts, [Some(3), Some(0), None]);
     let mut mixed = [3, 1, 3, 2, 1];

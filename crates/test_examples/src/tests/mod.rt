@@ -2,6 +2,7 @@
 mod capitals;
 mod closures;
 mod conditions;
+mod counted;
 mod counts;
 mod counts_of_text;
 mod equal_groups;

@@ -1,26 +1,39 @@
-//! Arguments that are known or not: `--help` writes the usage and ends with 0, and what is not known says it, with 2.
+//! Arguments that are known or not: `--help` writes the usage and ends with 0, and what is not known says it, with 2. The input is
+//! not read.
 use crate::tests::programs::{
-    GroupedReport, IndexReader, Program, RunLengthCoder, TableJoin, TokenCounter, UniqCount, ran,
+    GroupedReport, IndexReader, Outcome, Program, RunLengthCoder, TableJoin, TokenCounter,
+    UniqCount, ran_over,
 };
+use crate::tests::streams::Slowly;
 use std::alloc::Global;
+use std::io::BufReader;
 use std::test::Fail;
+
+// A run with these arguments that may not read: the input fails at once.
+fn ran_unread<P: Program>(alloc: Global, words: &[&str]) -> Result<Outcome, Fail> {
+    let failing = Slowly {
+        bytes: b"",
+        fails: true,
+    };
+    Ok(ran_over::<P, _>(alloc, words, BufReader::with_capacity(alloc, 1, failing)?)?)
+}
 
 // Whether `--help` writes the usage alone.
 fn helps<P: Program>(alloc: Global, usage: &str) -> Result<bool, Fail> {
-    Ok(ran::<P>(alloc, &["--help"], b"")?.all() == (0, usage.as_bytes(), b"".as_slice()))
+    Ok(ran_unread::<P>(alloc, &["--help"])?.all() == (0, usage.as_bytes(), b"".as_slice()))
 }
 
 // Whether these arguments, and some that no program knows, have the usage complained alone.
 fn refuses<P: Program>(alloc: Global, usage: &str, words: &[&str]) -> Result<bool, Fail> {
     let refused = (2, b"".as_slice(), usage.as_bytes());
-    let mut are_refused = ran::<P>(alloc, words, b"")?.all() == refused;
+    let mut are_refused = ran_unread::<P>(alloc, words)?.all() == refused;
     for word in [
         "", "-", "--", "--helps", "help", "-h", "-c", "-d", "d", "Decode", "decoded", "INNER",
         "join", "1",
     ] {
-        are_refused &= ran::<P>(alloc, &[word], b"")?.all() == refused;
+        are_refused &= ran_unread::<P>(alloc, &[word])?.all() == refused;
     }
-    are_refused &= ran::<P>(alloc, &["--help", "--help"], b"")?.all() == refused;
+    are_refused &= ran_unread::<P>(alloc, &["--help", "--help"])?.all() == refused;
     Ok(are_refused)
 }
 

@@ -5,7 +5,7 @@ use crate::tests::programs::{
 };
 use crate::tests::streams::Slowly;
 use std::alloc::Global;
-use std::io::BufReader;
+use std::io::{BufReader, BufWriter};
 use std::test::Fail;
 
 // Whether these are one line that begins with this name.
@@ -14,7 +14,7 @@ fn is_line_of(name: &str, said: &[u8]) -> bool {
     said.starts_with(name.as_bytes()) && ends == 1 && said.ends_with(b"\n")
 }
 
-// Whether, with room for less than all, the first bytes are written, the status is 1, and one line complains.
+// Whether, with room for less than all, behind a buffer too, the first bytes are written, the status is 1, and one line complains.
 fn fails_with_less_room<P: Program>(
     alloc: Global,
     words: &[&str],
@@ -30,6 +30,10 @@ fn fails_with_less_room<P: Program>(
         let status = P::run(alloc, &words, input, &mut rest, &mut complaints);
         is_right &= status == 1 && is_line_of(P::NAME, &complaints);
         is_right &= whole.out.starts_with(&bytes);
+        let mut complaints = Vec::new(alloc);
+        let mut buffered = BufWriter::new(alloc, bytes.as_mut_slice())?;
+        let status = P::run(alloc, &words, input, &mut buffered, &mut complaints);
+        is_right &= status == 1 && is_line_of(P::NAME, &complaints);
     }
     Ok(is_right)
 }
@@ -61,6 +65,7 @@ fn fails_with_less_input<P: Program>(
 fn fails_with_less<P: Program>(alloc: Global, words: &[&str], input: &[u8]) -> Result<bool, Fail> {
     Ok(
         fails_with_less_room::<P>(alloc, words, input)?
+            && fails_with_less_room::<P>(alloc, &["--help"], b"")?
             && fails_with_less_input::<P>(alloc, words, input)?,
     )
 }

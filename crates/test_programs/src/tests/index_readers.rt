@@ -2,6 +2,7 @@
 use crate::tests::programs::{IndexReader, ran};
 use index_reader::entry::Entry;
 use index_reader::lookup::entries_of;
+use slice_group_by::exponential_equal_range_by;
 use std::io::Write;
 use std::test::Fail;
 
@@ -64,9 +65,23 @@ fn answers_from_many_entries(rt: HostRuntime) -> Result<(), Fail> {
     Ok(())
 }
 
+// How often the search that it stands on compares.
+fn comparisons(index: &[Entry], key: u32) -> usize {
+    let mut count = 0usize;
+    let _ = exponential_equal_range_by(index, |entry| {
+        count = count.wrapping_add(1);
+        entry.key.cmp(&key)
+    });
+    count
+}
+
 #[test]
 fn counts_its_comparisons(rt: HostRuntime) {
-    let index = [Entry { key: 1, place: 1 }, Entry { key: 3, place: 2 }];
-    assert_eq!(rt; entries_of(&index, 3).entries.len(), 1);
-    assert!(rt; entries_of(&index, 3).comparisons >= 2);
+    let entries = [1, 1, 3, 3, 3, 7].map(|key| Entry { key, place: 0 });
+    for len in 0..=entries.len() {
+        let index = entries.get(..len).unwrap_or(&[]);
+        for key in 0..9 {
+            assert_eq!(rt; entries_of(index, key).comparisons, comparisons(index, key));
+        }
+    }
 }

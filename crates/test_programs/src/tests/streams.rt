@@ -152,15 +152,31 @@ fn ends<P: Program>(alloc: Global, words: &[&str], input: &[u8]) -> Result<bool,
     is_the_same::<P, _>(alloc, words, input, goes_on)
 }
 
+// Whether an interruption that the system itself reports is passed over.
+fn passes_over_signals<P: Program>(
+    alloc: Global,
+    words: &[&str],
+    _input: &[u8],
+) -> Result<bool, Fail> {
+    let interrupted = Once {
+        code: 4,
+        is_due: true,
+    };
+    is_the_same::<P, _>(alloc, words, b"", interrupted)
+}
+
 #[test]
 fn inputs_come_in_any_way(rt: HostRuntime) -> Result<(), Fail> {
     assert_eq!(rt; holds_of_all!(streams, rt.alloc()), [true; 8]);
+    assert_eq!(rt; holds_of_all!(passes_over_signals, rt.alloc()), [true; 8]);
     Ok(())
 }
 
 #[test]
 fn inputs_end_once(rt: HostRuntime) -> Result<(), Fail> {
     assert_eq!(rt; holds_of_all!(ends, rt.alloc()), [true; 8]);
+    assert!(rt; ends::<UniqCount>(rt.alloc(), &[], b"a\na")?);
+    assert!(rt; ends::<TokenCounter>(rt.alloc(), &[], b"let")?);
     Ok(())
 }
 

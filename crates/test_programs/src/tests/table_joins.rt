@@ -57,6 +57,16 @@ fn names_keys_beyond_ascii(rt: HostRuntime) -> Result<(), Fail> {
     Ok(())
 }
 
+#[test]
+fn names_keys_of_controls(rt: HostRuntime) -> Result<(), Fail> {
+    let input = "é\"\u{1b},1\na,2\n--\n".as_bytes();
+    let ran = ran::<TableJoin>(rt.alloc(), &["anti"], input)?;
+    let said =
+        "line 2 is left out: its key \"a\" is lower than \"é\\\"\\u{1b}\", the greatest before it\n";
+    assert_eq!(rt; ran.all(), (1, "é\"\u{1b},1\n".as_bytes(), said.as_bytes()));
+    Ok(())
+}
+
 // Whether a run over this input says that a line is missing, and nothing else.
 fn wants_a_line(alloc: Global, input: &[u8]) -> Result<bool, Fail> {
     let ran = ran::<TableJoin>(alloc, &[], input)?;

@@ -1,0 +1,91 @@
+//! The helpers refuse what is wrong: else the cases that they compare would hold whatever is answered.
+use crate::{answers, answers_mut, holds, len_of, len_of_mut, writes};
+use slice_group_by::{End, LinearGroup, LinearGroupMut};
+use std::test::Fail;
+
+#[test]
+fn wrong_answers_are_refused(rt: HostRuntime) {
+    let groups = || LinearGroup::new(&[1, 1, 2]);
+    let (ones, two) = ([1, 1].as_slice(), [2].as_slice());
+    let right = [
+        (End::Back, Some(two)),
+        (End::Front, Some(ones)),
+        (End::Front, None),
+    ];
+    assert!(rt; answers(groups(), &right));
+    let wrong = [
+        [
+            (End::Front, Some(two)),
+            (End::Front, Some(ones)),
+            (End::Front, None),
+        ],
+        [
+            (End::Back, Some(two)),
+            (End::Back, Some(two)),
+            (End::Front, None),
+        ],
+        [
+            (End::Back, Some(two)),
+            (End::Front, Some(ones)),
+            (End::Front, Some(ones)),
+        ],
+        [
+            (End::Back, Some(two)),
+            (End::Front, None),
+            (End::Front, None),
+        ],
+        [
+            (End::Back, Some(two)),
+            (End::Front, Some(&ones[..1])),
+            (End::Front, None),
+        ],
+    ];
+    for calls in &wrong {
+        assert!(rt; !answers(groups(), calls));
+        let mut elems = [1, 1, 2];
+        assert!(rt; !answers_mut(LinearGroupMut::new(&mut elems), calls));
+    }
+    let ended = [
+        (End::Front, Some(ones)),
+        (End::Front, Some(two)),
+        (End::Front, None),
+        (End::Back, Some(two)),
+    ];
+    assert!(rt; !answers(groups(), &ended));
+    let mut elems = [1, 1, 2];
+    assert!(rt; !answers_mut(LinearGroupMut::new(&mut elems), &ended));
+    let mut elems = [1, 1, 2];
+    assert!(rt; answers_mut(LinearGroupMut::new(&mut elems), &right));
+}
+
+#[test]
+fn wrong_groups_are_refused(rt: HostRuntime) {
+    assert!(rt; holds(Some(&mut [1, 2]), Some(&[1, 2])));
+    assert!(rt; holds::<u32>(None, None));
+    assert!(rt; !holds(Some(&mut [1, 2]), Some(&[1, 3])));
+    assert!(rt; !holds(Some(&mut [1, 2]), Some(&[1])));
+    assert!(rt; !holds(Some(&mut [1]), Some(&[1, 2])));
+    assert!(rt; !holds(Some(&mut [1]), None));
+    assert!(rt; !holds(None, Some(&[1])));
+    assert_eq!(rt; [len_of(Some(&[7, 7, 7])), len_of::<u32>(None)], [3, 0]);
+    assert_eq!(rt;
+        [len_of_mut(Some(&mut [7, 7])), len_of_mut::<u32>(None)],
+        [2, 0]
+    );
+}
+
+#[test]
+fn wrong_texts_and_views_are_refused(rt: HostRuntime) -> Result<(), Fail> {
+    let alloc = rt.alloc();
+    assert!(rt; writes(alloc, &[1, 2], "[1, 2]")?);
+    for wrong in ["[1, 2", "[1, 2]]", "1, 2]", "[1,2]", ""] {
+        assert!(rt; !writes(alloc, &[1, 2], wrong)?);
+    }
+    let mut groups = LinearGroup::new(&[1, 1, 2]);
+    assert!(rt; views!(groups) == ([1, 1, 2].as_slice(), 3, false, (1, Some(3))));
+    let _ = groups.next();
+    assert!(rt; views!(groups) == ([2].as_slice(), 1, false, (1, Some(1))));
+    let _ = groups.next();
+    assert!(rt; views!(groups) == ([].as_slice(), 0, true, (0, Some(0))));
+    Ok(())
+}
