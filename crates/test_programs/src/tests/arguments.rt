@@ -4,37 +4,55 @@ use crate::tests::programs::{
     GroupedReport, IndexReader, Outcome, Program, RunLengthCoder, TableJoin, TokenCounter,
     UniqCount, ran_over,
 };
-use crate::tests::streams::Slowly;
 use std::alloc::Global;
-use std::io::BufReader;
+use std::cell::Cell;
+use std::io;
+use std::io::{BufReader, Read};
 use std::test::Fail;
 
-// A run with these arguments that may not read: the input fails at once.
-fn ran_unread<P: Program>(alloc: Global, words: &[&str]) -> Result<Outcome, Fail> {
-    let failing = Slowly {
-        bytes: b"",
-        fails: true,
-    };
-    Ok(ran_over::<P, _>(alloc, words, BufReader::with_capacity(alloc, 1, failing)?)?)
+// Counts its reads, and is at its end.
+#[derive(Drop)]
+struct Watched<'a> {
+    reads: &'a Cell<usize>,
 }
 
-// Whether `--help` writes the usage alone.
+impl Read for Watched<'_> {
+    fn read(&mut self, _buffer: &mut [u8]) -> io::Result<usize> {
+        self.reads.set(self.reads.get().wrapping_add(1));
+        Ok(0)
+    }
+}
+
+// A run with these arguments, whose reads are counted.
+fn ran_watched<P: Program>(
+    alloc: Global,
+    words: &[&str],
+    reads: &Cell<usize>,
+) -> Result<Outcome, Fail> {
+    let input = BufReader::with_capacity(alloc, 1, Watched { reads })?;
+    Ok(ran_over::<P, _>(alloc, words, input)?)
+}
+
+// Whether `--help` writes the usage alone, and reads nothing.
 fn helps<P: Program>(alloc: Global, usage: &str) -> Result<bool, Fail> {
-    Ok(ran_unread::<P>(alloc, &["--help"])?.all() == (0, usage.as_bytes(), b"".as_slice()))
+    let reads = Cell::new(0usize);
+    let ran = ran_watched::<P>(alloc, &["--help"], &reads)?;
+    Ok(ran.all() == (0, usage.as_bytes(), b"".as_slice()) && reads.get() == 0)
 }
 
-// Whether these arguments, and some that no program knows, have the usage complained alone.
+// Whether these arguments, and some that no program knows, have the usage complained alone, and nothing read.
 fn refuses<P: Program>(alloc: Global, usage: &str, words: &[&str]) -> Result<bool, Fail> {
     let refused = (2, b"".as_slice(), usage.as_bytes());
-    let mut are_refused = ran_unread::<P>(alloc, words)?.all() == refused;
+    let reads = Cell::new(0usize);
+    let mut are_refused = ran_watched::<P>(alloc, words, &reads)?.all() == refused;
     for word in [
         "", "-", "--", "--helps", "help", "-h", "-c", "-d", "d", "Decode", "decoded", "INNER",
         "join", "1",
     ] {
-        are_refused &= ran_unread::<P>(alloc, &[word])?.all() == refused;
+        are_refused &= ran_watched::<P>(alloc, &[word], &reads)?.all() == refused;
     }
-    are_refused &= ran_unread::<P>(alloc, &["--help", "--help"])?.all() == refused;
-    Ok(are_refused)
+    are_refused &= ran_watched::<P>(alloc, &["--help", "--help"], &reads)?.all() == refused;
+    Ok(are_refused && reads.get() == 0)
 }
 
 #[test]
