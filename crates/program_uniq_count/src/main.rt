@@ -1,5 +1,5 @@
-//! Counts equal neighbouring lines of standard input, as `uniq -c` does: input of any size, in the memory of its longest line or of
-//! a block of lines.
+//! Counts equal neighbouring lines of standard input, as `uniq -c` does, and writes the counts with no columns: input of any size, in
+//! the memory of a few blocks of lines, or of its longest lines.
 #![tactic(auto)]
 
 use std::io::{BufReader, BufWriter};

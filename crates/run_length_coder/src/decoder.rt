@@ -11,7 +11,8 @@ use std::io;
 use std::io::{BufRead, Write};
 
 /// Writes the bytes of the runs that the lines of the input say, and gives back whether each line says one. One that
-/// says none is left out, and a line of complaint says so, and why. It keeps one line in memory.
+/// says none is left out, and a line of complaint says so, and why. It keeps one line in memory,
+/// and a block of what is written.
 pub fn decode<R: BufRead, W: Write, E: Write>(
     alloc: Global,
     input: &mut R,

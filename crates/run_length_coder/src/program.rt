@@ -22,7 +22,7 @@ Writes each run of equal bytes of standard input as a line `COUNT BYTE`, two dec
 With `decode` it reads such lines and writes the bytes again. A line that says no run is named, and left out.
 ";
 
-/// Does what the arguments ask for, and gives back the status: 0, or 1 where a read or a write failed or a line is no run, or 2
+/// Does what the arguments ask for, and gives back the status: 0, or 1 where it failed or a line is no run, or 2
 /// where the arguments are not known. What went wrong is said in lines of complaint.
 pub fn run<R: BufRead, W: Write, E: Write>(
     alloc: Global,

@@ -38,7 +38,7 @@ and standard error says why. The status is then 1, and so it is where the line `
 there or where reading or writing fails. It is 2 where an argument is not known.
 ";
 
-/// Does what the arguments ask for, and gives back the status: 0, or 1 where a read or a write failed or a line is left
+/// Does what the arguments ask for, and gives back the status: 0, or 1 where it failed or a line is left
 /// out, or 2 where the arguments are not known. What went wrong is said in lines of complaint.
 pub fn run<R: BufRead + Drop, W: Write, E: Write>(
     alloc: Global,

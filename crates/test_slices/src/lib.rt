@@ -6,6 +6,8 @@ mod aliases;
 #[cfg(test)]
 mod alike;
 #[cfg(test)]
+mod bounds;
+#[cfg(test)]
 mod by_name;
 #[cfg(test)]
 mod families;
@@ -15,6 +17,10 @@ mod guarded;
 mod linear_by;
 #[cfg(test)]
 mod methods;
+#[cfg(test)]
+mod names;
+#[cfg(test)]
+mod names_of_laws;
 #[cfg(test)]
 mod offsets;
 #[cfg(test)]

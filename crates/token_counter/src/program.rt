@@ -22,7 +22,7 @@ pub const USAGE: &str = "usage: token_counter [--help] < INPUT
 Counts the tokens of standard input, the longest runs of letters, of digits, of white space, each of ASCII, and of all else.
 ";
 
-/// Does what the arguments ask for, and gives back the status: 0, or 1 where a read or a write failed, or 2 where the arguments are
+/// Does what the arguments ask for, and gives back the status: 0, or 1 where it failed, or 2 where the arguments are
 /// not known. What went wrong is said in a line of complaint.
 pub fn run<R: Read, W: Write, E: Write>(
     alloc: Global,

@@ -12,8 +12,8 @@ use std::io;
 use std::io::{BufRead, Error, ErrorKind, Write};
 
 /// Writes an entry for each longest stretch of equal neighbouring lines of what the input has left, however the reads cut it. It
-/// keeps one block of lines in memory, or one line where that is longer. A failed read or write ends it, and so does a line that
-/// stands there 2^64 times in a row.
+/// keeps one block of lines in memory, or one line where that is longer, a slice for each of them, and the open line. A failed read
+/// or write ends it, and so do memory that runs out and a line that stands there 2^64 times in a row.
 pub fn count_lines<R: BufRead, W: Write>(
     alloc: Global,
     input: &mut R,

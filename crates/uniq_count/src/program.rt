@@ -18,7 +18,7 @@ pub const USAGE: &str = "usage: uniq_count [--help] < INPUT
 Writes an entry `COUNT LINE` for each longest stretch of equal neighbouring lines of standard input.
 ";
 
-/// Does what the arguments ask for, and gives back the status: 0, or 1 where a read or a write failed, or 2 where the arguments are
+/// Does what the arguments ask for, and gives back the status: 0, or 1 where it failed, or 2 where the arguments are
 /// not known. What went wrong is said in a line of complaint.
 pub fn run<R: BufRead, W: Write, E: Write>(
     alloc: Global,

@@ -103,6 +103,14 @@ fn adapters_ask_no_more(rt: HostRuntime) {
     assert_eq!(rt; counts, [2, 2]);
     assert_eq!(rt; longest_and_questions(&[1, 2, 2, 2, 2, 3, 3]), (4, 6));
     assert_eq!(rt; longest_and_questions(&[1, 2, 2]), (2, 2));
+    assert_eq!(rt;
+        [longest_and_questions(&[7]), longest_and_questions(&[])],
+        [(1, 0), (0, 0)]
+    );
+    assert_eq!(rt;
+        [longest_and_binary_keys(&[7]), longest_and_binary_keys(&[])],
+        [(1, 0), (0, 0)]
+    );
     assert_eq!(rt; longest_and_binary_keys(&[10, 21, 22, 23, 29, 31, 32]).0, 4);
     assert_eq!(rt; longest_and_binary_keys(&[5, 15, 115]).0, 1);
     assert_eq!(rt; longest_and_binary_keys(&[5, 15, 16]).0, 2);

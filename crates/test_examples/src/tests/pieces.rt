@@ -12,8 +12,12 @@ fn as_dedup_counts(rt: HostRuntime) {
 #[test]
 fn as_chunk_by_counts(rt: HostRuntime) {
     assert_eq!(rt;
-        [groups_and_chunks(&[]), groups_and_chunks(&[3, 1, 1, 2])],
-        [(0, 0), (3, 3)]
+        [
+            groups_and_chunks(&[]),
+            groups_and_chunks(&[7]),
+            groups_and_chunks(&[3, 1, 1, 2])
+        ],
+        [(0, 0), (1, 1), (3, 3)]
     );
 }
 

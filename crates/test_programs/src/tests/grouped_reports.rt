@@ -50,3 +50,22 @@ fn folds_block_after_block(rt: HostRuntime) -> Result<(), Fail> {
     assert_eq!(rt; thrice, 60_000);
     Ok(())
 }
+
+// What is said where a sum does not fit.
+#[test]
+fn sums_that_do_not_fit_are_said(rt: HostRuntime) -> Result<(), Fail> {
+    let mut sums = Sums::new(rt.alloc());
+    for amount in [u128::MAX, 1] {
+        let row = Entry {
+            department: 1,
+            amount,
+        };
+        sums.add(rt.alloc(), row)?;
+    }
+    let said = match sums.report(rt.alloc()) {
+        Ok(_) => String::new(rt.alloc()),
+        Err(error) => format!(in rt.alloc(); "{error}")?,
+    };
+    assert_eq!(rt; said.as_str(), "a sum is no number of 128 bits");
+    Ok(())
+}

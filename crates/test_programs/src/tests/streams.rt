@@ -231,6 +231,77 @@ fn errors_are_said(rt: HostRuntime) -> Result<(), Fail> {
     Ok(())
 }
 
+// Fails once by an error of this kind, and then ends.
+#[derive(Drop)]
+struct OnceOf {
+    kind: Option<ErrorKind>,
+}
+
+impl Read for OnceOf {
+    fn read(&mut self, _buffer: &mut [u8]) -> io::Result<usize> {
+        match self.kind.take() {
+            Some(kind) => Err(Error::from(kind)),
+            None => Ok(0),
+        }
+    }
+}
+
+// Whether each kind of error ends the run, and is said.
+fn says_kinds<P: Program>(alloc: Global, words: &[&str], _input: &[u8]) -> Result<bool, Fail> {
+    let mut are_said = true;
+    for kind in [
+        ErrorKind::NotFound,
+        ErrorKind::PermissionDenied,
+        ErrorKind::BrokenPipe,
+        ErrorKind::WouldBlock,
+        ErrorKind::InvalidInput,
+        ErrorKind::InvalidData,
+        ErrorKind::TimedOut,
+        ErrorKind::WriteZero,
+        ErrorKind::UnexpectedEof,
+        ErrorKind::OutOfMemory,
+        ErrorKind::Other,
+    ] {
+        let reader = BufReader::with_capacity(alloc, 1, OnceOf { kind: Some(kind) })?;
+        let ran = ran_over::<P, _>(alloc, words, reader)?;
+        let said = format!(in alloc; "{}: {}\n", P::NAME, Error::from(kind))?;
+        are_said &= ran.all() == (1, b"".as_slice(), said.as_bytes());
+    }
+    Ok(are_said)
+}
+
+#[test]
+fn errors_of_each_kind_are_said(rt: HostRuntime) -> Result<(), Fail> {
+    assert_eq!(rt; holds_of_all!(says_kinds, rt.alloc()), [true; 8]);
+    Ok(())
+}
+
+// Whether a line that is left out is said before the read behind it fails.
+fn says_line_before<P: Program>(alloc: Global, words: &[&str]) -> Result<bool, Fail> {
+    let slowly = Slowly {
+        bytes: b"no line\n",
+        fails: true,
+    };
+    let ran = ran_over::<P, _>(alloc, words, BufReader::with_capacity(alloc, 1, slowly)?)?;
+    let said = format!(in alloc; "{}: no more can be read\n", P::NAME)?;
+    Ok(
+        ran.complaints.starts_with(b"line 1 is left out")
+            && ran.complaints.ends_with(said.as_bytes()),
+    )
+}
+
+#[test]
+fn lines_are_said_before_a_read_fails(rt: HostRuntime) -> Result<(), Fail> {
+    let are_said = [
+        says_line_before::<RunLengthCoder>(rt.alloc(), &["decode"])?,
+        says_line_before::<GroupedReport>(rt.alloc(), &[])?,
+        says_line_before::<TableJoin>(rt.alloc(), &[])?,
+        says_line_before::<IndexReader>(rt.alloc(), &[])?,
+    ];
+    assert_eq!(rt; are_said, [true; 4]);
+    Ok(())
+}
+
 // What was read is lost with the read that failed, where its group may go on.
 #[test]
 fn failed_reads_of_many_lines_are_said(rt: HostRuntime) -> Result<(), Fail> {

@@ -1,0 +1,21 @@
+//! Each law that the library gives to proofs, and what is proved from them.
+use slice_group_by::laws::{
+    Judged, Lends, OfText, Plan, always_callable, always_callable_apart, always_callable_char_key,
+    always_callable_chars, always_callable_key, always_callable_key_apart,
+    always_callable_on_elements, always_compares, always_computes, ascending_is_grouped,
+    ascending_is_searchable, callable_now, callable_now_on_pairs, callable_on_elements,
+    callable_on_pairs, calls_ask, calls_may_go_on, calls_take_pieces, chains_answer,
+    chains_hand_out, characters_fit, chunk_by_agrees, comparisons_count, computes_on_char_pairs,
+    computes_on_chars, computes_on_elements, computes_on_pairs, descending_is_grouped,
+    digits_is_least, each_pair_asked_once, ends_agree, equal_pieces_are_copies, equality_judges,
+    families_agree, first_group_agrees, gap_parts, groups_end_locally, groups_join, groups_stand,
+    groups_still_come, halving_plans_ask, is_sorted_for_groups, joins_find_partners,
+    joins_may_go_on, key_calls_count, linear_counts, mapped_calls_ask, merge_is_unique,
+    merge_parts_join, merges_agree, merges_ask, merges_count, merges_exist, merges_may_go_on,
+    number_judges, numbers_agree, one_split, pairs_ascend, pairs_count, pairs_match,
+    partitioned_pieces, partners_are_unique, parts_are_grouped, parts_or_empty, pieces_add_up,
+    pieces_begin_as_dedup, pieces_by_key, question_count, questions_count, range_calls_count,
+    range_parts, range_starts, rank_groups, refute, right_plans_ask, search_asks, sees_merge,
+    sees_merge_by_keys, sees_merge_in_order, sees_pairs, sees_pieces, semi_joins_are_filters,
+    sorted_by_key_ascends, sorts_ascend, splits_join, texts_join, unions_ascend,
+};
