@@ -2,6 +2,7 @@
 //! the values of the library may be used for.
 use slice_group_by::loans::{Ended, Loans};
 use slice_group_by::{EitherOrBoth, End, GroupBy, GroupByMut, StrGroupBy, StrGroupByMut};
+use std::cell::Cell;
 
 const XS: [f64; 4] = [1.5, 1.5, 2.5, 2.5];
 
@@ -55,10 +56,11 @@ fn crosses_threads<T: Send + Sync>() {}
 
 fn is_copied<T: Copy + Eq>() {}
 
+// (a cell may not be shared, but what a slice of cells ends as may)
 #[test]
 fn values_are_copied_and_cross_threads() {
-    crosses_threads::<Ended<'static, u32>>();
-    crosses_threads::<Loans<u32>>();
+    crosses_threads::<Ended<'static, Cell<u32>>>();
+    crosses_threads::<Loans<Cell<u32>>>();
     is_copied::<End>();
     is_copied::<EitherOrBoth<u32, char>>();
 }

@@ -69,6 +69,10 @@ fn searches_find_and_count(rt: HostRuntime) {
     let numbers = [1, 3, 5];
     let found = [1, 5, 4].map(|elem| questions_of_search(&numbers, elem).0);
     assert_eq!(rt; found, [Ok(0), Ok(2), Err(2)]);
+    assert_eq!(rt;
+        [questions_of_search(&[], 3), keys_of_search(&[], 3)],
+        [(Err(0), 0); 2]
+    );
     let rows = [(1, 9), (3, 8), (5, 7)];
     let found = [1, 5, 4].map(|key| keys_of_search(&rows, key).0);
     assert_eq!(rt; found, [Ok(0), Ok(2), Err(2)]);
