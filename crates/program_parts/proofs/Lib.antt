@@ -1,4 +1,5 @@
 pub mod Appended
+pub mod Fed
 pub mod Given
 pub mod KeptSoFar
 pub mod Parts

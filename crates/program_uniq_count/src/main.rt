@@ -1,5 +1,5 @@
-//! Counts equal neighbouring lines of standard input, as `uniq -c` does, and writes the counts with no columns: input of any size, in
-//! the memory of a few blocks of lines, or of its longest lines.
+//! Counts equal neighbouring lines of standard input, as `uniq -c` does, and writes the counts with no columns: input of any size. What is
+//! kept in memory is a block of lines, or one that is longer, a slice for each of them, and one line that may go on.
 #![tactic(auto)]
 
 use std::io::{BufReader, BufWriter};

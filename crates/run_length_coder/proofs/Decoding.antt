@@ -15,6 +15,7 @@ use Rattle.std.proofs.lemmas.Bool.{eqb-true}
 use Rattle.std.specs.Io.BufRead.{take_through, drop_through, strip_last, ends_with_byte, first_line, DropsThrough}
 use Rattle.std.specs.Char.{digit_value}
 use Rattle.slice_group_by.specs.Split.{split}
+use Rattle.program_parts.proofs.Fed.{feed_last}
 use Rattle.program_parts.proofs.Written.{not_in_decimal}
 use Rattle.program_parts.proofs.Appended.{appends_both}
 use Rattle.run_length_coder.specs.Coding.{line, coded, copies}
@@ -41,16 +42,6 @@ one_more x y ys false e r = record { more = 0; rest = y ∷ ys; whole = refl; cu
 pub first_run : (x : ℕ) (xs : List ℕ) → FirstRun x xs
 first_run x [] = record { more = 0; rest = []; whole = refl; cut = refl }
 first_run x (y ∷ ys) = one_more x y ys (nat_eq x y) refl (first_run y ys)
-
--- the line feed at an end is found, and stripped
-feed_last : (xs : List ℕ) → (ends_with_byte 10 (xs ++ 10 ∷ []) ≡ true) × (strip_last 10 (xs ++ 10 ∷ []) ≡ xs)
-feed_last xs =
-    let long : length (xs ++ 10 ∷ []) ≡ length xs + 1 = length-append xs (10 ∷ []) in
-    let less : length xs + 1 - 1 ≡ length xs = omega arith in
-    let some : ltb 0 (length xs + 1) ≡ true = grind (arith, nat_tests) in
-    let last : get_or (xs ++ 10 ∷ []) (length xs) 0 ≡ 10 = get_or-append_seam xs 10 [] 0 in
-    let front : take (length xs) (xs ++ 10 ∷ []) ≡ xs = take-append_seam xs (10 ∷ []) in
-    (rw (long, less, some, last) refl, rw (long, less, some, last, front) refl)
 
 -- a byte that stands nowhere is not stripped
 strip_none : (b : ℕ) (xs : List ℕ) → All (λ x. x ≢ b) xs → strip_last b xs ≡ xs

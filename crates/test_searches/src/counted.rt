@@ -11,11 +11,16 @@ use std::cell::Cell;
 use std::cmp::Ordering;
 use test_calls::len_of;
 
-// A number whose `==` and `cmp` count their calls.
-#[derive(Drop)]
+// A number whose `==` and `cmp` count their calls, together or apart.
+#[derive(Clone, Copy)]
 pub(super) struct Counted<'a> {
-    number: u32,
-    calls: &'a Cell<usize>,
+    pub(super) number: u32,
+    pub(super) equalities: &'a Cell<usize>,
+    pub(super) orders: &'a Cell<usize>,
+}
+
+fn one_more(calls: &Cell<usize>) {
+    calls.set(calls.get().wrapping_add(1));
 }
 
 impl<'a> PartialEq for Counted<'a> {
@@ -24,7 +29,7 @@ impl<'a> PartialEq for Counted<'a> {
     ghost laws = { Prim.search (comparing, rules) };
 
     fn eq(&self, other: &Self) -> bool {
-        self.calls.set(self.calls.get().wrapping_add(1));
+        one_more(self.equalities);
         self.number == other.number
     }
 }
@@ -43,7 +48,7 @@ impl<'a> Ord for Counted<'a> {
     ghost matches_eq = { Prim.search (comparing, rules) };
 
     fn cmp(&self, other: &Self) -> Ordering {
-        self.calls.set(self.calls.get().wrapping_add(1));
+        one_more(self.orders);
         self.number.cmp(&other.number)
     }
 }
@@ -54,12 +59,17 @@ impl<'a> PartialOrd for Counted<'a> {
     ghost laws = { partial_order_from_own_ties (Prim.search (comparing, rules)) (Prim.search (comparing, rules)) };
 
     fn partial_cmp(&self, other: &Self) -> Option<Ordering> {
+        one_more(self.equalities);
         Some(self.cmp(other))
     }
 }
 
 fn number<'a>(number: u32, calls: &'a Cell<usize>) -> Counted<'a> {
-    Counted { number, calls }
+    Counted {
+        number,
+        equalities: calls,
+        orders: calls,
+    }
 }
 
 #[test]

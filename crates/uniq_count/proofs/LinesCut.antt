@@ -1,5 +1,6 @@
 -- Where the lines of a text may be cut.
-use Rattle.std.proofs.Common.{◌≡◌, ◌≢◌, ℕ, suc, ◌+◌, ◌-◌, ◌<◌, Bool, true, false, eqb, not, List, [], ◌∷◌, ◌++◌, length, take, drop, refl, ap, sym, ◌∙◌, arith, append_assoc, append-nil, Option, None, Some, IfSome, ltb, map, subst}
+use Rattle.std.proofs.Common.{◌≡◌, ◌≢◌, ℕ, suc, ◌+◌, ◌<◌, Bool, true, false, eqb, not, List, [], ◌∷◌, ◌++◌, length, take, drop, refl, ap}
+use Rattle.std.proofs.Common.{sym, ◌∙◌, arith, append_assoc, append-nil, Option, None, Some, IfSome, ltb, map, subst}
 use borrow.Author.Tests.{ltb-false}
 use Rattle.std.specs.Option.{unwrap_or}
 use Rattle.std.specs.Io.KnownBytes.{IsAtEnd}
@@ -7,10 +8,8 @@ use Rattle.std.proofs.lemmas.List.{drop-drop, map-append}
 use Rattle.std.proofs.lemmas.List.Sums.{prefix_len-le-length}
 use Rattle.std.specs.List.{position, position_or_len, onto_first}
 use Rattle.std.specs.Io.BufRead.{take_through, drop_through, ends_with_byte, DropsThrough}
-use Rattle.std.proofs.Math.Seq.{get_or-append_seam}
 use Rattle.std.proofs.lemmas.Bool.{eqb-true}
-use Rattle.std.proofs.lemmas.Bool.Decides.{nat_tests}
-use Rattle.std.proofs.lemmas.List.{length-append}
+use Rattle.program_parts.proofs.Fed.{feed_last}
 use Rattle.uniq_count.specs.Counting.{lines, GivesLines}
 
 abbrev is_feed : ℕ → Bool
@@ -173,13 +172,6 @@ through_feed (x ∷ xs) some = feed_after x xs (is_feed x) refl (through_feed xs
   feed_after x xs false e h some =
       let (front, cut) = h (λ k. some (rw e k)) in (x ∷ front, rw e (ap (λ l. x ∷ l) cut))
 
-feed_ends : (text : List ℕ) → ends_with_byte 10 (text ++ 10 ∷ []) ≡ true
-feed_ends text =
-    let long : length (text ++ 10 ∷ []) ≡ length text + 1 = length-append text (10 ∷ []) in
-    let less : length text + 1 - 1 ≡ length text = omega arith in
-    let some : ltb 0 (length text + 1) ≡ true = grind (arith, nat_tests) in
-    rw (long, less, some, get_or-append_seam text 10 [] 0) refl
-
 -- so a reader is at its end behind a line with no line feed
 pub Reads-cut : (a b c : Option (List ℕ)) (text new : List ℕ) → Reads a b text → IfSome b (λ xs. new ≡ text ++ take_through 10 xs)
     → DropsThrough b c 10 → ends_with_byte 10 new ≡ false → IfSome a (λ _. IsAtEnd c)
@@ -190,8 +182,8 @@ Reads-cut (Some all) (Some xs) c text new p grown left no_feed = at_end (drop_th
   at_end [] e = rw (left, e) refl
   at_end (y ∷ ys) e =
       let (front, cut) = through_feed xs (λ none. let k = sym e ∙ none in cc) in
-      let fed : ends_with_byte 10 new ≡ true =
-      ap (ends_with_byte 10) (grown ∙ ap (λ l. text ++ l) cut ∙ sym (append_assoc text front (10 ∷ []))) ∙ feed_ends (text ++ front) in
+      let read = grown ∙ ap (λ l. text ++ l) cut ∙ sym (append_assoc text front (10 ∷ [])) in
+      let fed : ends_with_byte 10 new ≡ true = ap (ends_with_byte 10) read ∙ (feed_last (text ++ front)).0 in
       let k = sym fed ∙ no_feed in cc
 
 -- one more line is found

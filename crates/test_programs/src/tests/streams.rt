@@ -91,20 +91,18 @@ impl Read for Endless<'_> {
     }
 }
 
-// Fails once by this code of the operating system, and then ends.
+// Fails once by this error, and then ends.
 #[derive(Drop)]
 struct Once {
-    code: i32,
-    is_due: bool,
+    error: Option<Error>,
 }
 
 impl Read for Once {
     fn read(&mut self, _buffer: &mut [u8]) -> io::Result<usize> {
-        if self.is_due {
-            self.is_due = false;
-            return Err(Error::from_raw_os_error(self.code));
+        match self.error.take() {
+            Some(error) => Err(error),
+            None => Ok(0),
         }
-        Ok(0)
     }
 }
 
@@ -152,6 +150,9 @@ fn ends<P: Program>(alloc: Global, words: &[&str], input: &[u8]) -> Result<bool,
     is_the_same::<P, _>(alloc, words, input, goes_on)
 }
 
+// The code by which the system says so.
+const INTERRUPTED: i32 = 4;
+
 // Whether an interruption that the system itself reports is passed over.
 fn passes_over_signals<P: Program>(
     alloc: Global,
@@ -159,8 +160,7 @@ fn passes_over_signals<P: Program>(
     _input: &[u8],
 ) -> Result<bool, Fail> {
     let interrupted = Once {
-        code: 4,
-        is_due: true,
+        error: Some(Error::from_raw_os_error(INTERRUPTED)),
     };
     is_the_same::<P, _>(alloc, words, b"", interrupted)
 }
@@ -210,45 +210,31 @@ fn endless_inputs_end_with_the_output(rt: HostRuntime) -> Result<(), Fail> {
     Ok(())
 }
 
-// Whether each error of the system but an interruption ends the run, and is said.
+// Whether a read that fails by the one error ends the run, and says what the other does, which is the same.
+fn says<P: Program>(
+    alloc: Global,
+    words: &[&str],
+    error: Error,
+    same: Error,
+) -> Result<bool, Fail> {
+    let failing = Once { error: Some(error) };
+    let ran = ran_over::<P, _>(alloc, words, BufReader::with_capacity(alloc, 1, failing)?)?;
+    let said = format!(in alloc; "{}: {same}\n", P::NAME)?;
+    Ok(ran.all() == (1, b"".as_slice(), said.as_bytes()))
+}
+
+// Whether each error of the system but an interruption, and each kind of others, is said.
 fn says_errors<P: Program>(alloc: Global, words: &[&str], _input: &[u8]) -> Result<bool, Fail> {
-    let interrupted = 4;
     let mut are_said = true;
     for code in 1..134 {
-        if code != interrupted {
-            let reader = BufReader::with_capacity(alloc, 1, Once { code, is_due: true })?;
-            let ran = ran_over::<P, _>(alloc, words, reader)?;
-            let said = format!(in alloc; "{}: {}\n", P::NAME, Error::from_raw_os_error(code))?;
-            are_said &= ran.all() == (1, b"".as_slice(), said.as_bytes());
+        if code != INTERRUPTED {
+            let (error, same) = (
+                Error::from_raw_os_error(code),
+                Error::from_raw_os_error(code),
+            );
+            are_said &= says::<P>(alloc, words, error, same)?;
         }
     }
-    Ok(are_said)
-}
-
-#[test]
-fn errors_are_said(rt: HostRuntime) -> Result<(), Fail> {
-    assert_eq!(rt; holds_of_all!(says_errors, rt.alloc()), [true; 8]);
-    Ok(())
-}
-
-// Fails once by an error of this kind, and then ends.
-#[derive(Drop)]
-struct OnceOf {
-    kind: Option<ErrorKind>,
-}
-
-impl Read for OnceOf {
-    fn read(&mut self, _buffer: &mut [u8]) -> io::Result<usize> {
-        match self.kind.take() {
-            Some(kind) => Err(Error::from(kind)),
-            None => Ok(0),
-        }
-    }
-}
-
-// Whether each kind of error ends the run, and is said.
-fn says_kinds<P: Program>(alloc: Global, words: &[&str], _input: &[u8]) -> Result<bool, Fail> {
-    let mut are_said = true;
     for kind in [
         ErrorKind::NotFound,
         ErrorKind::PermissionDenied,
@@ -262,17 +248,14 @@ fn says_kinds<P: Program>(alloc: Global, words: &[&str], _input: &[u8]) -> Resul
         ErrorKind::OutOfMemory,
         ErrorKind::Other,
     ] {
-        let reader = BufReader::with_capacity(alloc, 1, OnceOf { kind: Some(kind) })?;
-        let ran = ran_over::<P, _>(alloc, words, reader)?;
-        let said = format!(in alloc; "{}: {}\n", P::NAME, Error::from(kind))?;
-        are_said &= ran.all() == (1, b"".as_slice(), said.as_bytes());
+        are_said &= says::<P>(alloc, words, Error::from(kind), Error::from(kind))?;
     }
     Ok(are_said)
 }
 
 #[test]
-fn errors_of_each_kind_are_said(rt: HostRuntime) -> Result<(), Fail> {
-    assert_eq!(rt; holds_of_all!(says_kinds, rt.alloc()), [true; 8]);
+fn errors_are_said(rt: HostRuntime) -> Result<(), Fail> {
+    assert_eq!(rt; holds_of_all!(says_errors, rt.alloc()), [true; 8]);
     Ok(())
 }
 

@@ -1,4 +1,5 @@
-use Rattle.std.proofs.Common.{◌≡◌, ◌↔◌, ◌≤◌, ◌<◌, ◌∙◌, ℕ, Bool, IsTrue, List, [], ◌∷◌, String, string_bytes, length, get_or, refl, sym, ap, arith}
+use Rattle.std.proofs.Common.{◌≡◌, ◌↔◌, ◌≤◌, ◌<◌, ◌∙◌, ℕ, Bool, IsTrue, List, [], ◌∷◌, length, get_or, sym, ap, arith}
+use Rattle.std.proofs.Common.{String, string_bytes}
 use Rattle.std.specs.Str.{bytes_eq}
 use Rattle.std.proofs.lemmas.Slice.Eq.{bytes_eq-Decides}
 use Rattle.program_parts.specs.Arguments.{IsOnly}
@@ -17,4 +18,6 @@ alone (x ∷ []) one word text is_equal some few first is_text equal =
 alone (x ∷ y ∷ words) one word text is_equal some few first is_text equal = absurd (omega arith)
 
 pub returns-in-len1 : goal.returns-in-len1
-returns-in-len1 c = alone c.args.words.now c.one-item.result c.args.word.now _ _ c.in-len1.len_at_least c.in-len1.len_below c.one-item.is c.as_str.ensures.value c.eq.ensures
+returns-in-len1 c =
+    alone c.args.words.now c.one-item.result c.args.word.now _ _ c.in-len1.len_at_least c.in-len1.len_below c.one-item.is
+    c.as_str.ensures.value c.eq.ensures
