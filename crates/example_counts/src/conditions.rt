@@ -1,11 +1,17 @@
 //! Calls that have a condition, where it is met: a place for each answer, a predicate that may be called on some pairs alone,
 //! and bytes that are a text.
-ghost use Rattle.std.specs.Prelude.{◌≤◌, ◌<◌, ◌-◌};
+ghost use Rattle.std.specs.Prelude.{◌≡◌, ◌≤◌, ◌<◌, ◌-◌, [], ◌∷◌, map, option_map};
+ghost use Rattle.std.specs.Ordering.{int_eq};
+ghost use Rattle.slice_group_by.specs.End.TheVariants.{Front, Back};
+ghost use Rattle.slice_group_by.specs.Queue.{pops};
+ghost use Rattle.slice_group_by.specs.Split.{split};
 
 use slice_group_by::{End, GroupBy, LinearGroup, LinearGroupBy, LinearStrGroupMut, walk};
 
 /// The first group, the last, and the next from the front. `walk` wants as many places for answers as there are calls.
-pub fn three_outer_groups(slice: &[i32]) -> [Option<&[i32]>; 3] {
+pub fn three_outer_groups(slice: &[i32]) -> [Option<&[i32]>; 3]
+    ensures { map (option_map (λ group. group.now)) result ≡ pops (split int_eq slice.now) (Front ∷ Back ∷ Front ∷ []) }
+{
     let mut answers: [Option<&[i32]>; 3] = [None; 3];
     let ends = [End::Front, End::Back, End::Front];
     walk(&mut LinearGroup::new(slice), &ends, &mut answers);

@@ -29,7 +29,8 @@ pub fn deduped_len(xs: &[u32]) -> usize
 
 /// How many groups the slice has, and how many chunks of equal elements the standard library finds in it: as many.
 pub fn groups_and_chunks(xs: &[u32]) -> (usize, usize)
-    ensures { result.0 ≡ result.1 }
+    ensures groups { result.0 ≡ length (split nat_eq xs.now) }
+    ensures chunks { result.1 ≡ length (split nat_eq xs.now) }
 {
     let groups = LinearGroup::new(xs);
     let chunks = xs.chunk_by(|a, b| a == b);

@@ -1,9 +1,12 @@
 //! Searches that are lent their comparator or key function, which counts its calls in a variable of the caller's.
-ghost use Rattle.std.specs.Prelude.{◌+◌, ◌*◌, ◌≤◌};
+ghost use Rattle.std.specs.Prelude.{◌+◌, ◌*◌, ◌≤◌, map};
+ghost use Rattle.std.specs.Ordering.{nat_cmp};
+ghost use Rattle.slice_group_by.specs.Search.{FindsIn, NeverDescends};
 ghost use Rattle.slice_group_by.specs.Searching.{digits, place_of};
+ghost use Rattle.example_counts.specs.Keys.{key};
 
 use crate::joins::Entry;
-use slice_group_by::laws::{comparisons_count, key_calls_count};
+use slice_group_by::laws::{always_computes, comparisons_count, key_calls_count};
 use slice_group_by::{exponential_search_by_key_ref, exponential_search_by_ref};
 
 /// A search, and how many questions it asked: few, where the place is near the beginning.
@@ -20,9 +23,11 @@ pub fn questions_of_search(xs: &[u32], elem: u32) -> (Result<usize, usize>, usiz
     (found, count)
 }
 
-/// The same by a key: how often the key function is called.
+/// The same by a key, of rows that ascend by it: how often the key function is called.
 pub fn keys_of_search(rows: &[Entry], sought: u32) -> (Result<usize, usize>, usize)
-    ensures { result.1 ≤ 2 * digits (place_of result.0 + 1) + 1 }
+    ensures found { NeverDescends nat_cmp (map key rows.now)
+        → FindsIn (λ row. nat_cmp (key row) sought) rows.now result.0 }
+    ensures keys { result.1 ≤ 2 * digits (place_of result.0 + 1) + 1 }
 {
     let mut count = 0usize;
     let mut key = |row: &Entry| {
@@ -30,6 +35,7 @@ pub fn keys_of_search(rows: &[Entry], sought: u32) -> (Result<usize, usize>, usi
         row.0
     };
     key_calls_count(&key);
+    always_computes(&key);
     let found = exponential_search_by_key_ref(rows, &sought, &mut key);
     (found, count)
 }

@@ -1,6 +1,7 @@
 //! Groups in loops and through adapters of iterators: `count`, `rev`, `map`, `nth`, a `for`, and how many questions were asked.
-ghost use Rattle.std.specs.Prelude.{◌≡◌, ◌-◌, [], length, map, fold, max, slice_get, nat_eq, nat_lt};
+ghost use Rattle.std.specs.Prelude.{◌≡◌, ◌-◌, [], length, map, option_map, fold, max, slice_get, nat_eq, nat_lt};
 ghost use Rattle.slice_group_by.specs.Gives.{groups_of};
+ghost use Rattle.slice_group_by.specs.Queue.{pops};
 ghost use Rattle.slice_group_by.specs.Split.{split};
 
 use slice_group_by::laws::{each_pair_asked_once, equality_judges, sees_pieces};
@@ -55,14 +56,15 @@ pub fn nth_length<T: PartialEq>(xs: &[T], k: usize) -> Option<usize>
     groups.map(|group| group.len()).nth(k)
 }
 
-/// Any list of calls until nothing remains asks once less than there are elements.
+/// Any list of calls answers as a queue of the groups, and one until nothing remains asks once less than there are elements.
 pub fn walk_through<'a, T: PartialEq>(
     xs: &'a [T],
     ends: &[End],
     out: &mut [Option<&'a [T]>],
 ) -> LinearGroup<'a, T>
     requires { length out.old ≡ length ends.now }
-    ensures { (groups_of result).remainder ≡ [] → result.judge.asked ≡ length xs.now - 1 }
+    ensures answers { map (option_map (λ group. group.now)) out.new ≡ pops (split T.eq xs.now) ends.now }
+    ensures asked { (groups_of result).remainder ≡ [] → result.judge.asked ≡ length xs.now - 1 }
 {
     let mut groups = LinearGroup::new(xs);
     each_pair_asked_once(&groups);

@@ -5,6 +5,7 @@ use example_joins::alone::count_alone;
 use example_joins::kinds::{absent, common_groups, present};
 use example_joins::matches::count_matches;
 use example_joins::names::{Person, Visit, count_visits};
+use example_joins::parts::{count_parts, count_parts_by};
 use example_joins::sets::{difference, intersection, union, union_of_three};
 use example_joins::visits::visits_of_each;
 use std::alloc::{AllocError, Global};
@@ -112,5 +113,33 @@ fn of_sets(rt: HostRuntime) {
             union_of_three(alloc, &left, &right, &[0, 3, 9]),
             &[0, 1, 2, 3, 4, 5, 6, 9]
         )
+    );
+}
+
+#[test]
+fn of_empty_sides(rt: HostRuntime) {
+    let alloc = rt.alloc();
+    assert!(rt; are(union(alloc, &[], &[]), &[]) && are(union(alloc, &[], &[7]), &[7]));
+    assert!(rt;
+        are(union(alloc, &[7], &[]), &[7]) && are(union_of_three(alloc, &[], &[], &[]), &[])
+    );
+    assert!(rt; are(union_of_three(alloc, &[], &[], &[7]), &[7]));
+    assert!(rt;
+        are(intersection(alloc, &[], &[7]), &[]) && are(intersection(alloc, &[7], &[]), &[])
+    );
+    assert!(rt; are(difference(alloc, &[], &[7]), &[]) && are(difference(alloc, &[7], &[]), &[7]));
+    assert!(rt; are(absent(alloc, &[], &[7]), &[]) && are(absent(alloc, &[7], &[]), &[&7]));
+    assert!(rt; are(present(alloc, &[], &[7]), &[]) && are(present(alloc, &[7], &[]), &[]));
+    assert!(rt;
+        are(common_groups(alloc, &[], &[7]), &[]) && are(common_groups(alloc, &[7], &[]), &[])
+    );
+}
+
+#[test]
+fn of_parts(rt: HostRuntime) {
+    assert_eq!(rt; count_parts(&[1, 1, 3, 4], &[2, 3]), 4);
+    assert_eq!(rt;
+        count_parts_by(&[1, 1, 3, 4], &[2, 3], |x: &u32, y: &u32| x.cmp(y)),
+        4
     );
 }

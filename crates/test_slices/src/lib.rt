@@ -6,8 +6,6 @@ mod aliases;
 #[cfg(test)]
 mod alike;
 #[cfg(test)]
-mod bounds;
-#[cfg(test)]
 mod by_name;
 #[cfg(test)]
 mod families;

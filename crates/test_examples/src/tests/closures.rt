@@ -64,4 +64,7 @@ fn users_over_tests(rt: HostRuntime) {
     assert!(rt; matches!(out[0], Some([1, 2])));
     assert_eq!(rt; counted(&numbers, &[End::Back], &mut out), 2);
     assert!(rt; matches!(out[0], Some([2, 3])));
+    let numbers: &[u32] = &[5, 5, 2, 9];
+    let mut out: [Option<&[u32]>; 4] = [None; 4];
+    assert_eq!(rt; counted(&numbers, &[End::Back; 4], &mut out), 3);
 }

@@ -19,4 +19,5 @@ mod queues;
 mod restricted;
 mod texts;
 mod totals;
+mod words;
 mod writers;
