@@ -3,3 +3,6 @@ use Rattle.example_counts.proofs.conditions.three_outer_groups.Goals as goal
 
 pub walk-requires-clause-len : goal.walk-requires-clause-len
 walk-requires-clause-len c = search rules
+
+pub returns : goal.returns
+returns c = search rules
