@@ -3,6 +3,9 @@ use super::*;
 
 const GROUPED: [u32; 12] = [2, 2, 2, 4, 4, 6, 6, 6, 6, 6, 8, 10];
 
+// Each two neighbouring groups have one key, so that a walk by keys joins them.
+const OF_TWO_EACH: [u32; 12] = [2, 2, 2, 3, 3, 6, 6, 6, 6, 6, 7, 8];
+
 // Halving and galloping end their groups at different places of it.
 const NOT_GROUPED: [u32; 12] = [2, 2, 4, 2, 2, 2, 4, 4, 2, 4, 2, 2];
 
@@ -19,10 +22,20 @@ macro_rules! all_give {
     };
 }
 
+// Whether each function for writing gives this number of these elements, and leaves them as they are.
+macro_rules! all_leave {
+    ($wanted:expr, $xs:expr, $($function:ident),*) => {
+        true $(&& {
+            let mut elems = $xs;
+            $function(&mut elems) == $wanted && elems == $xs
+        })*
+    };
+}
+
 #[test]
 fn from_the_front(rt: HostRuntime) {
     let wanted = sum_of(&[3, 2, 5, 1, 1]);
-    let mut xs = GROUPED;
+    let xs = GROUPED;
     assert!(rt;
         all_give!(
             wanted,
@@ -51,38 +64,31 @@ fn from_the_front(rt: HostRuntime) {
         )
     );
     assert!(rt;
-        all_give!(
+        all_leave!(
             wanted,
-            &mut xs,
+            xs,
             linear_mut_front,
             linear_by_mut_front,
             linear_by_key_mut_front
         )
     );
     assert!(rt;
-        all_give!(
+        all_leave!(
             wanted,
-            &mut xs,
+            xs,
             binary_mut_front,
             binary_by_mut_front,
             binary_by_key_mut_front
         )
     );
-    assert!(rt;
-        all_give!(
-            wanted,
-            &mut xs,
-            exponential_mut_front,
-            exponential_by_mut_front
-        )
-    );
-    assert!(rt; exponential_by_key_mut_front(&mut xs) == wanted);
+    assert!(rt; all_leave!(wanted, xs, exponential_mut_front, exponential_by_mut_front));
+    assert!(rt; all_leave!(wanted, xs, exponential_by_key_mut_front));
 }
 
 #[test]
 fn from_the_back(rt: HostRuntime) {
     let wanted = sum_of(&[1, 1, 5, 2, 3]);
-    let mut xs = GROUPED;
+    let xs = GROUPED;
     assert!(rt; all_give!(wanted, &xs, linear_back, linear_by_back, linear_by_key_back));
     assert!(rt; all_give!(wanted, &xs, binary_back, binary_by_back, binary_by_key_back));
     assert!(rt;
@@ -95,45 +101,38 @@ fn from_the_back(rt: HostRuntime) {
         )
     );
     assert!(rt;
-        all_give!(
+        all_leave!(
             wanted,
-            &mut xs,
+            xs,
             linear_mut_back,
             linear_by_mut_back,
             linear_by_key_mut_back
         )
     );
     assert!(rt;
-        all_give!(
+        all_leave!(
             wanted,
-            &mut xs,
+            xs,
             binary_mut_back,
             binary_by_mut_back,
             binary_by_key_mut_back
         )
     );
-    assert!(rt;
-        all_give!(
-            wanted,
-            &mut xs,
-            exponential_mut_back,
-            exponential_by_mut_back
-        )
-    );
-    assert!(rt; exponential_by_key_mut_back(&mut xs) == wanted);
+    assert!(rt; all_leave!(wanted, xs, exponential_mut_back, exponential_by_mut_back));
+    assert!(rt; all_leave!(wanted, xs, exponential_by_key_mut_back));
 }
 
 // Each family as its name says: on a slice that is not grouped they differ, and the functions of each agree.
 #[test]
 fn by_their_families(rt: HostRuntime) {
-    let mut xs = NOT_GROUPED;
+    let xs = NOT_GROUPED;
     let (halved, galloped) = (binary_front(&xs), exponential_front(&xs));
     assert!(rt; halved != galloped);
     assert!(rt; all_give!(halved, &xs, binary_by_front, binary_by_key_front));
     assert!(rt;
-        all_give!(
+        all_leave!(
             halved,
-            &mut xs,
+            xs,
             binary_mut_front,
             binary_by_mut_front,
             binary_by_key_mut_front
@@ -148,42 +147,35 @@ fn by_their_families(rt: HostRuntime) {
         )
     );
     assert!(rt;
-        all_give!(
+        all_leave!(
             galloped,
-            &mut xs,
+            xs,
             exponential_mut_front,
             exponential_by_mut_front
         )
     );
-    assert!(rt; exponential_by_key_mut_front(&mut xs) == galloped);
+    assert!(rt; all_leave!(galloped, xs, exponential_by_key_mut_front));
     let (halved, galloped) = (binary_back(&xs), exponential_back(&xs));
     assert!(rt; halved != galloped);
     assert!(rt; all_give!(halved, &xs, binary_by_back, binary_by_key_back));
     assert!(rt;
-        all_give!(
+        all_leave!(
             halved,
-            &mut xs,
+            xs,
             binary_mut_back,
             binary_by_mut_back,
             binary_by_key_mut_back
         )
     );
     assert!(rt; all_give!(galloped, &xs, exponential_by_back, exponential_by_key_back));
-    assert!(rt;
-        all_give!(
-            galloped,
-            &mut xs,
-            exponential_mut_back,
-            exponential_by_mut_back
-        )
-    );
-    assert!(rt; exponential_by_key_mut_back(&mut xs) == galloped);
+    assert!(rt; all_leave!(galloped, xs, exponential_mut_back, exponential_by_mut_back));
+    assert!(rt; all_leave!(galloped, xs, exponential_by_key_mut_back));
 }
 
 // Elements that differ in their lowest bit alone have one key.
 #[test]
 fn by_their_keys(rt: HostRuntime) {
-    let mut xs = [2, 3, 2, 2_147_483_650, 2_147_483_651, 6, 7, 6, 6, 7, 8, 10];
+    let xs = [2, 3, 2, 2_147_483_650, 2_147_483_651, 6, 7, 6, 6, 7, 8, 10];
     let wanted = sum_of(&[3, 2, 5, 1, 1]);
     assert!(rt;
         all_give!(
@@ -195,9 +187,9 @@ fn by_their_keys(rt: HostRuntime) {
         )
     );
     assert!(rt;
-        all_give!(
+        all_leave!(
             wanted,
-            &mut xs,
+            xs,
             linear_by_key_mut_front,
             binary_by_key_mut_front,
             exponential_by_key_mut_front
@@ -214,14 +206,73 @@ fn by_their_keys(rt: HostRuntime) {
         )
     );
     assert!(rt;
-        all_give!(
+        all_leave!(
             wanted,
-            &mut xs,
+            xs,
             linear_by_key_mut_back,
             binary_by_key_mut_back,
             exponential_by_key_mut_back
         )
     );
+}
+
+// Elements of one key that differ are two groups.
+#[test]
+fn by_their_elements(rt: HostRuntime) {
+    let xs = OF_TWO_EACH;
+    let wanted = sum_of(&[3, 2, 5, 1, 1]);
+    assert!(rt;
+        all_give!(
+            wanted,
+            &xs,
+            linear_front,
+            linear_by_front,
+            binary_front,
+            binary_by_front,
+            exponential_front,
+            exponential_by_front,
+            number_u32_front
+        )
+    );
+    assert!(rt;
+        all_leave!(
+            wanted,
+            xs,
+            linear_mut_front,
+            linear_by_mut_front,
+            binary_mut_front,
+            binary_by_mut_front,
+            exponential_mut_front,
+            exponential_by_mut_front
+        )
+    );
+    let wanted = sum_of(&[1, 1, 5, 2, 3]);
+    assert!(rt;
+        all_give!(
+            wanted,
+            &xs,
+            linear_back,
+            linear_by_back,
+            binary_back,
+            binary_by_back,
+            exponential_back,
+            exponential_by_back,
+            number_u32_back
+        )
+    );
+    assert!(rt;
+        all_leave!(
+            wanted,
+            xs,
+            linear_mut_back,
+            linear_by_mut_back,
+            binary_mut_back,
+            binary_by_mut_back,
+            exponential_mut_back,
+            exponential_by_mut_back
+        )
+    );
+    assert!(rt; linear_both_ends(&xs) == sum_of(&[3, 1, 2, 1, 5]));
 }
 
 #[test]
@@ -254,16 +305,19 @@ fn of_numbers(rt: HostRuntime) {
 
 #[test]
 fn of_texts(rt: HostRuntime) {
-    let mut bytes = *b"aaab\xC3\xA9\xC3\xA9";
+    let text = *b"aaab\xC3\xA9\xC3\xA9";
+    let mut bytes = text;
     if std::str::from_utf8(&bytes).is_ok() {
         assert!(rt;
             text_front(&bytes) == sum_of(&[3, 1, 4]) && text_back(&bytes) == sum_of(&[4, 1, 3])
         );
         assert!(rt; text_both_ends(&bytes) == sum_of(&[3, 4, 1]));
         assert!(rt; text_mut_front(&mut bytes) == sum_of(&[3, 1, 4]));
+        assert_eq!(rt; bytes, text);
     }
     if std::str::from_utf8(&bytes).is_ok() {
         assert!(rt; text_mut_back(&mut bytes) == sum_of(&[4, 1, 3]));
+        assert_eq!(rt; bytes, text);
     }
 }
 
@@ -272,6 +326,24 @@ fn of_searches_and_joins(rt: HostRuntime) {
     assert!(rt; searches(&[1, 3, 5, 7, 9, 11, 13], &[13, 1, 8, 20]) == sum_of(&[6, 0, 4, 7]));
     assert!(rt; merge_join(&[1, 1, 2, 4], &[1, 2, 2, 3]) == sum_of(&[2, 1, 1, 2]));
     assert!(rt; merge_join_by(&[1, 1, 2, 4], &[1, 2, 2, 3]) == sum_of(&[2, 1, 1, 2]));
+    assert!(rt; merge_join(&[2, 2, 3], &[2, 3, 3]) == sum_of(&[2, 1, 1, 2]));
+    assert!(rt; merge_join_by(&[2, 2, 3], &[2, 3, 3]) == sum_of(&[2, 1, 1, 2]));
+}
+
+// Elements that are further apart than half of all numbers: their difference has the sign of none.
+#[test]
+fn of_elements_far_apart(rt: HostRuntime) {
+    let left = [0, 5, 2_147_483_649, 2_147_483_649, u32::MAX];
+    let right = [2_147_483_649, 4_000_000_000, u32::MAX, u32::MAX];
+    assert!(rt; merge_join(&left, &right) == sum_of(&[2, 1, 1, 2]));
+    assert!(rt; merge_join_by(&left, &right) == sum_of(&[2, 1, 1, 2]));
+    assert!(rt; merge_join(&right, &left) == sum_of(&[1, 2, 2, 1]));
+    assert!(rt; merge_join_by(&right, &left) == sum_of(&[1, 2, 2, 1]));
+    assert!(rt;
+        merge_join(&[0], &[2_147_483_649]) == 0 && merge_join_by(&[0], &[2_147_483_649]) == 0
+    );
+    let keys = [0, 2_147_483_648, 2_147_483_649, u32::MAX];
+    assert!(rt; searches(&[0, 5, 2_147_483_649, u32::MAX], &keys) == sum_of(&[0, 2, 2, 3]));
 }
 
 #[test]

@@ -18,6 +18,8 @@ mod judges;
 mod lines;
 mod search;
 mod slices;
+#[cfg(test)]
+mod tests;
 mod texts;
 
 use crate::lines::{Tally, replay};

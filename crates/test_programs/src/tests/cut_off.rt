@@ -5,13 +5,38 @@ use crate::tests::programs::{
 };
 use crate::tests::streams::Slowly;
 use std::alloc::Global;
-use std::io::{BufReader, BufWriter};
+use std::io::{BufRead, BufReader, BufWriter, Write};
 use std::test::Fail;
 
-// Whether these are one line that begins with this name.
+// Whether these are one line that begins with this name and a colon.
 fn is_line_of(name: &str, said: &[u8]) -> bool {
     let ends = said.iter().filter(|byte| **byte == b'\n').count();
-    said.starts_with(name.as_bytes()) && ends == 1 && said.ends_with(b"\n")
+    let is_named = said.starts_with(name.as_bytes())
+        && said
+            .get(name.len()..)
+            .is_some_and(|rest| rest.starts_with(b": "));
+    is_named && ends == 1 && said.ends_with(b"\n")
+}
+
+#[test]
+fn other_lines_are_refused(rt: HostRuntime) {
+    assert!(rt; is_line_of("coder", b"coder: broken pipe\n"));
+    for wrong in [
+        b"another: broken pipe\n".as_slice(),
+        b"code: broken pipe\n",
+        b"coders: broken pipe\n",
+        b"Coder: broken pipe\n",
+        b" coder: broken pipe\n",
+        b"broken pipe\n",
+        b"coder\n",
+        b"coder: broken pipe",
+        b"coder: broken pipe\n\n",
+        b"coder: broken pipe\ncoder: broken pipe\n",
+        b"\n",
+        b"",
+    ] {
+        assert!(rt; !is_line_of("coder", wrong));
+    }
 }
 
 // Whether, with room for less than all, behind a buffer too, the first bytes are written, the status is 1, and one line complains.
@@ -68,6 +93,33 @@ fn fails_with_less<P: Program>(alloc: Global, words: &[&str], input: &[u8]) -> R
             && fails_with_less_room::<P>(alloc, &["--help"], b"")?
             && fails_with_less_input::<P>(alloc, words, input)?,
     )
+}
+
+// Writes its input again, takes what fails for done, and says nothing.
+struct Careless;
+
+impl Program for Careless {
+    const NAME: &'static str = "careless";
+
+    fn run<R: BufRead + Drop, W: Write, E: Write>(
+        alloc: Global,
+        _words: &[String],
+        mut input: R,
+        out: &mut W,
+        _complaints: &mut E,
+    ) -> u8 {
+        let mut bytes = Vec::new(alloc);
+        let _ = input.read_to_end(&mut bytes);
+        let _ = out.write_all(&bytes);
+        0
+    }
+}
+
+#[test]
+fn careless_programs_are_refused(rt: HostRuntime) -> Result<(), Fail> {
+    assert!(rt; !fails_with_less_room::<Careless>(rt.alloc(), &[], b"a\n")?);
+    assert!(rt; !fails_with_less_input::<Careless>(rt.alloc(), &[], b"a\n")?);
+    Ok(())
 }
 
 #[test]

@@ -17,6 +17,7 @@ macro_rules! holds_of_all {
 }
 
 mod arguments;
+mod causes;
 mod cut_off;
 mod failures;
 mod grouped_reports;

@@ -210,55 +210,6 @@ fn endless_inputs_end_with_the_output(rt: HostRuntime) -> Result<(), Fail> {
     Ok(())
 }
 
-// Whether a read that fails by the one error ends the run, and says what the other does, which is the same.
-fn says<P: Program>(
-    alloc: Global,
-    words: &[&str],
-    error: Error,
-    same: Error,
-) -> Result<bool, Fail> {
-    let failing = Once { error: Some(error) };
-    let ran = ran_over::<P, _>(alloc, words, BufReader::with_capacity(alloc, 1, failing)?)?;
-    let said = format!(in alloc; "{}: {same}\n", P::NAME)?;
-    Ok(ran.all() == (1, b"".as_slice(), said.as_bytes()))
-}
-
-// Whether each error of the system but an interruption, and each kind of others, is said.
-fn says_errors<P: Program>(alloc: Global, words: &[&str], _input: &[u8]) -> Result<bool, Fail> {
-    let mut are_said = true;
-    for code in 1..134 {
-        if code != INTERRUPTED {
-            let (error, same) = (
-                Error::from_raw_os_error(code),
-                Error::from_raw_os_error(code),
-            );
-            are_said &= says::<P>(alloc, words, error, same)?;
-        }
-    }
-    for kind in [
-        ErrorKind::NotFound,
-        ErrorKind::PermissionDenied,
-        ErrorKind::BrokenPipe,
-        ErrorKind::WouldBlock,
-        ErrorKind::InvalidInput,
-        ErrorKind::InvalidData,
-        ErrorKind::TimedOut,
-        ErrorKind::WriteZero,
-        ErrorKind::UnexpectedEof,
-        ErrorKind::OutOfMemory,
-        ErrorKind::Other,
-    ] {
-        are_said &= says::<P>(alloc, words, Error::from(kind), Error::from(kind))?;
-    }
-    Ok(are_said)
-}
-
-#[test]
-fn errors_are_said(rt: HostRuntime) -> Result<(), Fail> {
-    assert_eq!(rt; holds_of_all!(says_errors, rt.alloc()), [true; 8]);
-    Ok(())
-}
-
 // Whether a line that is left out is said before the read behind it fails.
 fn says_line_before<P: Program>(alloc: Global, words: &[&str]) -> Result<bool, Fail> {
     let slowly = Slowly {
