@@ -10,7 +10,8 @@ use slice_group_by::{End, GroupBy, LinearGroup, LinearGroupBy, LinearStrGroupMut
 
 /// The first group, the last, and the next from the front. `walk` wants as many places for answers as there are calls.
 pub fn three_outer_groups(slice: &[i32]) -> [Option<&[i32]>; 3]
-    ensures { map (option_map (λ group. group.now)) result ≡ pops (split int_eq slice.now) (Front ∷ Back ∷ Front ∷ []) }
+    ensures { map (option_map (λ group. group.now)) result
+        ≡ pops (split int_eq slice.now) (Front ∷ Back ∷ Front ∷ []) }
 {
     let mut answers: [Option<&[i32]>; 3] = [None; 3];
     let ends = [End::Front, End::Back, End::Front];

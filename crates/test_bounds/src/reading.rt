@@ -14,7 +14,8 @@ pub fn linear_group_by<'a, T, P: FnMut(&T, &T) -> bool>(
     xs: &'a &[T],
     p: P,
 ) -> LinearGroupBy<'a, T, P>
-    requires { IsCallableBy AreNeighbours (by_predicate P.FnMut) (record { remainder = xs.now.now; judge = predicate_judge p }) }
+    requires { IsCallableBy AreNeighbours (by_predicate P.FnMut)
+        (record { remainder = xs.now.now; judge = predicate_judge p }) }
 {
     xs.linear_group_by(p)
 }
@@ -23,7 +24,8 @@ pub fn binary_group_by<'a, T, P: FnMut(&T, &T) -> bool>(
     xs: &'a &[T],
     p: P,
 ) -> BinaryGroupBy<'a, T, P>
-    requires { IsCallableBy AreApart (by_predicate P.FnMut) (record { remainder = xs.now.now; judge = predicate_judge p }) }
+    requires { IsCallableBy AreApart (by_predicate P.FnMut)
+        (record { remainder = xs.now.now; judge = predicate_judge p }) }
 {
     xs.binary_group_by(p)
 }
@@ -32,7 +34,8 @@ pub fn exponential_group_by<'a, T, P: FnMut(&T, &T) -> bool>(
     xs: &'a &[T],
     p: P,
 ) -> ExponentialGroupBy<'a, T, P>
-    requires { IsCallableBy AreApart (by_predicate P.FnMut) (record { remainder = xs.now.now; judge = predicate_judge p }) }
+    requires { IsCallableBy AreApart (by_predicate P.FnMut)
+        (record { remainder = xs.now.now; judge = predicate_judge p }) }
 {
     xs.exponential_group_by(p)
 }
@@ -41,7 +44,8 @@ pub fn linear_group_by_key<'a, T, F: FnMut(&T) -> K, K: PartialEq + Drop>(
     xs: &'a &[T],
     f: F,
 ) -> LinearGroupByKey<'a, T, F, K>
-    requires { IsCallableBy AreNeighbours (by_key F.FnMut K.eq) (record { remainder = xs.now.now; judge = key_judge f }) }
+    requires { IsCallableBy AreNeighbours (by_key F.FnMut K.eq)
+        (record { remainder = xs.now.now; judge = key_judge f }) }
 {
     xs.linear_group_by_key::<F, K>(f)
 }

@@ -18,7 +18,8 @@ pub fn linear_group_by_mut<'a, T, P: FnMut(&T, &T) -> bool>(
     xs: &'a mut &mut [T],
     p: P,
 ) -> LinearGroupByMut<'a, T, P>
-    requires { IsCallableBy AreNeighbours (by_predicate P.FnMut) (record { remainder = xs.old.now; judge = predicate_judge p }) }
+    requires { IsCallableBy AreNeighbours (by_predicate P.FnMut)
+        (record { remainder = xs.old.now; judge = predicate_judge p }) }
 {
     xs.linear_group_by_mut(p)
 }
@@ -27,7 +28,8 @@ pub fn binary_group_by_mut<'a, T, P: FnMut(&T, &T) -> bool>(
     xs: &'a mut &mut [T],
     p: P,
 ) -> BinaryGroupByMut<'a, T, P>
-    requires { IsCallableBy AreApart (by_predicate P.FnMut) (record { remainder = xs.old.now; judge = predicate_judge p }) }
+    requires { IsCallableBy AreApart (by_predicate P.FnMut)
+        (record { remainder = xs.old.now; judge = predicate_judge p }) }
 {
     xs.binary_group_by_mut(p)
 }
@@ -36,7 +38,8 @@ pub fn exponential_group_by_mut<'a, T, P: FnMut(&T, &T) -> bool>(
     xs: &'a mut &mut [T],
     p: P,
 ) -> ExponentialGroupByMut<'a, T, P>
-    requires { IsCallableBy AreApart (by_predicate P.FnMut) (record { remainder = xs.old.now; judge = predicate_judge p }) }
+    requires { IsCallableBy AreApart (by_predicate P.FnMut)
+        (record { remainder = xs.old.now; judge = predicate_judge p }) }
 {
     xs.exponential_group_by_mut(p)
 }
@@ -45,7 +48,8 @@ pub fn linear_group_by_key_mut<'a, T, F: FnMut(&T) -> K, K: PartialEq + Drop>(
     xs: &'a mut &mut [T],
     f: F,
 ) -> LinearGroupByKeyMut<'a, T, F, K>
-    requires { IsCallableBy AreNeighbours (by_key F.FnMut K.eq) (record { remainder = xs.old.now; judge = key_judge f }) }
+    requires { IsCallableBy AreNeighbours (by_key F.FnMut K.eq)
+        (record { remainder = xs.old.now; judge = key_judge f }) }
 {
     xs.linear_group_by_key_mut::<F, K>(f)
 }
