@@ -115,3 +115,31 @@ fn is_copied<T: Copy + Eq + fmt::Debug>(_value: &T) {}
 pub fn ends(end: &End) {
     is_copied(end);
 }
+
+// What is given lives as long as the input, and not as the iterator.
+
+pub fn first_group<'a, T: PartialEq>(mut groups: LinearGroup<'a, T>) -> Option<&'a [T]> {
+    groups.next()
+}
+
+pub fn what_remains<'a, T: PartialEq>(groups: LinearGroup<'a, T>) -> &'a [T] {
+    groups.remainder()
+}
+
+pub fn first_group_for_writing<'a, T: PartialEq>(
+    mut groups: LinearGroupMut<'a, T>,
+) -> Option<&'a mut [T]> {
+    groups.next()
+}
+
+pub fn what_remains_for_writing<'a, T: PartialEq>(groups: LinearGroupMut<'a, T>) -> &'a mut [T] {
+    groups.into_remainder()
+}
+
+pub fn last_group_of_a_text<'a>(mut groups: LinearStrGroup<'a>) -> Option<&'a str> {
+    groups.next_back()
+}
+
+pub fn what_remains_of_a_text<'a>(groups: LinearStrGroup<'a>) -> &'a str {
+    groups.as_str()
+}

@@ -31,6 +31,12 @@ pub fn by<'a, A, B, F: FnMut(&A, &B) -> Ordering>(
 
 fn stays_at_its_end<I: FusedIterator>(_join: &I) {}
 
+// What is given lives as long as the sides, and not as the join.
+
+fn gives_pairs<'a, A: 'a, B: 'a, I: Iterator<Item = (&'a [A], &'a [B])>>(_join: &I) {}
+
+fn gives_parts<'a, A: 'a, B: 'a, I: Iterator<Item = EitherOrBoth<&'a [A], &'a [B]>>>(_join: &I) {}
+
 pub fn iterators<
     'a,
     A,
@@ -41,7 +47,9 @@ pub fn iterators<
     K: Ord + Drop,
 >(by_key: &MergeJoin<'a, A, B, FA, FB, K>, by: &MergeJoinBy<'a, A, B, F>) {
     stays_at_its_end(by_key);
+    gives_pairs::<A, B, _>(by_key);
     stays_at_its_end(by);
+    gives_parts::<A, B, _>(by);
 }
 
 // Values that may be let go.
