@@ -324,6 +324,9 @@ fn of_texts(rt: HostRuntime) {
 #[test]
 fn of_searches_and_joins(rt: HostRuntime) {
     assert!(rt; searches(&[1, 3, 5, 7, 9, 11, 13], &[13, 1, 8, 20]) == sum_of(&[6, 0, 4, 7]));
+    assert!(rt;
+        searches(&[1, 3, 5], &[5, 5, 3, 3, 5, 0, 0, 6, 6]) == sum_of(&[2, 2, 1, 1, 2, 0, 0, 3, 3])
+    );
     assert!(rt; merge_join(&[1, 1, 2, 4], &[1, 2, 2, 3]) == sum_of(&[2, 1, 1, 2]));
     assert!(rt; merge_join_by(&[1, 1, 2, 4], &[1, 2, 2, 3]) == sum_of(&[2, 1, 1, 2]));
     assert!(rt; merge_join(&[2, 2, 3], &[2, 3, 3]) == sum_of(&[2, 1, 1, 2]));

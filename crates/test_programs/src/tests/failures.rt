@@ -118,3 +118,18 @@ fn complaints_that_cannot_be_written(rt: HostRuntime) -> Result<(), Fail> {
     assert_eq!(rt; statuses, [2; 6]);
     Ok(())
 }
+
+// No memory holds so many copies: the first of them are refused.
+#[test]
+fn a_long_run_is_never_held(rt: HostRuntime) -> Result<(), Fail> {
+    let words = owned(rt.alloc(), &["decode"])?;
+    let input = b"18446744073709551615 97\n".as_slice();
+    let mut complaints = Vec::new(rt.alloc());
+    let status = RunLengthCoder::run(rt.alloc(), &words, input, &mut Closed, &mut complaints);
+    assert_eq!(rt; status, 1);
+    assert_eq!(rt;
+        complaints.as_slice(),
+        b"run_length_coder: broken pipe\n".as_slice()
+    );
+    Ok(())
+}

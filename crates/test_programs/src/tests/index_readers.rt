@@ -85,3 +85,21 @@ fn counts_its_comparisons(rt: HostRuntime) {
         }
     }
 }
+
+// (were the index gone through for each query, this would take minutes)
+#[test]
+fn many_queries_over_a_long_index(rt: HostRuntime) -> Result<(), Fail> {
+    let mut input = Vec::new(rt.alloc());
+    for key in 0..400_000 {
+        writeln!(&mut input, "{key},7")?;
+    }
+    input.extend_from_slice(b"--\n")?;
+    for _ in 0..400_000 {
+        input.extend_from_slice(b"399999\n")?;
+    }
+    let ran = ran::<IndexReader>(rt.alloc(), &[], &input)?;
+    assert_eq!(rt; ran.status, 0);
+    assert!(rt; ran.out.ends_with(b"399999: 7\n400000 queries\n"));
+    assert_eq!(rt; ran.out.len(), 4_000_015);
+    Ok(())
+}

@@ -6,6 +6,7 @@ use crate::tests::programs::{
     ran, ran_over,
 };
 use std::alloc::Global;
+use std::cell::Cell;
 use std::io;
 use std::io::{BufReader, Error, ErrorKind, Read};
 use std::test::Fail;
@@ -251,5 +252,39 @@ fn failed_reads_of_many_lines_are_said(rt: HostRuntime) -> Result<(), Fail> {
     let ran = ran_over::<UniqCount, _>(rt.alloc(), &[], input)?;
     let said = b"uniq_count: no more can be read\n".as_slice();
     assert_eq!(rt; ran.all(), (1, b"".as_slice(), said));
+    Ok(())
+}
+
+// Counts its reads.
+#[derive(Drop)]
+struct Counting<'a> {
+    bytes: &'a [u8],
+    reads: &'a Cell<u32>,
+}
+
+impl Read for Counting<'_> {
+    fn read(&mut self, buffer: &mut [u8]) -> io::Result<usize> {
+        self.reads.set(self.reads.get().wrapping_add(1));
+        self.bytes.read(buffer)
+    }
+}
+
+// How many reads a run makes over the bytes, behind a buffer of one byte.
+fn reads_of<P: Program>(alloc: Global, bytes: &[u8]) -> Result<u32, Fail> {
+    let reads = Cell::new(0);
+    let counting = Counting {
+        bytes,
+        reads: &reads,
+    };
+    let reader = BufReader::with_capacity(alloc, 1, counting)?;
+    let _ran = ran_over::<P, _>(alloc, &[], reader)?;
+    Ok(reads.get())
+}
+
+#[test]
+fn whole_blocks_are_read(rt: HostRuntime) -> Result<(), Fail> {
+    let bytes = vec![in rt.alloc(); b'a'; 300_000]?;
+    assert!(rt; reads_of::<RunLengthCoder>(rt.alloc(), &bytes)? < 20);
+    assert!(rt; reads_of::<TokenCounter>(rt.alloc(), &bytes)? < 20);
     Ok(())
 }
