@@ -24,7 +24,8 @@ impl Cause {
     }
 }
 
-const INTERRUPTED: i32 = 4;
+/// The code by which the system says that a call was interrupted.
+pub const INTERRUPTED: i32 = 4;
 
 const INTERRUPTIONS: [Cause; 2] = [
     Cause::Code(INTERRUPTED),

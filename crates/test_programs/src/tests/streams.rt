@@ -1,6 +1,7 @@
 //! Inputs that come byte by byte, fail, are interrupted, or go on after their end.
 ghost use Rattle.std.specs.Prelude.{◌≤◌, length};
 
+use crate::tests::causes::INTERRUPTED;
 use crate::tests::programs::{
     GroupedReport, IndexReader, Program, RunLengthCoder, TableJoin, TokenCounter, UniqCount, owned,
     ran, ran_over,
@@ -150,9 +151,6 @@ fn ends<P: Program>(alloc: Global, words: &[&str], input: &[u8]) -> Result<bool,
     };
     is_the_same::<P, _>(alloc, words, input, goes_on)
 }
-
-// The code by which the system says so.
-const INTERRUPTED: i32 = 4;
 
 // Whether an interruption that the system itself reports is passed over.
 fn passes_over_signals<P: Program>(
