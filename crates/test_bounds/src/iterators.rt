@@ -1,10 +1,12 @@
-//! What the types are, over elements of any type.
+//! What the types are, over elements of any type, and lists of calls on any queue.
+ghost use Rattle.std.specs.Prelude.{◌≡◌, length};
+
 use slice_group_by::loans::{Ended, Loans};
 use slice_group_by::{
     BinaryGroupBy, BinaryGroupByMut, End, ExponentialGroupByKey, ExponentialGroupByKeyMut,
-    LinearGroup, LinearGroupBy, LinearGroupMut, LinearStrGroup, LinearStrGroupBy,
+    GroupQueue, LinearGroup, LinearGroupBy, LinearGroupMut, LinearStrGroup, LinearStrGroupBy,
     LinearStrGroupByKey, LinearStrGroupByKeyMut, LinearStrGroupByMut, LinearStrGroupMut, Offsets,
-    SliceQueue, SliceQueueMut, WithOffsets, with_offsets,
+    SliceQueue, SliceQueueMut, WithOffsets, walk, with_offsets,
 };
 use std::fmt;
 use std::iter::FusedIterator;
@@ -114,6 +116,13 @@ fn is_copied<T: Copy + Eq + fmt::Debug>(_value: &T) {}
 
 pub fn ends(end: &End) {
     is_copied(end);
+}
+
+pub fn calls<Q: GroupQueue>(queue: &mut Q, ends: &[End], out: &mut [Option<Q::Item>])
+    requires can { Q.can_pop queue.old }
+    requires len { length out.old ≡ length ends.now }
+{
+    walk(queue, ends, out);
 }
 
 // What is given lives as long as the input, and not as the iterator.
