@@ -1,5 +1,7 @@
 //! Closures that capture, that count and that are handed in, and keys that are owned.
 use slice_group_by::{GroupBy, LinearGroupBy, exponential_equal_range_by, exponential_search_by};
+use std::alloc::{AllocError, Global};
+use std::io;
 
 /// How many stretches there are in which neighbours differ by at most `gap`.
 pub fn stretches(slice: &[u32], gap: u32) -> usize {
@@ -65,4 +67,40 @@ pub fn find_page(index: &[Entry], word: &str) -> Option<u32> {
 /// All entries of the word in a sorted index.
 pub fn entries_of<'a>(index: &'a [Entry], word: &str) -> &'a [Entry] {
     exponential_equal_range_by(index, |entry| entry.word.as_str().cmp(word))
+}
+
+// Words and the pages that they stand on.
+fn index(alloc: Global) -> Result<Vec<Entry>, AllocError> {
+    let mut index = Vec::new(alloc);
+    for (word, page) in [("ant", 2), ("ant", 9), ("bee", 4)] {
+        index.push(Entry {
+            word: format!(in alloc; "{word}")?,
+            page,
+        })?;
+    }
+    Ok(index)
+}
+
+/// Prints what these give.
+pub fn print_all(rt: &(impl Print + AllocGlobal)) -> io::Result<()> {
+    let near = [1, 2, 4, 9, 9, 20, 3];
+    let counts = (
+        stretches(&near, 2),
+        questions(&near),
+        count_groups(&near, |a, b| a < b),
+        count_together(&near, &Within(5)),
+    );
+    let index = index(rt.alloc())?;
+    let found = (
+        find_page(&index, "bee"),
+        find_page(&index, "bat"),
+        find_page(&index, "cat"),
+    );
+    println!(rt;
+        "closures: {counts:?} {} {found:?} {}",
+        count_words(&index),
+        entries_of(&index, "ant")
+            .last()
+            .map_or(0, |entry| entry.page)
+    )
 }

@@ -1,5 +1,6 @@
 //! The examples of the README.
 use slice_group_by::{GroupBy, LinearGroupMut, StrGroupBy};
+use std::io;
 
 /// The last ascending run, and the first of the others.
 pub fn outer_runs<'a>(slice: &'a &[i32]) -> (Option<&'a [i32]>, Option<&'a [i32]>) {
@@ -22,4 +23,15 @@ pub fn between_ends<'a>(text: &'a &str) -> &'a str {
     runs.next();
     runs.next_back();
     runs.as_str() // of "aaaabbbbb饰饰cccc": "bbbbb饰饰"
+}
+
+/// Prints what these give.
+pub fn print_all(rt: &impl Print) -> io::Result<()> {
+    let mut ends = [1, 2, 1, 3, 3];
+    fill_ends(&mut ends);
+    println!(rt;
+        "first page: {:?} {ends:?} {}",
+        outer_runs(&[1, 2, 3, 2, 3].as_slice()),
+        between_ends(&"aaaabbbbb饰饰cccc")
+    )
 }

@@ -2,6 +2,7 @@
 use slice_group_by::{
     GroupBy, GroupByMut, LinearGroup, LinearGroupByMut, LinearStrGroup, StrGroupBy,
 };
+use std::io;
 
 /// How many runs there are in each: `new` takes a borrow of whatever holds the elements.
 pub fn runs_by_new(array: [u32; 4], vec: &Vec<u32>, string: &String) -> [usize; 3] {
@@ -29,4 +30,15 @@ pub fn turn_stretches(array: &mut [u32; 5], vec: &mut Vec<u32>) {
     for stretch in vec.linear_group_by_mut(|a, b| a < b) {
         stretch.reverse();
     }
+}
+
+/// Prints what these give.
+pub fn print_all(rt: &(impl Print + AllocGlobal)) -> io::Result<()> {
+    let mut vec = vec![in rt.alloc(); 7, 8, 7, 7]?;
+    let string = format!(in rt.alloc(); "ééb")?;
+    let mut array = [1, 2, 3, 2, 3];
+    let by_new = runs_by_new([7, 8, 7, 7], &vec, &string);
+    let by_methods = runs_by_methods([7, 8, 7, 7], &vec, &string);
+    turn_stretches(&mut array, &mut vec);
+    println!(rt; "inputs: {by_new:?} {by_methods:?} {array:?} {vec:?}")
 }

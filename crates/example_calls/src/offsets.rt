@@ -44,7 +44,7 @@ pub fn last_run(slice: &[u32]) -> Option<(usize, &[u32])> {
     with_offsets(LinearGroupBy::new(slice, |a, b| a == b)).next_back()
 }
 
-/// Prints what the functions of this module give, apart from `main`, which is as long as a check takes.
+/// Prints what these give.
 pub fn print_all(rt: &(impl Print + AllocGlobal)) -> io::Result<()> {
     let sessions = sessions(rt.alloc(), &[0, 60, 90, 1000, 1060, 5000, 5061, 7], 60)?;
     let words = words(rt.alloc(), "to be, or é not")?;

@@ -1,5 +1,6 @@
 //! What remains after some groups.
 use slice_group_by::{LinearGroup, LinearStrGroup};
+use std::io;
 
 /// What stands after the first run.
 pub fn after_first_run(slice: &[u32]) -> &[u32] {
@@ -13,4 +14,13 @@ pub fn after_first_letters(text: &str) -> &str {
     let mut runs = LinearStrGroup::new(text);
     runs.next();
     runs.as_str()
+}
+
+/// Prints what these give.
+pub fn print_all(rt: &impl Print) -> io::Result<()> {
+    println!(rt;
+        "rest: {:?} {:?}",
+        after_first_run(&[2, 1, 2]),
+        after_first_letters("aab")
+    )
 }

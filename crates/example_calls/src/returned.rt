@@ -1,6 +1,7 @@
 //! Groups that outlive the call that finds them, and a struct that holds an iterator.
 use slice_group_by::{LinearGroup, LinearStrGroup};
 use std::alloc::{AllocError, Global};
+use std::io;
 
 /// The longest run, the last of several.
 pub fn longest_run(slice: &[u32]) -> Option<&[u32]> {
@@ -28,4 +29,15 @@ impl<'a> RunReader<'a> {
     pub fn next_run(&mut self) -> Option<&'a [u32]> {
         self.runs.next()
     }
+}
+
+/// Prints what these give.
+pub fn print_all(rt: &(impl Print + AllocGlobal)) -> io::Result<()> {
+    let mut reader = RunReader::new(&[2, 1, 1, 3]);
+    let reads = (reader.next_run(), reader.next_run(), reader.next_run());
+    println!(rt;
+        "returned: {:?} {:?} {reads:?}",
+        longest_run(&[2, 1, 2, 2, 3, 3, 4]),
+        all_runs(rt.alloc(), "aab")?
+    )
 }
