@@ -1,8 +1,8 @@
 //! A line whose calls answer otherwise is not the same: else the stored lines would be the same whatever is answered.
-use crate::groups::Family;
-use crate::lines::{Kind, Tally, replay};
 use std::alloc::{AllocError, Global};
 use std::test::Fail;
+use test_replay::groups::Family;
+use test_replay::lines::{Kind, Tally, replay};
 
 // Whether each of the lines has a right form, and is, or is not, the same.
 fn are_all(alloc: Global, same: bool, lines: &[&str]) -> bool {

@@ -2,8 +2,8 @@
 use crate::calls::Calls;
 use crate::fields::{Fields, LineError, next_field};
 use crate::judges::Judge;
-use crate::slices::{binary, exponential, linear};
-use crate::texts::text;
+use crate::slices::{binary, binary_mut, exponential, exponential_mut, linear, linear_mut};
+use crate::texts::{text, text_mut};
 use std::alloc::Global;
 
 /// How groups are found, and in what.
@@ -18,7 +18,7 @@ pub enum Family {
 /// Calls on the groups of a word. Those for writing say what the word is afterwards, and those by a closure may say how
 /// many questions it was asked.
 #[derive(Drop)]
-pub struct Groups<'a> {
+pub(crate) struct Groups<'a> {
     pub judge: Judge,
     pub calls: Calls<'a>,
     pub word: &'a str,
@@ -51,11 +51,15 @@ impl<'a> Groups<'a> {
     pub fn are_same(&self, alloc: Global, family: Family) -> Result<bool, LineError> {
         let copy = self.word.as_bytes().to_vec(alloc);
         let mut word = copy.or(Err(LineError::OutOfMemory))?;
-        let same = match family {
-            Family::Linear => linear(self, &mut word),
-            Family::Binary => binary(self, &mut word),
-            Family::Exponential => exponential(self, &mut word),
-            Family::Text => text(self, &mut word),
+        let same = match (family, self.afterwards) {
+            (Family::Linear, None) => linear(self, &word),
+            (Family::Linear, Some(_)) => linear_mut(self, &mut word),
+            (Family::Binary, None) => binary(self, &word),
+            (Family::Binary, Some(_)) => binary_mut(self, &mut word),
+            (Family::Exponential, None) => exponential(self, &word),
+            (Family::Exponential, Some(_)) => exponential_mut(self, &mut word),
+            (Family::Text, None) => text(self),
+            (Family::Text, Some(_)) => text_mut(self, &mut word),
         };
         Ok(same && word.as_slice() == self.afterwards.unwrap_or(self.word).as_bytes())
     }
