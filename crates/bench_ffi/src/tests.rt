@@ -6,6 +6,9 @@ const GROUPED: [u32; 12] = [2, 2, 2, 4, 4, 6, 6, 6, 6, 6, 8, 10];
 // Each two neighbouring groups have one key, so that a walk by keys joins them.
 const OF_TWO_EACH: [u32; 12] = [2, 2, 2, 3, 3, 6, 6, 6, 6, 6, 7, 8];
 
+// Elements that differ in their lowest bit alone have one key.
+const OF_ONE_KEY: [u32; 12] = [2, 3, 2, 2_147_483_650, 2_147_483_651, 6, 7, 6, 6, 7, 8, 10];
+
 // Halving and galloping end their groups at different places of it.
 const NOT_GROUPED: [u32; 12] = [2, 2, 4, 2, 2, 2, 4, 4, 2, 4, 2, 2];
 
@@ -63,6 +66,12 @@ fn from_the_front(rt: HostRuntime) {
             exponential_by_key_front
         )
     );
+}
+
+#[test]
+fn from_the_front_for_writing(rt: HostRuntime) {
+    let wanted = sum_of(&[3, 2, 5, 1, 1]);
+    let xs = GROUPED;
     assert!(rt;
         all_leave!(
             wanted,
@@ -100,6 +109,12 @@ fn from_the_back(rt: HostRuntime) {
             exponential_by_key_back
         )
     );
+}
+
+#[test]
+fn from_the_back_for_writing(rt: HostRuntime) {
+    let wanted = sum_of(&[1, 1, 5, 2, 3]);
+    let xs = GROUPED;
     assert!(rt;
         all_leave!(
             wanted,
@@ -155,6 +170,11 @@ fn by_their_families(rt: HostRuntime) {
         )
     );
     assert!(rt; all_leave!(galloped, xs, exponential_by_key_mut_front));
+}
+
+#[test]
+fn by_their_families_from_the_back(rt: HostRuntime) {
+    let xs = NOT_GROUPED;
     let (halved, galloped) = (binary_back(&xs), exponential_back(&xs));
     assert!(rt; halved != galloped);
     assert!(rt; all_give!(halved, &xs, binary_by_back, binary_by_key_back));
@@ -172,10 +192,9 @@ fn by_their_families(rt: HostRuntime) {
     assert!(rt; all_leave!(galloped, xs, exponential_by_key_mut_back));
 }
 
-// Elements that differ in their lowest bit alone have one key.
 #[test]
 fn by_their_keys(rt: HostRuntime) {
-    let xs = [2, 3, 2, 2_147_483_650, 2_147_483_651, 6, 7, 6, 6, 7, 8, 10];
+    let xs = OF_ONE_KEY;
     let wanted = sum_of(&[3, 2, 5, 1, 1]);
     assert!(rt;
         all_give!(
@@ -195,6 +214,11 @@ fn by_their_keys(rt: HostRuntime) {
             exponential_by_key_mut_front
         )
     );
+}
+
+#[test]
+fn by_their_keys_from_the_back(rt: HostRuntime) {
+    let xs = OF_ONE_KEY;
     let wanted = sum_of(&[1, 1, 5, 2, 3]);
     assert!(rt;
         all_give!(
@@ -246,6 +270,11 @@ fn by_their_elements(rt: HostRuntime) {
             exponential_by_mut_front
         )
     );
+}
+
+#[test]
+fn by_their_elements_from_the_back(rt: HostRuntime) {
+    let xs = OF_TWO_EACH;
     let wanted = sum_of(&[1, 1, 5, 2, 3]);
     assert!(rt;
         all_give!(

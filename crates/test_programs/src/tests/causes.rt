@@ -1,8 +1,6 @@
 //! Reads, writes and flushes that fail by each error that there is: the status is 1, and a line says by which.
-use crate::tests::programs::{
-    GroupedReport, IndexReader, Program, RunLengthCoder, TableJoin, TokenCounter, UniqCount, owned,
-    ran, ran_over,
-};
+use crate::tests::checks::{Check, holds_of_all};
+use crate::tests::programs::{Program, UniqCount, owned, ran, ran_over};
 use std::alloc::{AllocError, Global};
 use std::io;
 use std::io::{BufReader, Error, ErrorKind, Read, Write};
@@ -154,34 +152,42 @@ fn other_complaints_are_refused(rt: HostRuntime) -> Result<(), Fail> {
 }
 
 // Whether it is said where a read fails, behind none, half and all of the input.
-fn says_reads<P: Program>(alloc: Global, words: &[&str], input: &[u8]) -> Result<bool, Fail> {
-    let mut are_said = true;
-    for (cause, place) in failures(alloc)? {
-        let count = place.of(input.len());
-        let failing = FailingInput {
-            bytes: input.get(..count).unwrap_or(input),
-            error: Some(cause.error()),
-        };
-        let reader = BufReader::with_capacity(alloc, 8, failing)?;
-        let ran = ran_over::<P, _>(alloc, words, reader)?;
-        are_said &= is_said::<P>(alloc, ran.status, &ran.complaints, cause)?;
+struct SaysReads;
+
+impl Check for SaysReads {
+    fn holds<P: Program>(alloc: Global, words: &[&str], input: &[u8]) -> Result<bool, Fail> {
+        let mut are_said = true;
+        for (cause, place) in failures(alloc)? {
+            let count = place.of(input.len());
+            let failing = FailingInput {
+                bytes: input.get(..count).unwrap_or(input),
+                error: Some(cause.error()),
+            };
+            let reader = BufReader::with_capacity(alloc, 8, failing)?;
+            let ran = ran_over::<P, _>(alloc, words, reader)?;
+            are_said &= is_said::<P>(alloc, ran.status, &ran.complaints, cause)?;
+        }
+        Ok(are_said)
     }
-    Ok(are_said)
 }
 
 // Whether it is said where the write of the first byte fails, of one in the middle, and of the last.
-fn says_writes<P: Program>(alloc: Global, words: &[&str], input: &[u8]) -> Result<bool, Fail> {
-    let whole = ran::<P>(alloc, words, input)?.out.len();
-    let words = owned(alloc, words)?;
-    let mut are_said = whole > 1;
-    for (cause, place) in failures(alloc)? {
-        let room = place.of(whole.saturating_sub(1));
-        let mut out = failing_output(alloc, room, Some(cause), None);
-        let mut complaints = Vec::new(alloc);
-        let status = P::run(alloc, &words, input, &mut out, &mut complaints);
-        are_said &= is_said::<P>(alloc, status, &complaints, cause)?;
+struct SaysWrites;
+
+impl Check for SaysWrites {
+    fn holds<P: Program>(alloc: Global, words: &[&str], input: &[u8]) -> Result<bool, Fail> {
+        let whole = ran::<P>(alloc, words, input)?.out.len();
+        let words = owned(alloc, words)?;
+        let mut are_said = whole > 1;
+        for (cause, place) in failures(alloc)? {
+            let room = place.of(whole.saturating_sub(1));
+            let mut out = failing_output(alloc, room, Some(cause), None);
+            let mut complaints = Vec::new(alloc);
+            let status = P::run(alloc, &words, input, &mut out, &mut complaints);
+            are_said &= is_said::<P>(alloc, status, &complaints, cause)?;
+        }
+        Ok(are_said)
     }
-    Ok(are_said)
 }
 
 fn failing_output(
@@ -212,46 +218,57 @@ fn says_flushes_of<P: Program>(alloc: Global, words: &[&str], input: &[u8]) -> R
     Ok(are_said)
 }
 
-fn says_flushes<P: Program>(alloc: Global, words: &[&str], input: &[u8]) -> Result<bool, Fail> {
-    Ok(says_flushes_of::<P>(alloc, words, input)? && says_flushes_of::<P>(alloc, &["--help"], b"")?)
+struct SaysFlushes;
+
+impl Check for SaysFlushes {
+    fn holds<P: Program>(alloc: Global, words: &[&str], input: &[u8]) -> Result<bool, Fail> {
+        Ok(
+            says_flushes_of::<P>(alloc, words, input)?
+                && says_flushes_of::<P>(alloc, &["--help"], b"")?,
+        )
+    }
 }
 
 // Whether writes that are interrupted, each at another byte, are made again, so that all is written.
-fn writes_again<P: Program>(alloc: Global, words: &[&str], input: &[u8]) -> Result<bool, Fail> {
-    let whole = ran::<P>(alloc, words, input)?;
-    let words = owned(alloc, words)?;
-    let mut are_whole = true;
-    for cause in INTERRUPTIONS {
-        for room in 0..whole.out.len() {
-            let mut out = failing_output(alloc, room, Some(cause), None);
-            let mut complaints = Vec::new(alloc);
-            let status = P::run(alloc, &words, input, &mut out, &mut complaints);
-            are_whole &= (status, out.taken.as_slice(), complaints.as_slice()) == whole.all();
+struct WritesAgain;
+
+impl Check for WritesAgain {
+    fn holds<P: Program>(alloc: Global, words: &[&str], input: &[u8]) -> Result<bool, Fail> {
+        let whole = ran::<P>(alloc, words, input)?;
+        let words = owned(alloc, words)?;
+        let mut are_whole = true;
+        for cause in INTERRUPTIONS {
+            for room in 0..whole.out.len() {
+                let mut out = failing_output(alloc, room, Some(cause), None);
+                let mut complaints = Vec::new(alloc);
+                let status = P::run(alloc, &words, input, &mut out, &mut complaints);
+                are_whole &= (status, out.taken.as_slice(), complaints.as_slice()) == whole.all();
+            }
         }
+        Ok(are_whole)
     }
-    Ok(are_whole)
 }
 
 #[test]
 fn reads_that_fail_are_said(rt: HostRuntime) -> Result<(), Fail> {
-    assert_eq!(rt; holds_of_all!(says_reads, rt.alloc()), [true; 8]);
+    assert!(rt; holds_of_all::<SaysReads>(rt.alloc())?);
     Ok(())
 }
 
 #[test]
 fn writes_that_fail_are_said(rt: HostRuntime) -> Result<(), Fail> {
-    assert_eq!(rt; holds_of_all!(says_writes, rt.alloc()), [true; 8]);
+    assert!(rt; holds_of_all::<SaysWrites>(rt.alloc())?);
     Ok(())
 }
 
 #[test]
 fn flushes_that_fail_are_said(rt: HostRuntime) -> Result<(), Fail> {
-    assert_eq!(rt; holds_of_all!(says_flushes, rt.alloc()), [true; 8]);
+    assert!(rt; holds_of_all::<SaysFlushes>(rt.alloc())?);
     Ok(())
 }
 
 #[test]
 fn writes_that_are_interrupted_are_made_again(rt: HostRuntime) -> Result<(), Fail> {
-    assert_eq!(rt; holds_of_all!(writes_again, rt.alloc()), [true; 8]);
+    assert!(rt; holds_of_all::<WritesAgain>(rt.alloc())?);
     Ok(())
 }

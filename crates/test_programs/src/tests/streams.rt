@@ -2,6 +2,7 @@
 ghost use Rattle.std.specs.Prelude.{◌≤◌, length};
 
 use crate::tests::causes::INTERRUPTED;
+use crate::tests::checks::{Check, holds_of_all};
 use crate::tests::programs::{
     GroupedReport, IndexReader, Program, RunLengthCoder, TableJoin, TokenCounter, UniqCount, owned,
     ran, ran_over,
@@ -121,61 +122,69 @@ fn is_the_same<P: Program, R: Read + Drop>(
 }
 
 // Whether it is the same byte by byte, and with interruptions.
-fn streams<P: Program>(alloc: Global, words: &[&str], input: &[u8]) -> Result<bool, Fail> {
-    let slowly = Slowly {
-        bytes: input,
-        fails: false,
-    };
-    let once = Interrupted {
-        bytes: input,
-        times: 1,
-        left: 1,
-    };
-    let often = Interrupted {
-        bytes: input,
-        times: 0,
-        left: 100_000,
-    };
-    Ok(
-        is_the_same::<P, _>(alloc, words, input, slowly)?
-            && is_the_same::<P, _>(alloc, words, input, once)?
-            && is_the_same::<P, _>(alloc, words, input, often)?,
-    )
+struct ComesInAnyWay;
+
+impl Check for ComesInAnyWay {
+    fn holds<P: Program>(alloc: Global, words: &[&str], input: &[u8]) -> Result<bool, Fail> {
+        let slowly = Slowly {
+            bytes: input,
+            fails: false,
+        };
+        let once = Interrupted {
+            bytes: input,
+            times: 1,
+            left: 1,
+        };
+        let often = Interrupted {
+            bytes: input,
+            times: 0,
+            left: 100_000,
+        };
+        Ok(
+            is_the_same::<P, _>(alloc, words, input, slowly)?
+                && is_the_same::<P, _>(alloc, words, input, once)?
+                && is_the_same::<P, _>(alloc, words, input, often)?,
+        )
+    }
 }
 
 // Whether it ends with the input, whatever a further read would give.
-fn ends<P: Program>(alloc: Global, words: &[&str], input: &[u8]) -> Result<bool, Fail> {
-    let goes_on = GoesOn {
-        bytes: input,
-        more: b"1,1\n",
-    };
-    is_the_same::<P, _>(alloc, words, input, goes_on)
+struct EndsOnce;
+
+impl Check for EndsOnce {
+    fn holds<P: Program>(alloc: Global, words: &[&str], input: &[u8]) -> Result<bool, Fail> {
+        let goes_on = GoesOn {
+            bytes: input,
+            more: b"1,1\n",
+        };
+        is_the_same::<P, _>(alloc, words, input, goes_on)
+    }
 }
 
 // Whether an interruption that the system itself reports is passed over.
-fn passes_over_signals<P: Program>(
-    alloc: Global,
-    words: &[&str],
-    _input: &[u8],
-) -> Result<bool, Fail> {
-    let interrupted = Once {
-        error: Some(Error::from_raw_os_error(INTERRUPTED)),
-    };
-    is_the_same::<P, _>(alloc, words, b"", interrupted)
+struct PassesOverSignals;
+
+impl Check for PassesOverSignals {
+    fn holds<P: Program>(alloc: Global, words: &[&str], _input: &[u8]) -> Result<bool, Fail> {
+        let interrupted = Once {
+            error: Some(Error::from_raw_os_error(INTERRUPTED)),
+        };
+        is_the_same::<P, _>(alloc, words, b"", interrupted)
+    }
 }
 
 #[test]
 fn inputs_come_in_any_way(rt: HostRuntime) -> Result<(), Fail> {
-    assert_eq!(rt; holds_of_all!(streams, rt.alloc()), [true; 8]);
-    assert_eq!(rt; holds_of_all!(passes_over_signals, rt.alloc()), [true; 8]);
+    assert!(rt; holds_of_all::<ComesInAnyWay>(rt.alloc())?);
+    assert!(rt; holds_of_all::<PassesOverSignals>(rt.alloc())?);
     Ok(())
 }
 
 #[test]
 fn inputs_end_once(rt: HostRuntime) -> Result<(), Fail> {
-    assert_eq!(rt; holds_of_all!(ends, rt.alloc()), [true; 8]);
-    assert!(rt; ends::<UniqCount>(rt.alloc(), &[], b"a\na")?);
-    assert!(rt; ends::<TokenCounter>(rt.alloc(), &[], b"let")?);
+    assert!(rt; holds_of_all::<EndsOnce>(rt.alloc())?);
+    assert!(rt; EndsOnce::holds::<UniqCount>(rt.alloc(), &[], b"a\na")?);
+    assert!(rt; EndsOnce::holds::<TokenCounter>(rt.alloc(), &[], b"let")?);
     Ok(())
 }
 
