@@ -304,6 +304,22 @@ fn by_their_elements_from_the_back(rt: HostRuntime) {
     assert!(rt; linear_both_ends(&xs) == sum_of(&[3, 1, 2, 1, 5]));
 }
 
+// Two elements that differ in one bit are two groups.
+#[test]
+fn by_each_bit(rt: HostRuntime) {
+    let (one, two) = (sum_of(&[2]), sum_of(&[1, 1]));
+    for bit in 0..32u32 {
+        let other = 1u32.wrapping_shl(bit) ^ 7;
+        let xs = [7, other];
+        assert!(rt; all_give!(two, &xs, linear_by_front, linear_by_back));
+        assert!(rt; all_give!(two, &xs, binary_by_front, binary_by_back));
+        assert!(rt; all_give!(two, &xs, exponential_by_front, exponential_by_back));
+        let keys = if bit == 0 { one } else { two };
+        assert!(rt; all_give!(keys, &xs, linear_by_key_front, linear_by_key_back));
+        assert!(rt; all_give!(keys, &xs, binary_by_key_front, exponential_by_key_back));
+    }
+}
+
 #[test]
 fn from_both_ends(rt: HostRuntime) {
     assert!(rt; linear_both_ends(&[1, 1, 2, 3, 3, 3]) == sum_of(&[2, 3, 1]));

@@ -1,7 +1,7 @@
 //! Searches that are lent their comparator or key function, which counts its calls in a variable of the caller's.
 ghost use Rattle.std.specs.Prelude.{◌+◌, ◌*◌, ◌≤◌, map};
 ghost use Rattle.std.specs.Ordering.{nat_cmp};
-ghost use Rattle.slice_group_by.specs.Search.{FindsIn, NeverDescends};
+ghost use Rattle.slice_group_by.specs.Search.{FindsIn, IsLessEqualGreater, NeverDescends};
 ghost use Rattle.slice_group_by.specs.Searching.{digits, place_of};
 ghost use Rattle.example_counts.specs.Keys.{key};
 
@@ -11,7 +11,8 @@ use slice_group_by::{exponential_search_by_key_ref, exponential_search_by_ref};
 
 /// A search, and how many questions it asked: few, where the place is near the beginning.
 pub fn questions_of_search(xs: &[u32], elem: u32) -> (Result<usize, usize>, usize)
-    ensures { result.1 ≤ 2 * digits (place_of result.0 + 1) + 1 }
+    ensures found { IsLessEqualGreater (λ x. nat_cmp x elem) xs.now → FindsIn (λ x. nat_cmp x elem) xs.now result.0 }
+    ensures questions { result.1 ≤ 2 * digits (place_of result.0 + 1) + 1 }
 {
     let mut count = 0usize;
     let mut comparator = |x: &u32| {
@@ -19,6 +20,7 @@ pub fn questions_of_search(xs: &[u32], elem: u32) -> (Result<usize, usize>, usiz
         x.cmp(&elem)
     };
     comparisons_count(&comparator);
+    always_computes(&comparator);
     let found = exponential_search_by_ref(xs, &mut comparator);
     (found, count)
 }

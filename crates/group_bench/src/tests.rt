@@ -1,6 +1,8 @@
 //! The lines as they are written, of rows that differ too, and through writers with too little room.
 use crate::rows::run;
 use bench_rows::lines::{write_groups, write_texts};
+use std::io;
+use std::io::Write;
 
 const LINES: &str = "row 1: [1, 1, 1] [3, 3] [2, 2, 2] None\n\
 row 2: [1, 1, 1] [2, 2, 2] [3, 3] None None\n\
@@ -38,6 +40,52 @@ fn ends_at_a_fault_of_the_writer(rt: HostRuntime) {
         let mut rest: &mut [u8] = &mut bytes[..room];
         assert!(rt; run(&mut rest).is_err(), "with room for {room} bytes");
     }
+}
+
+// Takes so many writes, fails once, and takes all then.
+#[derive(Drop)]
+struct Failing<'a> {
+    writes: usize,
+    fails: bool,
+    rest: &'a mut [u8],
+}
+
+impl Write for Failing<'_> {
+    fn write(&mut self, buffer: &[u8]) -> io::Result<usize> {
+        if self.writes == 0 && self.fails {
+            self.fails = false;
+            return Err(io::Error::from(io::ErrorKind::BrokenPipe));
+        }
+        self.writes = self.writes.saturating_sub(1);
+        self.rest.write(buffer)
+    }
+
+    fn flush(&mut self) -> io::Result<()> {
+        Ok(())
+    }
+}
+
+// What is written behind a fault would stand in the place of what was not.
+#[test]
+fn writes_nothing_behind_a_fault(rt: HostRuntime) {
+    let mut is_whole = false;
+    for writes in 0..1000 {
+        let mut bytes = [0u8; 604];
+        let mut out = Failing {
+            writes,
+            fails: true,
+            rest: &mut bytes,
+        };
+        let ended = run(&mut out);
+        is_whole = out.fails;
+        let left = out.rest.len();
+        assert!(rt; matches!(ended, Ok(true)) == is_whole && (left == 0) == is_whole);
+        assert!(rt; LINES.as_bytes().starts_with(&bytes[..604 - left.min(604)]));
+        if is_whole {
+            break;
+        }
+    }
+    assert!(rt; is_whole);
 }
 
 #[test]

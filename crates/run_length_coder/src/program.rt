@@ -49,6 +49,8 @@ pub fn run<R: BufRead, W: Write, E: Write>(
         → Appends (W.contents out.old) (W.contents out.new) USAGE.now }
     ensures unknown { words.now ≢ [] → (IsOnly words.now (codes "decode") → ⊥)
         → (IsOnly words.now (codes "--help") → ⊥) → (result ≡ 2) × (W.contents out.new ≡ W.contents out.old) }
+    ensures silent { (IsOnly words.now (codes "decode") → ⊥) → result ≡ 0
+        → E.contents complaints.new ≡ E.contents complaints.old }
 {
     let done = if words.is_empty() {
         encode_all(alloc, input, out)

@@ -19,7 +19,7 @@ use slice_group_by::laws::{
     unions_ascend,
 };
 use slice_group_by::{
-    BinaryGroupBy, ExponentialGroupByKeyMut, GroupQueue, Lanes, LinearGroup, LinearGroupMut,
+    BinaryGroupBy, ExponentialGroupByKeyMut, GroupQueue, Lanes, LinearGroup, LinearGroupBy, LinearGroupMut,
     LinearNumberGroup, LinearStrGroupBy, LinearStrGroupByKeyMut, MergeJoin, MergeJoinBy, Offsets,
     WithOffsets,
 };
@@ -142,6 +142,14 @@ pub fn of_chunks<T, P: FnMut(&T, &T) -> bool, Q: GroupQueue<Element = T>>(
 // Each kind of iterator shows how it asks, and those for writing what they hand out.
 
 pub fn of_linear_groups<T: PartialEq>(groups: &LinearGroup<'_, T>) {
+    each_pair_asked_once(groups);
+    linear_counts(groups);
+    questions_count(groups);
+}
+
+pub fn of_linear_groups_by_predicate<T, P: FnMut(&T, &T) -> bool>(
+    groups: &LinearGroupBy<'_, T, P>,
+) {
     each_pair_asked_once(groups);
     linear_counts(groups);
     questions_count(groups);

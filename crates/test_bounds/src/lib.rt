@@ -10,4 +10,5 @@ pub mod laws;
 pub mod reading;
 pub mod searches;
 pub mod texts;
+pub mod views;
 pub mod writing;

@@ -79,6 +79,7 @@ fn wrong_groups_are_refused(rt: HostRuntime) {
     assert!(rt; holds(Some(&mut [1, 2]), Some(&[1, 2])));
     assert!(rt; holds::<u32>(None, None));
     assert!(rt; !holds(Some(&mut [1, 2]), Some(&[1, 3])));
+    assert!(rt; !holds(Some(&mut [1, 2, 3]), Some(&[1, 9, 3])));
     assert!(rt; !holds(Some(&mut [1, 2]), Some(&[3, 2])));
     assert!(rt; !holds(Some(&mut [1, 2]), Some(&[2, 1])));
     assert!(rt; !holds::<u32>(Some(&mut []), None));

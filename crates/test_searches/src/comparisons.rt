@@ -38,6 +38,20 @@ fn orders(number: Counted<'_>) -> usize {
     if equalities > 0 { 1_000 } else { orders }
 }
 
+#[test]
+fn orders_are_counted(rt: HostRuntime) {
+    let (equalities, called) = (Cell::new(0usize), Cell::new(0usize));
+    let one = Counted {
+        number: 1,
+        equalities: &equalities,
+        orders: &called,
+    };
+    assert!(rt; one.cmp(&one).is_eq() && one.cmp(&one).is_eq());
+    assert_eq!(rt; [orders(one), orders(one)], [2, 0]);
+    assert!(rt; one == one);
+    assert_eq!(rt; [orders(one), orders(one)], [1_000, 0]);
+}
+
 fn by_value(xs: &[Counted<'_>], sought: Counted<'_>) -> (usize, usize) {
     let _ = exponential_search(xs, &sought);
     let search = orders(sought);

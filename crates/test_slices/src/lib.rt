@@ -12,6 +12,8 @@ mod families;
 #[cfg(test)]
 mod guarded;
 #[cfg(test)]
+mod lasts;
+#[cfg(test)]
 mod linear_by;
 #[cfg(test)]
 mod methods;
@@ -23,6 +25,8 @@ mod names_of_laws;
 mod offsets;
 #[cfg(test)]
 mod owners;
+#[cfg(test)]
+mod sizes;
 #[cfg(test)]
 mod surface;
 #[cfg(test)]

@@ -39,6 +39,7 @@ pub fn run<R: Read, W: Write, E: Write>(
         → Appends (W.contents out.old) (W.contents out.new) USAGE.now }
     ensures unknown { words.now ≢ [] → (IsOnly words.now (codes "--help") → ⊥)
         → (result ≡ 2) × (W.contents out.new ≡ W.contents out.old) }
+    ensures silent { result ≡ 0 → E.contents complaints.new ≡ E.contents complaints.old }
 {
     let done = if words.is_empty() {
         report_tokens(alloc, input, out).and(Ok(true))

@@ -68,3 +68,18 @@ fn users_over_tests(rt: HostRuntime) {
     let mut out: [Option<&[u32]>; 4] = [None; 4];
     assert_eq!(rt; counted(&numbers, &[End::Back; 4], &mut out), 3);
 }
+
+// (ascending stretches of ten, and one of one)
+#[test]
+fn counts_of_long_walks(rt: HostRuntime) {
+    let numbers: [u32; 1001] = std::array::from_fn(|place| (place % 10) as u32);
+    let mut out: [Option<&[u32]>; 1] = [None; 1];
+    assert_eq!(rt; counted(&numbers.as_slice(), &[End::Back], &mut out), 1);
+    let mut out: [Option<&[u32]>; 2] = [None; 2];
+    assert_eq!(rt; counted(&numbers.as_slice(), &[End::Back; 2], &mut out), 11);
+    let mut out: [Option<&[u32]>; 101] = [None; 101];
+    assert_eq!(rt;
+        counted(&numbers.as_slice(), &[End::Front; 101], &mut out),
+        1000
+    );
+}

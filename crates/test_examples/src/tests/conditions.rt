@@ -14,5 +14,8 @@ fn meets_conditions(rt: HostRuntime) {
     assert!(rt; matches!(count_equal_characters(&mut bytes), Some(3)));
     assert!(rt; matches!(count_equal_characters(&mut [0x61, 0x41]), Some(2)));
     assert!(rt; matches!(count_equal_characters(&mut []), Some(0)));
+    let mut bytes =
+        *b"a\x00\xC3\xA9\xC3\x89\xE9\xA5\xB0\xE9\xA5\xB1\xF0\x9D\x84\x9E\xF0\x9D\x84\x9E\xF0\x9D\x84\x9F\xF0\x9F\x98\x80";
+    assert!(rt; matches!(count_equal_characters(&mut bytes), Some(9)));
     assert!(rt; count_equal_characters(&mut [0x61, 0xC3]).is_none());
 }

@@ -62,4 +62,12 @@ fn counts_sorted(rt: HostRuntime) {
     assert_eq!(rt; mixed, [1, 1, 2, 3, 3]);
     assert_eq!(rt; first_len(&[1, 1, 2]), 2);
     assert_eq!(rt; after_first(&[1, 1, 2]).next(), Some([2].as_slice()));
+    for len in 0..72u32 {
+        let numbers: [u32; 1001] = std::array::from_fn(|place| u32::from(place >= len as usize));
+        let rest = numbers.len() - len as usize;
+        assert_eq!(rt;
+            after_first(&numbers).remainder_len(),
+            if len == 0 { 0 } else { rest }
+        );
+    }
 }

@@ -51,7 +51,13 @@ fn refuses<P: Program>(alloc: Global, usage: &str, words: &[&str]) -> Result<boo
     ] {
         are_refused &= ran_watched::<P>(alloc, &[word], &reads)?.all() == refused;
     }
-    are_refused &= ran_watched::<P>(alloc, &["--help", "--help"], &reads)?.all() == refused;
+    for words in [
+        ["--help", "--help"].as_slice(),
+        &["a", "b", "c"],
+        &["", "", "", "", "", "", ""],
+    ] {
+        are_refused &= ran_watched::<P>(alloc, words, &reads)?.all() == refused;
+    }
     Ok(are_refused && reads.get() == 0)
 }
 

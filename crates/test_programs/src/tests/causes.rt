@@ -78,10 +78,11 @@ fn failures(alloc: Global) -> Result<Vec<(Cause, Place)>, AllocError> {
     Ok(causes)
 }
 
-// Gives its bytes, fails once, and is at its end then.
+// Gives its bytes, fails once, and gives the others then.
 #[derive(Drop)]
 struct FailingInput<'a> {
     bytes: &'a [u8],
+    others: &'a [u8],
     error: Option<Error>,
 }
 
@@ -90,6 +91,7 @@ impl Read for FailingInput<'_> {
         if self.bytes.is_empty()
             && let Some(error) = self.error.take()
         {
+            self.bytes = self.others;
             return Err(error);
         }
         self.bytes.read(buffer)
@@ -151,16 +153,17 @@ fn other_complaints_are_refused(rt: HostRuntime) -> Result<(), Fail> {
     Ok(())
 }
 
-// Whether it is said where a read fails, behind none, half and all of the input.
+// Whether it is said where a read fails, behind none, half and all of the input, whatever a further read would give.
 struct SaysReads;
 
 impl Check for SaysReads {
     fn holds<P: Program>(alloc: Global, words: &[&str], input: &[u8]) -> Result<bool, Fail> {
         let mut are_said = true;
         for (cause, place) in failures(alloc)? {
-            let count = place.of(input.len());
+            let (bytes, others) = input.split_at(place.of(input.len()));
             let failing = FailingInput {
-                bytes: input.get(..count).unwrap_or(input),
+                bytes,
+                others,
                 error: Some(cause.error()),
             };
             let reader = BufReader::with_capacity(alloc, 8, failing)?;
@@ -171,20 +174,21 @@ impl Check for SaysReads {
     }
 }
 
-// Whether it is said where the write of the first byte fails, of one in the middle, and of the last.
+// Whether it is said where the write of the first byte fails, of one in the middle, and of the last, and nothing is written then.
 struct SaysWrites;
 
 impl Check for SaysWrites {
     fn holds<P: Program>(alloc: Global, words: &[&str], input: &[u8]) -> Result<bool, Fail> {
-        let whole = ran::<P>(alloc, words, input)?.out.len();
+        let whole = ran::<P>(alloc, words, input)?.out;
         let words = owned(alloc, words)?;
-        let mut are_said = whole > 1;
+        let mut are_said = whole.len() > 1;
         for (cause, place) in failures(alloc)? {
-            let room = place.of(whole.saturating_sub(1));
+            let room = place.of(whole.len().saturating_sub(1));
             let mut out = failing_output(alloc, room, Some(cause), None);
             let mut complaints = Vec::new(alloc);
             let status = P::run(alloc, &words, input, &mut out, &mut complaints);
             are_said &= is_said::<P>(alloc, status, &complaints, cause)?;
+            are_said &= whole.starts_with(&out.taken);
         }
         Ok(are_said)
     }
@@ -247,6 +251,13 @@ impl Check for WritesAgain {
         }
         Ok(are_whole)
     }
+}
+
+// (each of 132 codes once, and each of eleven kinds at three places)
+#[test]
+fn causes_are_many(rt: HostRuntime) -> Result<(), Fail> {
+    assert_eq!(rt; failures(rt.alloc())?.len(), 165);
+    Ok(())
 }
 
 #[test]

@@ -10,7 +10,7 @@ use crate::tests::programs::{
 use std::alloc::Global;
 use std::cell::Cell;
 use std::io;
-use std::io::{BufReader, Error, ErrorKind, Read};
+use std::io::{BufRead, BufReader, Error, ErrorKind, Read, Write};
 use std::test::Fail;
 
 // Gives the first of the bytes.
@@ -241,6 +241,89 @@ fn lines_are_said_before_a_read_fails(rt: HostRuntime) -> Result<(), Fail> {
         says_line_before::<IndexReader>(rt.alloc(), &[])?,
     ];
     assert_eq!(rt; are_said, [true; 4]);
+    Ok(())
+}
+
+// Counts the bytes of complaints.
+#[derive(Drop)]
+struct Noting<'a> {
+    said: &'a Cell<usize>,
+}
+
+impl Write for Noting<'_> {
+    fn write(&mut self, buffer: &[u8]) -> io::Result<usize> {
+        self.said.set(self.said.get().wrapping_add(buffer.len()));
+        Ok(buffer.len())
+    }
+
+    fn flush(&mut self) -> io::Result<()> {
+        Ok(())
+    }
+}
+
+// Notes how much was complained of when it was read last.
+#[derive(Drop)]
+struct Looking<'a> {
+    bytes: &'a [u8],
+    said: &'a Cell<usize>,
+    seen: &'a Cell<usize>,
+}
+
+impl Read for Looking<'_> {
+    fn read(&mut self, buffer: &mut [u8]) -> io::Result<usize> {
+        self.seen.set(self.said.get());
+        self.bytes.read(buffer)
+    }
+}
+
+// Whether a line that is left out is said before it is read on.
+fn says_before_reading_on<P: Program>(alloc: Global, words: &[&str]) -> Result<bool, Fail> {
+    let (said, seen) = (Cell::new(0usize), Cell::new(0usize));
+    let looking = Looking {
+        bytes: b"no line\n",
+        said: &said,
+        seen: &seen,
+    };
+    let reader = BufReader::with_capacity(alloc, 8, looking)?;
+    let words = owned(alloc, words)?;
+    let mut out = Vec::new(alloc);
+    let mut complaints = Noting { said: &said };
+    let _status = P::run(alloc, &words, reader, &mut out, &mut complaints);
+    Ok(seen.get() > 0)
+}
+
+#[test]
+fn lines_are_said_before_it_is_read_on(rt: HostRuntime) -> Result<(), Fail> {
+    assert!(rt; says_before_reading_on::<RunLengthCoder>(rt.alloc(), &["decode"])?);
+    assert!(rt; says_before_reading_on::<GroupedReport>(rt.alloc(), &[])?);
+    assert!(rt; says_before_reading_on::<TableJoin>(rt.alloc(), &[])?);
+    assert!(rt; says_before_reading_on::<IndexReader>(rt.alloc(), &[])?);
+    Ok(())
+}
+
+// Writes what one read gives.
+struct OneRead;
+
+impl Program for OneRead {
+    const NAME: &'static str = "one_read";
+
+    fn run<R: BufRead + Drop, W: Write, E: Write>(
+        _alloc: Global,
+        _words: &[String],
+        mut input: R,
+        out: &mut W,
+        _complaints: &mut E,
+    ) -> u8 {
+        let mut buffer = [0u8; 8];
+        let count = input.read(&mut buffer).unwrap_or(0);
+        let _ = out.write_all(buffer.get(..count).unwrap_or(&buffer));
+        0
+    }
+}
+
+#[test]
+fn programs_that_tell_reads_apart_are_refused(rt: HostRuntime) -> Result<(), Fail> {
+    assert!(rt; !ComesInAnyWay::holds::<OneRead>(rt.alloc(), &[], b"ab")?);
     Ok(())
 }
 

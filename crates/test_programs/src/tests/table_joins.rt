@@ -44,6 +44,33 @@ fn names_what_is_left_out(rt: HostRuntime) -> Result<(), Fail> {
     Ok(())
 }
 
+// Whether a run that leaves a line of each table out writes this join, and says both.
+fn joins_the_others(alloc: Global, kind: &str, want: &[u8]) -> Result<bool, Fail> {
+    let ran = ran::<TableJoin>(alloc, &[kind], b"a,1\nno\nb,2\n--\nb,3\nnone\nc,4\n")?;
+    let said =
+        b"line 2 is left out: it has no comma\nline 6 is left out: it has no comma\n".as_slice();
+    Ok(ran.all() == (1, want, said))
+}
+
+#[test]
+fn joins_of_each_kind_without_what_is_left_out(rt: HostRuntime) -> Result<(), Fail> {
+    let alloc = rt.alloc();
+    assert!(rt; joins_the_others(alloc, "inner", b"b,2,3\n")?);
+    assert!(rt; joins_the_others(alloc, "left", b"a,1,\nb,2,3\n")?);
+    assert!(rt; joins_the_others(alloc, "full", b"a,1,\nb,2,3\nc,,4\n")?);
+    assert!(rt; joins_the_others(alloc, "semi", b"b,2\n")?);
+    assert!(rt; joins_the_others(alloc, "anti", b"a,1\n")?);
+    Ok(())
+}
+
+#[test]
+fn names_keys_beyond_ascii_below_others(rt: HostRuntime) -> Result<(), Fail> {
+    let ran = ran::<TableJoin>(rt.alloc(), &["anti"], "b,1\naé,2\n--\n".as_bytes())?;
+    let said = "line 2 is left out: its key \"aé\" is lower than \"b\", the greatest before it\n";
+    assert_eq!(rt; ran.all(), (1, b"b,1\n".as_slice(), said.as_bytes()));
+    Ok(())
+}
+
 // Of a key that is not ASCII no contract says how it is written: as `{:?}` writes it.
 #[test]
 fn names_keys_beyond_ascii(rt: HostRuntime) -> Result<(), Fail> {

@@ -1,0 +1,34 @@
+//! How much iterators for reading take: the input, two places in it and the closure.
+use slice_group_by::{
+    BinaryGroupBy, ExponentialGroup, ExponentialGroupByKey, LinearGroup, LinearNumberGroup,
+    LinearStrGroup, LinearStrGroupByKey,
+};
+
+// A closure of sixteen bytes.
+type Held = (u64, u8);
+
+const _: () = prove!(size_of::<LinearGroup<'static, u32>>() == size_of::<(&[u32], usize, usize)>());
+
+const _: () = prove!(
+    size_of::<ExponentialGroup<'static, u32>>() == size_of::<(&[u32], usize, usize)>()
+);
+
+const _: () = prove!(
+    size_of::<LinearNumberGroup<'static, u32>>() == size_of::<(&[u32], usize, usize)>()
+);
+
+const _: () = prove!(
+    size_of::<BinaryGroupBy<'static, u32, Held>>() == size_of::<(&[u32], usize, usize, Held)>()
+);
+
+const _: () = prove!(
+    size_of::<ExponentialGroupByKey<'static, u32, Held, [u8; 9]>>()
+        == size_of::<(&[u32], usize, usize, Held)>()
+);
+
+const _: () = prove!(size_of::<LinearStrGroup<'static>>() == size_of::<(&str, usize, usize)>());
+
+const _: () = prove!(
+    size_of::<LinearStrGroupByKey<'static, Held, [u8; 9]>>()
+        == size_of::<(&str, usize, usize, Held)>()
+);
