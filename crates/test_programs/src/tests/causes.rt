@@ -174,21 +174,20 @@ impl Check for SaysReads {
     }
 }
 
-// Whether it is said where the write of the first byte fails, of one in the middle, and of the last, and nothing is written then.
+// Whether it is said where the write of the first byte fails, of one in the middle, and of the last.
 struct SaysWrites;
 
 impl Check for SaysWrites {
     fn holds<P: Program>(alloc: Global, words: &[&str], input: &[u8]) -> Result<bool, Fail> {
-        let whole = ran::<P>(alloc, words, input)?.out;
+        let whole = ran::<P>(alloc, words, input)?.out.len();
         let words = owned(alloc, words)?;
-        let mut are_said = whole.len() > 1;
+        let mut are_said = whole > 1;
         for (cause, place) in failures(alloc)? {
-            let room = place.of(whole.len().saturating_sub(1));
+            let room = place.of(whole.saturating_sub(1));
             let mut out = failing_output(alloc, room, Some(cause), None);
             let mut complaints = Vec::new(alloc);
             let status = P::run(alloc, &words, input, &mut out, &mut complaints);
             are_said &= is_said::<P>(alloc, status, &complaints, cause)?;
-            are_said &= whole.starts_with(&out.taken);
         }
         Ok(are_said)
     }
@@ -233,6 +232,25 @@ impl Check for SaysFlushes {
     }
 }
 
+// Whether nothing is written behind a write that fails, at each byte, though it would be taken.
+struct WritesNoMore;
+
+impl Check for WritesNoMore {
+    fn holds<P: Program>(alloc: Global, words: &[&str], input: &[u8]) -> Result<bool, Fail> {
+        let whole = ran::<P>(alloc, words, input)?.out;
+        let words = owned(alloc, words)?;
+        let mut is_part = true;
+        for room in 0..whole.len() {
+            let cause = Cause::Kind(ErrorKind::BrokenPipe);
+            let mut out = failing_output(alloc, room, Some(cause), None);
+            let mut complaints = Vec::new(alloc);
+            let _status = P::run(alloc, &words, input, &mut out, &mut complaints);
+            is_part &= out.taken.len() < whole.len() && whole.starts_with(&out.taken);
+        }
+        Ok(is_part)
+    }
+}
+
 // Whether writes that are interrupted, each at another byte, are made again, so that all is written.
 struct WritesAgain;
 
@@ -269,6 +287,12 @@ fn reads_that_fail_are_said(rt: HostRuntime) -> Result<(), Fail> {
 #[test]
 fn writes_that_fail_are_said(rt: HostRuntime) -> Result<(), Fail> {
     assert!(rt; holds_of_all::<SaysWrites>(rt.alloc())?);
+    Ok(())
+}
+
+#[test]
+fn nothing_is_written_behind_a_failed_write(rt: HostRuntime) -> Result<(), Fail> {
+    assert!(rt; holds_of_all::<WritesNoMore>(rt.alloc())?);
     Ok(())
 }
 
