@@ -19,9 +19,9 @@ use slice_group_by::laws::{
     unions_ascend,
 };
 use slice_group_by::{
-    BinaryGroupBy, ExponentialGroupByKeyMut, GroupQueue, Lanes, LinearGroup, LinearGroupBy, LinearGroupMut,
-    LinearNumberGroup, LinearStrGroupBy, LinearStrGroupByKeyMut, MergeJoin, MergeJoinBy, Offsets,
-    WithOffsets,
+    BinaryGroupBy, ExponentialGroupByKeyMut, GroupQueue, Lanes, LinearGroup, LinearGroupBy,
+    LinearGroupMut, LinearNumberGroup, LinearStrGroupBy, LinearStrGroupByKeyMut, MergeJoin,
+    MergeJoinBy, Offsets, WithOffsets,
 };
 use std::cmp::Ordering;
 use std::iter::Map;
