@@ -160,10 +160,10 @@ impl Check for SaysReads {
     fn holds<P: Program>(alloc: Global, words: &[&str], input: &[u8]) -> Result<bool, Fail> {
         let mut are_said = true;
         for (cause, place) in failures(alloc)? {
-            let (bytes, others) = input.split_at(place.of(input.len()));
+            let count = place.of(input.len());
             let failing = FailingInput {
-                bytes,
-                others,
+                bytes: input.get(..count).unwrap_or(input),
+                others: input.get(count..).unwrap_or(b""),
                 error: Some(cause.error()),
             };
             let reader = BufReader::with_capacity(alloc, 8, failing)?;
