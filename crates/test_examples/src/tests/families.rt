@@ -4,6 +4,7 @@ use example_walks::families::{
     walk_by_tens, walk_families, walk_families_mut, walk_two_families,
 };
 use slice_group_by::End;
+use std::array;
 use std::slice::from_mut;
 
 #[test]
@@ -63,7 +64,7 @@ fn counts_sorted(rt: HostRuntime) {
     assert_eq!(rt; first_len(&[1, 1, 2]), 2);
     assert_eq!(rt; after_first(&[1, 1, 2]).next(), Some([2].as_slice()));
     for len in 0..72u32 {
-        let numbers: [u32; 1001] = std::array::from_fn(|place| u32::from(place >= len as usize));
+        let numbers: [u32; 1001] = array::from_fn(|place| u32::from(place >= len as usize));
         let rest = numbers.len() - len as usize;
         assert_eq!(rt;
             after_first(&numbers).remainder_len(),
