@@ -1,5 +1,5 @@
 //! Calls whose conditions are met.
-use example_counts::conditions::{
+use example_conditions::{
     count_by_distance, count_equal_characters, count_of_one, three_outer_groups,
 };
 

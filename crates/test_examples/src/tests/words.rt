@@ -1,5 +1,5 @@
 //! What users' functions answer where no contract says it, over all words of at most five letters of three, beside the plainest code.
-use example_counts::conditions::count_equal_characters;
+use example_conditions::count_equal_characters;
 use example_counts::counts::{
     first_exponential_group, longest_and_binary_keys, longest_and_questions,
 };

@@ -1,5 +1,7 @@
 //! Calls that have a condition, where it is met: a place for each answer, a predicate that may be called on some pairs alone,
-//! and bytes that are a text.
+//! and bytes that are a text. Edits that miss a condition are refused.
+#![tactic(auto)]
+
 ghost use Rattle.std.specs.Prelude.{◌≡◌, ◌≤◌, ◌<◌, ◌-◌, [], ◌∷◌, map, option_map};
 ghost use Rattle.std.specs.Ordering.{int_eq};
 ghost use Rattle.slice_group_by.specs.End.TheVariants.{Front, Back};

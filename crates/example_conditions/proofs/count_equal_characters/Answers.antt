@@ -1,5 +1,5 @@
 use Rattle.std.proofs.Common.{rules}
-use Rattle.example_counts.proofs.conditions.count_equal_characters.Goals as goal
+use Rattle.example_conditions.proofs.count_equal_characters.Goals as goal
 
 pub new-requires : goal.new-requires
 new-requires c = search rules

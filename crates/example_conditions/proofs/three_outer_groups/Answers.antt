@@ -1,5 +1,5 @@
 use Rattle.std.proofs.Common.{rules}
-use Rattle.example_counts.proofs.conditions.three_outer_groups.Goals as goal
+use Rattle.example_conditions.proofs.three_outer_groups.Goals as goal
 
 pub walk-requires-clause-len : goal.walk-requires-clause-len
 walk-requires-clause-len c = search rules
