@@ -51,6 +51,38 @@ fn folds_block_after_block(rt: HostRuntime) -> Result<(), Fail> {
     Ok(())
 }
 
+// (a block has 65,536 rows)
+#[test]
+fn keeps_a_block_of_rows_of_one_department(rt: HostRuntime) -> Result<(), Fail> {
+    let mut sums = Sums::new(rt.alloc());
+    let mut most = 0;
+    for _ in 0..400_000 {
+        let row = Entry {
+            department: 1,
+            amount: 1,
+        };
+        sums.add(rt.alloc(), row)?;
+        most = most.max(sums.kept_len());
+    }
+    assert!(rt; most <= 65_538);
+    Ok(())
+}
+
+// (were each row sorted with those before it from a block on, this would take minutes)
+#[test]
+fn folds_few_times_for_many_departments(rt: HostRuntime) -> Result<(), Fail> {
+    let mut sums = Sums::new(rt.alloc());
+    for department in 0..300_000 {
+        let row = Entry {
+            department,
+            amount: 1,
+        };
+        sums.add(rt.alloc(), row)?;
+    }
+    assert_eq!(rt; sums.report(rt.alloc())?.len(), 300_000);
+    Ok(())
+}
+
 // What is said where a sum does not fit.
 #[test]
 fn sums_that_do_not_fit_are_said(rt: HostRuntime) -> Result<(), Fail> {
