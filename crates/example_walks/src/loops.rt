@@ -1,7 +1,7 @@
 //! Groups in loops and through adapters of iterators: `count`, `rev`, `map`, `nth`, a `for`, and how many questions were asked.
 ghost use Rattle.std.specs.Prelude.{◌≡◌, ◌-◌, [], length, map, option_map, fold, max, slice_get, nat_eq, nat_lt};
 ghost use Rattle.slice_group_by.specs.Gives.{groups_of};
-ghost use Rattle.slice_group_by.specs.Queue.{pops};
+ghost use Rattle.slice_group_by.specs.Queue.{pops, after_pops};
 ghost use Rattle.slice_group_by.specs.Split.{split};
 
 use slice_group_by::laws::{each_pair_asked_once, equality_judges, sees_pieces};
@@ -64,6 +64,7 @@ pub fn walk_through<'a, T: PartialEq>(
 ) -> LinearGroup<'a, T>
     requires { length out.old ≡ length ends.now }
     ensures answers { map (option_map (λ group. group.now)) out.new ≡ pops (split T.eq xs.now) ends.now }
+    ensures left { split T.eq (groups_of result).remainder ≡ after_pops (split T.eq xs.now) ends.now }
     ensures asked { (groups_of result).remainder ≡ [] → result.judge.asked ≡ length xs.now - 1 }
 {
     let mut groups = LinearGroup::new(xs);

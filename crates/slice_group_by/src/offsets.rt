@@ -1,6 +1,7 @@
 //! Groups with the places at which they begin.
-ghost use Rattle.std.specs.Prelude.{◌≡◌, ℕ, ◌+◌, ◌<◌, ◌^◌, List, length, map, Some};
-ghost use Rattle.std.specs.Iterator.{Yields, at_most};
+ghost use Rattle.std.specs.Prelude.{◌≡◌, ℕ, ◌+◌, ◌<◌, ◌^◌, List, length, map, Some, IfSome};
+ghost use Rattle.std.specs.Iterator.{Yields, UpTo, at_most};
+ghost use Rattle.std.specs.Iterator.SizeHint.{IsWithinCount};
 ghost use Rattle.std.specs.List.{AllByRecursion};
 ghost use Rattle.std.proofs.lemmas.Iterator.{YieldsList};
 ghost use Rattle.sgb_search.specs.Calls.{Place, StandsAt};
@@ -104,6 +105,16 @@ impl<Q: Offsets + Drop> Iterator for WithOffsets<Q> {
         let offset = self.groups.offset();
         let group = self.groups.pop_front()?;
         Some((offset, group))
+    }
+
+    /// `(0, None)`, which says nothing of how many groups come.
+    #[inline]
+    fn size_hint(&self) -> (usize, Option<usize>)
+        ensures value { result ≡ (0, None) }
+        ensures lower { IsWithinCount result.0 (at_most (length (Q.left self.now.groups))) }
+        ensures upper { IfSome result.1 (UpTo (at_most (length (Q.left self.now.groups)))) }
+    {
+        (0, None)
     }
 }
 
