@@ -9,34 +9,15 @@
 mod tests;
 
 use std::io;
-use std::io::{BufRead, BufReader};
+use std::io::BufReader;
 use std::process::ExitCode;
-use test_replay::lines::{Tally, replay};
+use test_replay::run::run;
 
 fn main(rt: HostRuntime) -> io::Result<ExitCode> {
-    let mut status = ExitCode::SUCCESS;
-    let mut tallies = Tally::all();
-    let lines = BufReader::new(rt.alloc(), rt.reader())?.lines(rt.alloc());
-    for (number, line) in (1..u64::MAX).zip(lines) {
-        let line = line?;
-        match replay(rt.alloc(), &line) {
-            Ok((kind, same)) => {
-                for tally in &mut tallies {
-                    tally.note(kind, same);
-                }
-                if !same {
-                    println!(rt; "line {number} is not the same: {line}")?;
-                    status = ExitCode::FAILURE;
-                }
-            }
-            Err(error) => {
-                println!(rt; "line {number}: {error}")?;
-                return Ok(ExitCode::FAILURE);
-            }
-        }
+    let input = BufReader::new(rt.alloc(), rt.reader())?;
+    if run(rt.alloc(), input, &mut io::writer(&rt))? {
+        Ok(ExitCode::SUCCESS)
+    } else {
+        Ok(ExitCode::FAILURE)
     }
-    for tally in tallies {
-        println!(rt; "{tally}")?;
-    }
-    Ok(status)
 }

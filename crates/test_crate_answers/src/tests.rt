@@ -3,6 +3,7 @@ use std::alloc::{AllocError, Global};
 use std::test::Fail;
 use test_replay::groups::Family;
 use test_replay::lines::{Kind, Tally, replay};
+use test_replay::run::run;
 
 // Whether each of the lines has a right form, and is, or is not, the same.
 fn are_all(alloc: Global, same: bool, lines: &[&str]) -> bool {
@@ -62,7 +63,14 @@ fn wrong_answers_are_seen_of_each_type(rt: HostRuntime) -> Result<(), Fail> {
 fn are_wrong_of_each_type(alloc: Global, judge: &str) -> Result<bool, AllocError> {
     let mut are_wrong = true;
     for family in ["linear", "binary", "exponential", "text"] {
-        for end in ["FF ab b,a -", "FF ab a,- -", "FF ab ab,- -", "L ab a -"] {
+        for end in [
+            "FF ab b,a -",
+            "FF ab a,- -",
+            "FF ab ab,- -",
+            "FF ab a,bc -",
+            "L ab a -",
+            "FL ab b,b -",
+        ] {
             let line = format!(in alloc; "{family} reading {judge} {end}")?;
             are_wrong &= are_all(alloc, false, &[&line]);
         }
@@ -75,6 +83,8 @@ fn are_wrong_of_each_type(alloc: Global, judge: &str) -> Result<bool, AllocError
             "F ab ## a -",
             "F ab ab a -",
             "L ab a# a -",
+            "FF ab ## a,bc -",
+            "FL ab ## b,b -",
         ] {
             let line = format!(in alloc; "{family} writing {judge} {end}")?;
             are_wrong &= are_all(alloc, false, &[&line]);
@@ -185,5 +195,39 @@ fn lines_that_are_not_the_same_are_counted(rt: HostRuntime) -> Result<(), Fail> 
         "linear: 0 lines, 0 the same\nbinary: 3 lines, 1 the same\nexponential: 0 lines, 0 the same
 text: 0 lines, 0 the same\nsearch: 1 lines, 0 the same\n";
     assert!(rt; said.as_str() == wanted);
+    Ok(())
+}
+
+#[test]
+fn a_replay_says_which_lines_are_not_the_same(rt: HostRuntime) -> Result<(), Fail> {
+    let same = b"search element c aacd found 2\n".as_slice();
+    let mut said = Vec::new(rt.alloc());
+    assert!(rt; run(rt.alloc(), same, &mut said)?);
+    let lines = b"search element c aacd found 2\n\
+        search element c aacd found 1\n\
+        text reading halves F ab a -\n"
+        .as_slice();
+    let mut said = Vec::new(rt.alloc());
+    assert!(rt; !run(rt.alloc(), lines, &mut said)?);
+    let wanted = b"line 2 is not the same: search element c aacd found 1\n\
+        linear: 0 lines, 0 the same\n\
+        binary: 0 lines, 0 the same\n\
+        exponential: 0 lines, 0 the same\n\
+        text: 1 lines, 1 the same\n\
+        search: 2 lines, 1 the same\n"
+        .as_slice();
+    assert_eq!(rt; said.as_slice(), wanted);
+    Ok(())
+}
+
+#[test]
+fn a_wrong_line_ends_a_replay(rt: HostRuntime) -> Result<(), Fail> {
+    let lines =
+        b"search element c aacd found 2\nno line\nsearch element c aacd found 1\n".as_slice();
+    let mut said = Vec::new(rt.alloc());
+    assert!(rt; !run(rt.alloc(), lines, &mut said)?);
+    let wanted = b"line 2: its type is missing or wrong\n".as_slice();
+    assert_eq!(rt; said.as_slice(), wanted);
+    assert!(rt; run(rt.alloc(), b"\xff\n".as_slice(), &mut said).is_err());
     Ok(())
 }

@@ -13,6 +13,7 @@ mod fields;
 pub mod groups;
 mod judges;
 pub mod lines;
+pub mod run;
 mod search;
 mod slices;
 mod texts;
