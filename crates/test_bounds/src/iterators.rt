@@ -96,6 +96,12 @@ pub fn groups_with_offsets<Q: Offsets + Drop>(groups: Q) -> WithOffsets<Q> {
     groups
 }
 
+fn is_any_queue<Q: GroupQueue>(_queue: &Q) {}
+
+pub fn queue_with_offsets<Q: Offsets + Drop>(groups: Q) {
+    is_any_queue(&with_offsets(groups));
+}
+
 pub fn groups_in_debug<T: fmt::Debug, P>(groups: &LinearGroupBy<'_, T, P>) {
     is_printed(groups);
 }

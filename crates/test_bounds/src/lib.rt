@@ -3,6 +3,7 @@
 //! a type, were a type's arguments in another order, or were a call not public, one of them would be refused.
 #![tactic(auto)]
 
+pub mod absent;
 pub mod examples;
 pub mod iterators;
 pub mod joins;

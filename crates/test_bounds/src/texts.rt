@@ -1,6 +1,8 @@
 //! Groups of texts.
+ghost use Rattle.std.specs.Prelude.{◌≡◌, [], ◌∷◌, drop};
 ghost use Rattle.std.specs.Str.{IsUtf8};
 ghost use Rattle.slice_group_by.specs.Calls.{IsCallableBy};
+ghost use Rattle.slice_group_by.specs.End.TheVariants.{Back, Front};
 ghost use Rattle.slice_group_by.specs.Judges.{by_char_key, by_char_predicate, char_key_judge, char_predicate_judge};
 ghost use Rattle.slice_group_by.specs.Split.{AreNeighbours};
 ghost use Rattle.slice_group_by.specs.Texts.{in_characters};
@@ -87,5 +89,32 @@ pub fn noted(bytes: &mut [u8]) -> Ended<'_, u8>
     if let Some(group) = groups.next_back() {
         groups.note_back(Ended::of(group));
     }
+    groups.finish()
+}
+
+// What is looked at, noted and given back asks nothing of a key.
+
+pub fn what_remains<F, K>(groups: &LinearStrGroupByKeyMut<'_, F, K>) -> usize {
+    groups.as_str().len()
+}
+
+pub fn noted_in_front<F: Drop, K>(
+    groups: &mut LinearStrGroupByKeyMut<'_, F, K>,
+    group: Ended<'_, u8>,
+)
+    requires { groups.old.loans.cuts ≡ (Front, group.name) ∷ drop 1 groups.old.loans.cuts }
+{
+    groups.note_front(group);
+}
+
+pub fn noted_behind<F: Drop, K>(groups: &mut LinearStrGroupByKeyMut<'_, F, K>, group: Ended<'_, u8>)
+    requires { groups.old.loans.cuts ≡ (Back, group.name) ∷ drop 1 groups.old.loans.cuts }
+{
+    groups.note_back(group);
+}
+
+pub fn finished<'a, F: Drop, K>(groups: LinearStrGroupByKeyMut<'a, F, K>) -> Ended<'a, u8>
+    requires { groups.loans.cuts ≡ [] }
+{
     groups.finish()
 }

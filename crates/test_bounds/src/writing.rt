@@ -1,7 +1,8 @@
 //! Groups of slices for writing.
-ghost use Rattle.std.specs.Prelude.{◌≡◌, List};
+ghost use Rattle.std.specs.Prelude.{◌≡◌, List, [], ◌∷◌, drop};
 ghost use Rattle.std.specs.Borrow.{MutBor};
 ghost use Rattle.slice_group_by.specs.Calls.{IsCallableBy};
+ghost use Rattle.slice_group_by.specs.End.TheVariants.{Back, Front};
 ghost use Rattle.slice_group_by.specs.Judges.{by_key, by_predicate, key_judge, predicate_judge};
 ghost use Rattle.slice_group_by.specs.Split.{AreApart, AreNeighbours};
 ghost use Rattle.slice_group_by.specs.declared.loans.Ended.{Ended as Token};
@@ -118,7 +119,7 @@ pub fn resolved<T, F: FnOnce(&mut [T]) -> Ended<'_, T>>(slice: &mut [T], f: F)
     requires callable { (p : MutBor (List T)) → p.now ≡ slice.old → F.pre f p }
     requires names { (p : MutBor (List T)) (l : Token T) → p.now ≡ slice.old → F.post f p l → l.name ≡ p.ghost_name }
 {
-    resolve(slice, f);
+    resolve::<T, F>(slice, f);
 }
 
 pub fn resolved_and_returned<T, R, F: FnOnce(&mut [T]) -> (Ended<'_, T>, R)>(
@@ -129,7 +130,7 @@ pub fn resolved_and_returned<T, R, F: FnOnce(&mut [T]) -> (Ended<'_, T>, R)>(
     requires names { (p : MutBor (List T)) (l : Token T) (r : R) → p.now ≡ slice.old → F.post f p (l, r)
         → l.name ≡ p.ghost_name }
 {
-    resolve_and_return(slice, f)
+    resolve_and_return::<T, R, F>(slice, f)
 }
 
 // The first group and the last one are noted, of elements that have no more than `==`.
@@ -142,6 +143,36 @@ pub fn noted<T: PartialEq>(slice: &mut [T]) -> Ended<'_, T> {
         groups.note_back(Ended::of(group));
     }
     groups.finish()
+}
+
+// What is noted and given back asks nothing of a key.
+
+pub fn noted_in_front<T, F: Drop, K>(
+    groups: &mut BinaryGroupByKeyMut<'_, T, F, K>,
+    group: Ended<'_, T>,
+)
+    requires { groups.old.loans.cuts ≡ (Front, group.name) ∷ drop 1 groups.old.loans.cuts }
+{
+    groups.note_front(group);
+}
+
+pub fn noted_behind<T, F: Drop, K>(
+    groups: &mut BinaryGroupByKeyMut<'_, T, F, K>,
+    group: Ended<'_, T>,
+)
+    requires { groups.old.loans.cuts ≡ (Back, group.name) ∷ drop 1 groups.old.loans.cuts }
+{
+    groups.note_back(group);
+}
+
+pub fn finished<'a, T, F: Drop, K>(groups: BinaryGroupByKeyMut<'a, T, F, K>) -> Ended<'a, T>
+    requires { groups.loans.cuts ≡ [] }
+{
+    groups.finish()
+}
+
+pub fn last_group<'a, T: PartialEq>(groups: LinearGroupMut<'a, T>) -> Option<&'a mut [T]> {
+    groups.last()
 }
 
 pub fn remaining<T: PartialEq>(slice: &mut [T]) -> &mut [T] {

@@ -145,7 +145,7 @@ pub(super) fn come_from_front<F: Family>(case: Case) -> bool {
             return false;
         }
     }
-    queue.pop_front().is_none() && queue.pop_front().is_none() && queue.pop_back().is_none()
+    [queue.pop_front(), queue.pop_front(), queue.pop_back()] == [None; 3]
 }
 
 /// Whether calls at the back give the groups, the last one first, and then nothing comes at either end.
@@ -156,17 +156,23 @@ pub(super) fn come_from_back<F: Family>(case: Case) -> bool {
             return false;
         }
     }
-    queue.pop_back().is_none() && queue.pop_back().is_none() && queue.pop_front().is_none()
+    [queue.pop_back(), queue.pop_back(), queue.pop_front()] == [None; 3]
 }
 
 /// Whether calls at both ends in turn give three groups, the first, the last and the middle one, and then nothing.
 pub(super) fn come_from_both_ends<F: Family>(case: Case) -> bool {
     let mut queue = F::over(case.slice);
-    queue.pop_front() == case.groups.first().copied()
-        && queue.pop_back() == case.groups.last().copied()
-        && queue.pop_front() == case.groups.get(1).copied()
-        && queue.pop_back().is_none()
-        && queue.pop_front().is_none()
+    let given = [
+        queue.pop_front(),
+        queue.pop_back(),
+        queue.pop_front(),
+        queue.pop_back(),
+        queue.pop_front(),
+    ];
+    match case.groups {
+        [first, middle, last] => given == [Some(*first), Some(*last), Some(*middle), None, None],
+        _ => false,
+    }
 }
 
 /// Whether `last` gives the last group, or nothing where there is none.

@@ -21,6 +21,12 @@ fn groups_begin_at_their_rows(rt: HostRuntime) {
 }
 
 #[test]
+fn groups_with_offsets_are_counted(rt: HostRuntime) {
+    let slice = [1, 1, 1, 3, 3, 2, 2, 2];
+    assert_eq!(rt; with_offsets(LinearGroup::new(&slice)).count(), 3);
+}
+
+#[test]
 fn the_offset_stays_past_the_end(rt: HostRuntime) {
     let mut groups = LinearGroup::new(&[1, 1, 2]);
     let first = groups.offset();

@@ -1,7 +1,7 @@
-//! How much iterators for reading take: the input, two places in it and the closure.
+//! How much iterators for reading take: the input, two places in it and the closure; joins: the sides and the closures.
 use slice_group_by::{
     BinaryGroupBy, ExponentialGroup, ExponentialGroupByKey, LinearGroup, LinearNumberGroup,
-    LinearStrGroup, LinearStrGroupByKey,
+    LinearStrGroup, LinearStrGroupByKey, MergeJoin, MergeJoinBy, WithOffsets,
 };
 
 // A closure of sixteen bytes.
@@ -31,4 +31,17 @@ const _: () = prove!(size_of::<LinearStrGroup<'static>>() == size_of::<(&str, us
 const _: () = prove!(
     size_of::<LinearStrGroupByKey<'static, Held, [u8; 9]>>()
         == size_of::<(&str, usize, usize, Held)>()
+);
+
+const _: () = prove!(
+    size_of::<WithOffsets<LinearGroup<'static, u32>>>() == size_of::<(&[u32], usize, usize)>()
+);
+
+const _: () = prove!(
+    size_of::<MergeJoin<'static, u32, u8, Held, (), [u8; 9]>>()
+        == size_of::<(&[u32], &[u8], Held)>()
+);
+
+const _: () = prove!(
+    size_of::<MergeJoinBy<'static, u32, u8, Held>>() == size_of::<(&[u32], &[u8], Held)>()
 );

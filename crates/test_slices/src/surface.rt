@@ -6,6 +6,7 @@ use slice_group_by::{
     WithOffsets, refute, with_offsets,
 };
 use std::alloc::Allocator;
+use std::cell::Cell;
 use std::convert::AsSlice;
 use std::test::Fail;
 use test_calls::writes;
@@ -47,6 +48,55 @@ fn an_own_holder_has_the_methods(rt: HostRuntime) {
         }
     }
     assert_eq!(rt; row.elems, [7, 1, 7, 2]);
+}
+
+// A holder that counts how often it was asked for its elements.
+#[derive(Drop)]
+struct Counted {
+    elems: [u8; 3],
+    asked: Cell<u32>,
+}
+
+impl AsSlice<u8> for Counted {
+    ghost items = { λ counted. counted.elems };
+
+    fn as_slice(&self) -> &[u8] {
+        self.asked.set(self.asked.get().wrapping_add(1));
+        self.elems.as_slice()
+    }
+}
+
+impl Elements<u8> for Counted {}
+
+// Whether it was asked once for these groups.
+fn once<G: Drop>(counted: &Counted, _groups: G) -> bool {
+    counted.asked.replace(0) == 1
+}
+
+fn equal(a: &u8, b: &u8) -> bool {
+    a == b
+}
+
+fn itself(x: &u8) -> u8 {
+    *x
+}
+
+#[test]
+fn a_holder_is_asked_once(rt: HostRuntime) {
+    let row = Counted {
+        elems: [1, 1, 2],
+        asked: Cell::new(0),
+    };
+    assert!(rt; once(&row, row.linear_group()));
+    assert!(rt; once(&row, row.linear_group_by(equal)));
+    assert!(rt; once(&row, row.linear_group_by_key(itself)));
+    assert!(rt; once(&row, row.binary_group()));
+    assert!(rt; once(&row, row.binary_group_by(equal)));
+    assert!(rt; once(&row, row.binary_group_by_key(itself)));
+    assert!(rt; once(&row, row.exponential_group()));
+    assert!(rt; once(&row, row.exponential_group_by(equal)));
+    assert!(rt; once(&row, row.exponential_group_by_key(itself)));
+    assert!(rt; once(&row, row.linear_number_group()));
 }
 
 // A vector of any allocator.

@@ -1,12 +1,12 @@
 //! The examples whose contracts bound a number of calls give the number itself: calls are counted here once more, in a cell.
 use example_counts::counts::{
     binary_questions, exponential_keys_of_rev, exponential_questions, first_exponential_group,
-    longest_and_binary_keys,
+    longest_and_binary_keys, walk_binary,
 };
 use example_counts::joins::Entry;
 use example_counts::searches::{keys_of_search, questions_of_search};
 use slice_group_by::{
-    BinaryGroupBy, BinaryGroupByKey, ExponentialGroupBy, ExponentialGroupByKey,
+    BinaryGroupBy, BinaryGroupByKey, End, ExponentialGroupBy, ExponentialGroupByKey,
     exponential_search_by, exponential_search_by_key,
 };
 use std::cell::Cell;
@@ -26,6 +26,18 @@ fn tens(calls: &Cell<usize>, elem: &u32) -> u32 {
 fn of_binary(xs: &[u32]) -> usize {
     let calls = Cell::new(0usize);
     for _ in BinaryGroupBy::new(xs, |a, b| equal(&calls, a, b)) {}
+    calls.get()
+}
+
+fn of_calls(xs: &[u32], ends: &[End]) -> usize {
+    let calls = Cell::new(0usize);
+    let mut groups = BinaryGroupBy::new(xs, |a, b| equal(&calls, a, b));
+    for end in ends {
+        let _ = match end {
+            End::Front => groups.next(),
+            End::Back => groups.next_back(),
+        };
+    }
     calls.get()
 }
 
@@ -77,6 +89,9 @@ fn walks_are_counted_whole(rt: HostRuntime) {
             of_exponential_keys_from_the_back(xs),
         ];
         assert_eq!(rt; of_examples(xs), calls);
+        let ends = [End::Back, End::Front, End::Front, End::Back];
+        let mut out: [Option<&[u32]>; 4] = [None; 4];
+        assert_eq!(rt; walk_binary(xs, &ends, &mut out), of_calls(xs, &ends));
     }
 }
 

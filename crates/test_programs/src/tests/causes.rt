@@ -1,6 +1,8 @@
 //! Reads, writes and flushes that fail by each error that there is: the status is 1, and a line says by which.
 use crate::tests::checks::{Check, holds_of_all};
-use crate::tests::programs::{Program, UniqCount, owned, ran, ran_over};
+use crate::tests::programs::{
+    GroupedReport, IndexReader, Program, RunLengthCoder, TableJoin, UniqCount, owned, ran, ran_over,
+};
 use std::alloc::{AllocError, Global};
 use std::io;
 use std::io::{BufReader, Error, ErrorKind, Read, Write};
@@ -251,23 +253,33 @@ impl Check for WritesNoMore {
     }
 }
 
-// Whether writes that are interrupted, each at another byte, are made again, so that all is written.
+// Whether writes that are interrupted, each at another byte, are made again, so that all is written and complained of.
+fn writes_again<P: Program>(alloc: Global, words: &[&str], input: &[u8]) -> Result<bool, Fail> {
+    let whole = ran::<P>(alloc, words, input)?;
+    let words = owned(alloc, words)?;
+    let mut are_whole = true;
+    for cause in INTERRUPTIONS {
+        for room in 0..whole.out.len().max(whole.complaints.len()) {
+            let mut out = failing_output(alloc, room, Some(cause), None);
+            let mut complaints = failing_output(alloc, room, Some(cause), None);
+            let status = P::run(alloc, &words, input, &mut out, &mut complaints);
+            let done = (status, out.taken.as_slice(), complaints.taken.as_slice());
+            are_whole &= done == whole.all();
+        }
+    }
+    Ok(are_whole)
+}
+
+// Of a run, of `--help`, and of arguments that are not known.
 struct WritesAgain;
 
 impl Check for WritesAgain {
     fn holds<P: Program>(alloc: Global, words: &[&str], input: &[u8]) -> Result<bool, Fail> {
-        let whole = ran::<P>(alloc, words, input)?;
-        let words = owned(alloc, words)?;
-        let mut are_whole = true;
-        for cause in INTERRUPTIONS {
-            for room in 0..whole.out.len() {
-                let mut out = failing_output(alloc, room, Some(cause), None);
-                let mut complaints = Vec::new(alloc);
-                let status = P::run(alloc, &words, input, &mut out, &mut complaints);
-                are_whole &= (status, out.taken.as_slice(), complaints.as_slice()) == whole.all();
-            }
-        }
-        Ok(are_whole)
+        Ok(
+            writes_again::<P>(alloc, words, input)?
+                && writes_again::<P>(alloc, &["--help"], b"")?
+                && writes_again::<P>(alloc, &["no argument"], b"")?,
+        )
     }
 }
 
@@ -305,5 +317,17 @@ fn flushes_that_fail_are_said(rt: HostRuntime) -> Result<(), Fail> {
 #[test]
 fn writes_that_are_interrupted_are_made_again(rt: HostRuntime) -> Result<(), Fail> {
     assert!(rt; holds_of_all::<WritesAgain>(rt.alloc())?);
+    Ok(())
+}
+
+#[test]
+fn complaints_that_are_interrupted_are_made_again(rt: HostRuntime) -> Result<(), Fail> {
+    let alloc = rt.alloc();
+    assert!(rt; writes_again::<RunLengthCoder>(alloc, &["decode"], b"no run\n1 97\n")?);
+    assert!(rt; writes_again::<GroupedReport>(alloc, &[], b"no row\n1,2\n")?);
+    assert!(rt; writes_again::<TableJoin>(alloc, &[], b"no row\na,1\n--\na,2\n")?);
+    assert!(rt; writes_again::<TableJoin>(alloc, &[], b"a,1\n")?);
+    assert!(rt; writes_again::<IndexReader>(alloc, &[], b"no row\n1,2\n--\n1\n")?);
+    assert!(rt; writes_again::<IndexReader>(alloc, &[], b"1,2\n")?);
     Ok(())
 }

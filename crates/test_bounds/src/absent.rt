@@ -1,0 +1,96 @@
+//! What the types are not: of a known length, and, of joins, walked from the back. Here all types have methods of these
+//! names, which do nothing. Were there one of the library too, a call would fit two and be refused, or give something.
+use slice_group_by::{
+    BinaryGroup, BinaryGroupBy, BinaryGroupByKeyMut, BinaryGroupMut, ExponentialGroup,
+    ExponentialGroupByKey, ExponentialGroupByMut, ExponentialGroupMut, Lanes, LinearGroup,
+    LinearGroupBy, LinearGroupByKeyMut, LinearGroupMut, LinearNumberGroup, LinearNumberGroupMut,
+    LinearStrGroup, LinearStrGroupBy, LinearStrGroupByKeyMut, LinearStrGroupMut, MergeJoin,
+    MergeJoinBy, WithOffsets,
+};
+use std::cmp::Ordering;
+
+trait OfNoLength {
+    fn len(&self) {}
+}
+
+impl<G> OfNoLength for G {}
+
+trait FromTheFrontAlone {
+    fn next_back(&self) {}
+}
+
+impl<J> FromTheFrontAlone for J {}
+
+pub fn of_equal_elements<T: PartialEq>(
+    linear: &LinearGroup<'_, T>,
+    binary: &BinaryGroup<'_, T>,
+    exponential: &ExponentialGroup<'_, T>,
+    linear_mut: &LinearGroupMut<'_, T>,
+    binary_mut: &BinaryGroupMut<'_, T>,
+    exponential_mut: &ExponentialGroupMut<'_, T>,
+) {
+    let () = linear.len();
+    let () = binary.len();
+    let () = exponential.len();
+    let () = linear_mut.len();
+    let () = binary_mut.len();
+    let () = exponential_mut.len();
+}
+
+pub fn of_slices<T, P: FnMut(&T, &T) -> bool, F: FnMut(&T) -> K, K: PartialEq + Drop>(
+    linear: &LinearGroupBy<'_, T, P>,
+    binary: &BinaryGroupBy<'_, T, P>,
+    exponential: &ExponentialGroupByKey<'_, T, F, K>,
+    linear_mut: &LinearGroupByKeyMut<'_, T, F, K>,
+    binary_mut: &BinaryGroupByKeyMut<'_, T, F, K>,
+    exponential_mut: &ExponentialGroupByMut<'_, T, P>,
+) {
+    let () = linear.len();
+    let () = binary.len();
+    let () = exponential.len();
+    let () = linear_mut.len();
+    let () = binary_mut.len();
+    let () = exponential_mut.len();
+}
+
+pub fn of_numbers<T: Lanes>(
+    groups: &LinearNumberGroup<'_, T>,
+    groups_mut: &LinearNumberGroupMut<'_, T>,
+) {
+    let () = groups.len();
+    let () = groups_mut.len();
+}
+
+pub fn of_texts<P: FnMut(char, char) -> bool, F: FnMut(char) -> K, K: PartialEq + Drop>(
+    groups: &LinearStrGroup<'_>,
+    groups_by: &LinearStrGroupBy<'_, P>,
+    groups_mut: &LinearStrGroupMut<'_>,
+    groups_by_mut: &LinearStrGroupByKeyMut<'_, F, K>,
+) {
+    let () = groups.len();
+    let () = groups_by.len();
+    let () = groups_mut.len();
+    let () = groups_by_mut.len();
+}
+
+pub fn of_offsets<T: PartialEq>(
+    groups: &WithOffsets<LinearGroup<'_, T>>,
+    groups_of_text: &WithOffsets<LinearStrGroup<'_>>,
+) {
+    let () = groups.len();
+    let () = groups_of_text.len();
+}
+
+pub fn of_joins<
+    A,
+    B,
+    FA: Fn(&A) -> K,
+    FB: Fn(&B) -> K,
+    K: Ord + Drop,
+    F: FnMut(&A, &B) -> Ordering,
+>(by_key: &MergeJoin<'_, A, B, FA, FB, K>, by: &MergeJoinBy<'_, A, B, F>) {
+    let () = by_key.len();
+    let () = by_key.next_back();
+    let () = by.len();
+    let () = by.next_back();
+}
