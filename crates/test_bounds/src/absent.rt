@@ -16,7 +16,7 @@ trait OfNoLength {
 impl<G> OfNoLength for G {}
 
 trait FromTheFrontAlone {
-    fn next_back(&self) {}
+    fn next_back(&mut self) {}
 }
 
 impl<J> FromTheFrontAlone for J {}
@@ -88,7 +88,7 @@ pub fn of_joins<
     FB: Fn(&B) -> K,
     K: Ord + Drop,
     F: FnMut(&A, &B) -> Ordering,
->(by_key: &MergeJoin<'_, A, B, FA, FB, K>, by: &MergeJoinBy<'_, A, B, F>) {
+>(by_key: &mut MergeJoin<'_, A, B, FA, FB, K>, by: &mut MergeJoinBy<'_, A, B, F>) {
     let () = by_key.len();
     let () = by_key.next_back();
     let () = by.len();
