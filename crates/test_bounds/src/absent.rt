@@ -21,6 +21,12 @@ trait FromTheFrontAlone {
 
 impl<J> FromTheFrontAlone for J {}
 
+macro_rules! are_of_no_length {
+    ($($groups:ident),*) => {
+        $(let () = $groups.len();)*
+    };
+}
+
 pub fn of_equal_elements<T: PartialEq>(
     linear: &LinearGroup<'_, T>,
     binary: &BinaryGroup<'_, T>,
@@ -29,12 +35,14 @@ pub fn of_equal_elements<T: PartialEq>(
     binary_mut: &BinaryGroupMut<'_, T>,
     exponential_mut: &ExponentialGroupMut<'_, T>,
 ) {
-    let () = linear.len();
-    let () = binary.len();
-    let () = exponential.len();
-    let () = linear_mut.len();
-    let () = binary_mut.len();
-    let () = exponential_mut.len();
+    are_of_no_length!(
+        linear,
+        binary,
+        exponential,
+        linear_mut,
+        binary_mut,
+        exponential_mut
+    );
 }
 
 pub fn of_slices<T, P: FnMut(&T, &T) -> bool, F: FnMut(&T) -> K, K: PartialEq + Drop>(
@@ -45,20 +53,21 @@ pub fn of_slices<T, P: FnMut(&T, &T) -> bool, F: FnMut(&T) -> K, K: PartialEq + 
     binary_mut: &BinaryGroupByKeyMut<'_, T, F, K>,
     exponential_mut: &ExponentialGroupByMut<'_, T, P>,
 ) {
-    let () = linear.len();
-    let () = binary.len();
-    let () = exponential.len();
-    let () = linear_mut.len();
-    let () = binary_mut.len();
-    let () = exponential_mut.len();
+    are_of_no_length!(
+        linear,
+        binary,
+        exponential,
+        linear_mut,
+        binary_mut,
+        exponential_mut
+    );
 }
 
 pub fn of_numbers<T: Lanes>(
     groups: &LinearNumberGroup<'_, T>,
     groups_mut: &LinearNumberGroupMut<'_, T>,
 ) {
-    let () = groups.len();
-    let () = groups_mut.len();
+    are_of_no_length!(groups, groups_mut);
 }
 
 pub fn of_texts<P: FnMut(char, char) -> bool, F: FnMut(char) -> K, K: PartialEq + Drop>(
@@ -67,18 +76,14 @@ pub fn of_texts<P: FnMut(char, char) -> bool, F: FnMut(char) -> K, K: PartialEq 
     groups_mut: &LinearStrGroupMut<'_>,
     groups_by_mut: &LinearStrGroupByKeyMut<'_, F, K>,
 ) {
-    let () = groups.len();
-    let () = groups_by.len();
-    let () = groups_mut.len();
-    let () = groups_by_mut.len();
+    are_of_no_length!(groups, groups_by, groups_mut, groups_by_mut);
 }
 
 pub fn of_offsets<T: PartialEq>(
     groups: &WithOffsets<LinearGroup<'_, T>>,
     groups_of_text: &WithOffsets<LinearStrGroup<'_>>,
 ) {
-    let () = groups.len();
-    let () = groups_of_text.len();
+    are_of_no_length!(groups, groups_of_text);
 }
 
 pub fn of_joins<
@@ -89,8 +94,7 @@ pub fn of_joins<
     K: Ord + Drop,
     F: FnMut(&A, &B) -> Ordering,
 >(by_key: &mut MergeJoin<'_, A, B, FA, FB, K>, by: &mut MergeJoinBy<'_, A, B, F>) {
-    let () = by_key.len();
+    are_of_no_length!(by_key, by);
     let () = by_key.next_back();
-    let () = by.len();
     let () = by.next_back();
 }
