@@ -1,5 +1,6 @@
 -- Groups with the offsets at which they begin in the input: elements of a slice, bytes of a text.
 use Rattle.std.specs.Prelude.{◌≡◌, ℕ, ◌+◌, ◌<◌, ◌^◌, List, [], ◌∷◌, length, Option, option_map, IfSome}
+use Rattle.std.specs.Iterator.{Count, at_most}
 use Rattle.sgb_search.specs.Calls.{Place, StandsAt, place_after}
 use Rattle.sgb_search.specs.Split.{put_at}
 use Rattle.sgb_search.specs.declared.end.End.{End}
@@ -14,6 +15,10 @@ with_offsets n (part ∷ parts) = (n, part) ∷ with_offsets (n + length part) p
 -- the groups whose offsets are given
 abbrev pub groups_under : {Q : Type 0} → WithOffsets Q → Q
 groups_under s = s.groups
+
+-- no more groups come than units are left
+abbrev pub offsets_to_come : {Q U : Type 0} → (Q → List U) → WithOffsets Q → Count
+offsets_to_come left s = at_most (length (left (groups_under s)))
 
 module _ {Q I U : Type 0} (place : Q → Place U) (left : Q → List U) (units : I → List U) where
   -- a group comes off what remains at the end e, and what remains then begins behind one that came off the front

@@ -1,6 +1,6 @@
 //! Groups with the places at which they begin.
 ghost use Rattle.std.specs.Prelude.{◌≡◌, ℕ, ◌+◌, ◌<◌, ◌^◌, List, length, map, Some, IfSome};
-ghost use Rattle.std.specs.Iterator.{Yields, UpTo, at_most};
+ghost use Rattle.std.specs.Iterator.{Yields, UpTo};
 ghost use Rattle.std.specs.Iterator.SizeHint.{IsWithinCount};
 ghost use Rattle.std.specs.List.{AllByRecursion};
 ghost use Rattle.std.proofs.lemmas.Iterator.{YieldsList};
@@ -8,7 +8,7 @@ ghost use Rattle.sgb_search.specs.Calls.{Place, StandsAt};
 ghost use Rattle.sgb_search.specs.declared.end.End.{End};
 ghost use Rattle.slice_group_by.specs.declared.offsets.WithOffsets.{WithOffsets};
 ghost use Rattle.sgb_search.specs.declared.end.End.TheVariants.{Front, Back};
-ghost use Rattle.slice_group_by.specs.Offsets.{TakesUnits, GivesWithOffset, groups_under, with_offsets};
+ghost use Rattle.slice_group_by.specs.Offsets.{TakesUnits, GivesWithOffset, groups_under, offsets_to_come, with_offsets};
 
 use crate::laws::queue::GroupQueue;
 use sgb_groups::group_end::GroupEnd;
@@ -91,13 +91,13 @@ pub fn groups_stand<Q: Offsets>(_groups: &WithOffsets<Q>)
 impl<Q: Offsets + Drop> Iterator for WithOffsets<Q> {
     type Item = (usize, Q::Item);
 
-    ghost use Rattle.slice_group_by.specs.Offsets.{GivesWithOffset, groups_under};
+    ghost use Rattle.slice_group_by.specs.Offsets.{GivesWithOffset, groups_under, offsets_to_come};
 
     ghost can_next = { λ s. Q.can_pop s.groups };
 
     ghost next_gives = { GivesWithOffset Q.place Q.left Q.units Q.gives Front };
 
-    ghost remaining = { λ s. at_most (length (Q.left s.groups)) };
+    ghost remaining = { offsets_to_come Q.left };
 
     /// The first group of the remainder, and where it begins, or `None` where nothing remains.
     #[inline]
@@ -111,8 +111,8 @@ impl<Q: Offsets + Drop> Iterator for WithOffsets<Q> {
     #[inline]
     fn size_hint(&self) -> (usize, Option<usize>)
         ensures value { result ≡ (0, None) }
-        ensures lower { IsWithinCount result.0 (at_most (length (Q.left self.now.groups))) }
-        ensures upper { IfSome result.1 (UpTo (at_most (length (Q.left self.now.groups)))) }
+        ensures lower { IsWithinCount result.0 (offsets_to_come Q.left self.now) }
+        ensures upper { IfSome result.1 (UpTo (offsets_to_come Q.left self.now)) }
     {
         (0, None)
     }

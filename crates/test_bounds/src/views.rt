@@ -39,16 +39,14 @@ pub fn remainder<'a, T, F: Drop, K>(groups: LinearGroupByKeyMut<'a, T, F, K>) ->
 }
 
 // What is shown asks of the elements alone that they can be.
-fn is_shown<D: Debug>(_groups: &D) {}
+fn are_shown<A: Debug, B: Debug, C: Debug>(_linear: &A, _binary: &B, _exponential: &C) {}
 
 pub fn shown_by_predicate<T: Debug, P>(
     linear: &LinearGroupBy<'_, T, P>,
     binary: &BinaryGroupBy<'_, T, P>,
     exponential: &ExponentialGroupBy<'_, T, P>,
 ) {
-    is_shown(linear);
-    is_shown(binary);
-    is_shown(exponential);
+    are_shown(linear, binary, exponential);
 }
 
 pub fn shown_by_key<T: Debug, F, K>(
@@ -56,9 +54,7 @@ pub fn shown_by_key<T: Debug, F, K>(
     binary: &BinaryGroupByKey<'_, T, F, K>,
     exponential: &ExponentialGroupByKey<'_, T, F, K>,
 ) {
-    is_shown(linear);
-    is_shown(binary);
-    is_shown(exponential);
+    are_shown(linear, binary, exponential);
 }
 
 pub fn shown_by_predicate_for_writing<T: Debug, P>(
@@ -66,9 +62,7 @@ pub fn shown_by_predicate_for_writing<T: Debug, P>(
     binary: &BinaryGroupByMut<'_, T, P>,
     exponential: &ExponentialGroupByMut<'_, T, P>,
 ) {
-    is_shown(linear);
-    is_shown(binary);
-    is_shown(exponential);
+    are_shown(linear, binary, exponential);
 }
 
 pub fn shown_by_key_for_writing<T: Debug, F, K>(
@@ -76,9 +70,7 @@ pub fn shown_by_key_for_writing<T: Debug, F, K>(
     binary: &BinaryGroupByKeyMut<'_, T, F, K>,
     exponential: &ExponentialGroupByKeyMut<'_, T, F, K>,
 ) {
-    is_shown(linear);
-    is_shown(binary);
-    is_shown(exponential);
+    are_shown(linear, binary, exponential);
 }
 
 // Groups of elements that may be shared between threads may be sent to others and shared, as their slice may.
@@ -99,6 +91,8 @@ pub fn shorter_lived<'a, 'b: 'a>(
 fn is_cloned<C: Clone>(_part: &C) {}
 
 fn is_compared<C: PartialEq>(_part: &C) {}
+
+fn is_shown<C: Debug>(_part: &C) {}
 
 pub fn parts_cloned<L: Clone, R: Clone>(part: &EitherOrBoth<L, R>) {
     is_cloned(part);
