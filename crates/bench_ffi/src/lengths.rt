@@ -27,11 +27,10 @@ impl<'a> Group for &'a str {
     }
 }
 
-impl<'a> Group for &'a mut str {
-    #[inline]
-    fn len(&self) -> usize {
-        str::len(self)
-    }
+/// The number of some lengths, with one more behind them.
+#[inline]
+pub fn with_len(sum: usize, len: usize) -> usize {
+    sum.wrapping_mul(31).wrapping_add(len)
 }
 
 /// Those of all groups that come, in order.
@@ -44,7 +43,7 @@ where
 {
     let mut sum = 0usize;
     for group in groups {
-        sum = sum.wrapping_mul(31).wrapping_add(group.len());
+        sum = with_len(sum, group.len());
     }
     sum
 }

@@ -11,7 +11,7 @@ mod lengths;
 #[cfg(test)]
 mod tests;
 
-use lengths::lengths;
+use lengths::{lengths, with_len};
 use slice_group_by::{
     BinaryGroup, BinaryGroupBy, BinaryGroupByKey, BinaryGroupByKeyMut, BinaryGroupByMut,
     BinaryGroupMut, ExponentialGroup, ExponentialGroupBy, ExponentialGroupByKey,
@@ -29,11 +29,11 @@ macro_rules! lengths_from_both_ends {
             let Some(first) = groups.next() else {
                 break;
             };
-            sum = sum.wrapping_mul(31).wrapping_add(first.len());
+            sum = with_len(sum, first.len());
             let Some(last) = groups.next_back() else {
                 break;
             };
-            sum = sum.wrapping_mul(31).wrapping_add(last.len());
+            sum = with_len(sum, last.len());
         }
         sum
     }};
@@ -305,7 +305,11 @@ pub extern "C" fn text_front(bytes: &[u8]) -> usize
 pub extern "C" fn text_mut_front(bytes: &mut [u8]) -> usize
     requires { IsUtf8 bytes.old }
 {
-    lengths(LinearStrGroupMut::new(bytes))
+    let mut sum = 0usize;
+    for group in LinearStrGroupMut::new(bytes) {
+        sum = with_len(sum, group.len());
+    }
+    sum
 }
 
 #[unsafe(no_mangle)]
@@ -319,7 +323,11 @@ pub extern "C" fn text_back(bytes: &[u8]) -> usize
 pub extern "C" fn text_mut_back(bytes: &mut [u8]) -> usize
     requires { IsUtf8 bytes.old }
 {
-    lengths(LinearStrGroupMut::new(bytes).rev())
+    let mut sum = 0usize;
+    for group in LinearStrGroupMut::new(bytes).rev() {
+        sum = with_len(sum, group.len());
+    }
+    sum
 }
 
 /// Where each of the keys is found, or belongs, in one number.
@@ -330,7 +338,7 @@ pub extern "C" fn searches(xs: &[u32], keys: &[u32]) -> usize {
         let place = match exponential_search(xs, key) {
             Ok(place) | Err(place) => place,
         };
-        sum = sum.wrapping_mul(31).wrapping_add(place);
+        sum = with_len(sum, place);
     }
     sum
 }
@@ -340,8 +348,8 @@ pub extern "C" fn searches(xs: &[u32], keys: &[u32]) -> usize {
 pub extern "C" fn merge_join(left: &[u32], right: &[u32]) -> usize {
     let mut sum = 0usize;
     for (group, partner) in MergeJoin::new(left, itself, right, itself) {
-        sum = sum.wrapping_mul(31).wrapping_add(group.len());
-        sum = sum.wrapping_mul(31).wrapping_add(partner.len());
+        sum = with_len(sum, group.len());
+        sum = with_len(sum, partner.len());
     }
     sum
 }
@@ -352,8 +360,8 @@ pub extern "C" fn merge_join_by(left: &[u32], right: &[u32]) -> usize {
     let mut sum = 0usize;
     for part in MergeJoinBy::new(left, right, |x: &u32, y: &u32| x.cmp(y)) {
         if let Some((group, partner)) = part.both() {
-            sum = sum.wrapping_mul(31).wrapping_add(group.len());
-            sum = sum.wrapping_mul(31).wrapping_add(partner.len());
+            sum = with_len(sum, group.len());
+            sum = with_len(sum, partner.len());
         }
     }
     sum
