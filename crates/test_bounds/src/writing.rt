@@ -145,11 +145,6 @@ pub fn noted<T: PartialEq>(slice: &mut [T]) -> Ended<'_, T> {
     groups.finish()
 }
 
-/// What was given up of elements that live longer is what was given up of these.
-pub fn shorter_lived<'a, 'b: 'a>(ended: Ended<'a, &'static str>) -> Ended<'a, &'b str> {
-    ended
-}
-
 // What is noted and given back asks nothing of a key.
 
 pub fn noted_in_front<T, F: Drop, K>(
