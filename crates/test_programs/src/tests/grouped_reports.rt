@@ -68,18 +68,25 @@ fn keeps_a_block_of_rows_of_one_department(rt: HostRuntime) -> Result<(), Fail> 
     Ok(())
 }
 
-// (were each row sorted with those before it from a block on, this would take minutes)
+// A fold leaves fewer entries, since each second row is of one department. The first comes where a block is kept, and the
+// second where as many more and twice the departments are.
 #[test]
 fn folds_few_times_for_many_departments(rt: HostRuntime) -> Result<(), Fail> {
     let mut sums = Sums::new(rt.alloc());
-    for department in 0..300_000 {
+    let mut folds = 0usize;
+    for number in 0..300_000 {
         let row = Entry {
-            department,
+            department: if number % 2 == 0 { 0 } else { number },
             amount: 1,
         };
+        let before = sums.kept_len();
         sums.add(rt.alloc(), row)?;
+        if sums.kept_len() < before {
+            folds = folds.wrapping_add(1);
+        }
     }
-    assert_eq!(rt; sums.report(rt.alloc())?.len(), 300_000);
+    assert_eq!(rt; folds, 2);
+    assert_eq!(rt; sums.report(rt.alloc())?.len(), 150_001);
     Ok(())
 }
 
