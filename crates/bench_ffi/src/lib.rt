@@ -7,11 +7,9 @@
 ghost use Rattle.std.specs.Prelude.{◌≡◌};
 ghost use Rattle.std.specs.Str.{IsUtf8};
 
-mod lengths;
 #[cfg(test)]
 mod tests;
 
-use lengths::{lengths, with_len};
 use slice_group_by::{
     BinaryGroup, BinaryGroupBy, BinaryGroupByKey, BinaryGroupByKeyMut, BinaryGroupByMut,
     BinaryGroupMut, ExponentialGroup, ExponentialGroupBy, ExponentialGroupByKey,
@@ -21,6 +19,16 @@ use slice_group_by::{
     exponential_search,
 };
 
+macro_rules! lengths {
+    ($groups:expr) => {{
+        let mut sum = 0usize;
+        for group in $groups {
+            sum = sum.wrapping_mul(31).wrapping_add(group.len());
+        }
+        sum
+    }};
+}
+
 macro_rules! lengths_from_both_ends {
     ($groups:expr, $most:expr) => {{
         let mut groups = $groups;
@@ -29,11 +37,11 @@ macro_rules! lengths_from_both_ends {
             let Some(first) = groups.next() else {
                 break;
             };
-            sum = with_len(sum, first.len());
+            sum = sum.wrapping_mul(31).wrapping_add(first.len());
             let Some(last) = groups.next_back() else {
                 break;
             };
-            sum = with_len(sum, last.len());
+            sum = sum.wrapping_mul(31).wrapping_add(last.len());
         }
         sum
     }};
@@ -76,258 +84,250 @@ fn text_of(bytes: &[u8]) -> &str
 
 #[unsafe(no_mangle)]
 pub extern "C" fn linear_front(xs: &[u32]) -> usize {
-    lengths(LinearGroup::new(xs))
+    lengths!(LinearGroup::new(xs))
 }
 
 #[unsafe(no_mangle)]
 pub extern "C" fn linear_mut_front(xs: &mut [u32]) -> usize {
-    lengths(LinearGroupMut::new(xs))
+    lengths!(LinearGroupMut::new(xs))
 }
 
 #[unsafe(no_mangle)]
 pub extern "C" fn linear_back(xs: &[u32]) -> usize {
-    lengths(LinearGroup::new(xs).rev())
+    lengths!(LinearGroup::new(xs).rev())
 }
 
 #[unsafe(no_mangle)]
 pub extern "C" fn linear_mut_back(xs: &mut [u32]) -> usize {
-    lengths(LinearGroupMut::new(xs).rev())
+    lengths!(LinearGroupMut::new(xs).rev())
 }
 
 #[unsafe(no_mangle)]
 pub extern "C" fn number_u8_front(xs: &[u8]) -> usize {
-    lengths(LinearNumberGroup::new(xs))
+    lengths!(LinearNumberGroup::new(xs))
 }
 
 #[unsafe(no_mangle)]
 pub extern "C" fn number_u8_back(xs: &[u8]) -> usize {
-    lengths(LinearNumberGroup::new(xs).rev())
+    lengths!(LinearNumberGroup::new(xs).rev())
 }
 
 #[unsafe(no_mangle)]
 pub extern "C" fn number_u32_front(xs: &[u32]) -> usize {
-    lengths(LinearNumberGroup::new(xs))
+    lengths!(LinearNumberGroup::new(xs))
 }
 
 #[unsafe(no_mangle)]
 pub extern "C" fn number_u32_back(xs: &[u32]) -> usize {
-    lengths(LinearNumberGroup::new(xs).rev())
+    lengths!(LinearNumberGroup::new(xs).rev())
 }
 
 #[unsafe(no_mangle)]
 pub extern "C" fn number_u64_front(xs: &[u64]) -> usize {
-    lengths(LinearNumberGroup::new(xs))
+    lengths!(LinearNumberGroup::new(xs))
 }
 
 #[unsafe(no_mangle)]
 pub extern "C" fn number_u64_back(xs: &[u64]) -> usize {
-    lengths(LinearNumberGroup::new(xs).rev())
+    lengths!(LinearNumberGroup::new(xs).rev())
 }
 
 #[unsafe(no_mangle)]
 pub extern "C" fn number_i32_front(xs: &[i32]) -> usize {
-    lengths(LinearNumberGroup::new(xs))
+    lengths!(LinearNumberGroup::new(xs))
 }
 
 #[unsafe(no_mangle)]
 pub extern "C" fn number_i32_back(xs: &[i32]) -> usize {
-    lengths(LinearNumberGroup::new(xs).rev())
+    lengths!(LinearNumberGroup::new(xs).rev())
 }
 
 #[unsafe(no_mangle)]
 pub extern "C" fn linear_by_front(xs: &[u32]) -> usize {
-    lengths(LinearGroupBy::new(xs, equal))
+    lengths!(LinearGroupBy::new(xs, equal))
 }
 
 #[unsafe(no_mangle)]
 pub extern "C" fn linear_by_mut_front(xs: &mut [u32]) -> usize {
-    lengths(LinearGroupByMut::new(xs, equal))
+    lengths!(LinearGroupByMut::new(xs, equal))
 }
 
 #[unsafe(no_mangle)]
 pub extern "C" fn linear_by_back(xs: &[u32]) -> usize {
-    lengths(LinearGroupBy::new(xs, equal).rev())
+    lengths!(LinearGroupBy::new(xs, equal).rev())
 }
 
 #[unsafe(no_mangle)]
 pub extern "C" fn linear_by_mut_back(xs: &mut [u32]) -> usize {
-    lengths(LinearGroupByMut::new(xs, equal).rev())
+    lengths!(LinearGroupByMut::new(xs, equal).rev())
 }
 
 #[unsafe(no_mangle)]
 pub extern "C" fn linear_by_key_front(xs: &[u32]) -> usize {
-    lengths(LinearGroupByKey::new(xs, key))
+    lengths!(LinearGroupByKey::new(xs, key))
 }
 
 #[unsafe(no_mangle)]
 pub extern "C" fn linear_by_key_mut_front(xs: &mut [u32]) -> usize {
-    lengths(LinearGroupByKeyMut::new(xs, key))
+    lengths!(LinearGroupByKeyMut::new(xs, key))
 }
 
 #[unsafe(no_mangle)]
 pub extern "C" fn linear_by_key_back(xs: &[u32]) -> usize {
-    lengths(LinearGroupByKey::new(xs, key).rev())
+    lengths!(LinearGroupByKey::new(xs, key).rev())
 }
 
 #[unsafe(no_mangle)]
 pub extern "C" fn linear_by_key_mut_back(xs: &mut [u32]) -> usize {
-    lengths(LinearGroupByKeyMut::new(xs, key).rev())
+    lengths!(LinearGroupByKeyMut::new(xs, key).rev())
 }
 
 #[unsafe(no_mangle)]
 pub extern "C" fn binary_front(xs: &[u32]) -> usize {
-    lengths(BinaryGroup::new(xs))
+    lengths!(BinaryGroup::new(xs))
 }
 
 #[unsafe(no_mangle)]
 pub extern "C" fn binary_mut_front(xs: &mut [u32]) -> usize {
-    lengths(BinaryGroupMut::new(xs))
+    lengths!(BinaryGroupMut::new(xs))
 }
 
 #[unsafe(no_mangle)]
 pub extern "C" fn binary_back(xs: &[u32]) -> usize {
-    lengths(BinaryGroup::new(xs).rev())
+    lengths!(BinaryGroup::new(xs).rev())
 }
 
 #[unsafe(no_mangle)]
 pub extern "C" fn binary_mut_back(xs: &mut [u32]) -> usize {
-    lengths(BinaryGroupMut::new(xs).rev())
+    lengths!(BinaryGroupMut::new(xs).rev())
 }
 
 #[unsafe(no_mangle)]
 pub extern "C" fn binary_by_front(xs: &[u32]) -> usize {
-    lengths(BinaryGroupBy::new(xs, equal))
+    lengths!(BinaryGroupBy::new(xs, equal))
 }
 
 #[unsafe(no_mangle)]
 pub extern "C" fn binary_by_mut_front(xs: &mut [u32]) -> usize {
-    lengths(BinaryGroupByMut::new(xs, equal))
+    lengths!(BinaryGroupByMut::new(xs, equal))
 }
 
 #[unsafe(no_mangle)]
 pub extern "C" fn binary_by_back(xs: &[u32]) -> usize {
-    lengths(BinaryGroupBy::new(xs, equal).rev())
+    lengths!(BinaryGroupBy::new(xs, equal).rev())
 }
 
 #[unsafe(no_mangle)]
 pub extern "C" fn binary_by_mut_back(xs: &mut [u32]) -> usize {
-    lengths(BinaryGroupByMut::new(xs, equal).rev())
+    lengths!(BinaryGroupByMut::new(xs, equal).rev())
 }
 
 #[unsafe(no_mangle)]
 pub extern "C" fn binary_by_key_front(xs: &[u32]) -> usize {
-    lengths(BinaryGroupByKey::new(xs, key))
+    lengths!(BinaryGroupByKey::new(xs, key))
 }
 
 #[unsafe(no_mangle)]
 pub extern "C" fn binary_by_key_mut_front(xs: &mut [u32]) -> usize {
-    lengths(BinaryGroupByKeyMut::new(xs, key))
+    lengths!(BinaryGroupByKeyMut::new(xs, key))
 }
 
 #[unsafe(no_mangle)]
 pub extern "C" fn binary_by_key_back(xs: &[u32]) -> usize {
-    lengths(BinaryGroupByKey::new(xs, key).rev())
+    lengths!(BinaryGroupByKey::new(xs, key).rev())
 }
 
 #[unsafe(no_mangle)]
 pub extern "C" fn binary_by_key_mut_back(xs: &mut [u32]) -> usize {
-    lengths(BinaryGroupByKeyMut::new(xs, key).rev())
+    lengths!(BinaryGroupByKeyMut::new(xs, key).rev())
 }
 
 #[unsafe(no_mangle)]
 pub extern "C" fn exponential_front(xs: &[u32]) -> usize {
-    lengths(ExponentialGroup::new(xs))
+    lengths!(ExponentialGroup::new(xs))
 }
 
 #[unsafe(no_mangle)]
 pub extern "C" fn exponential_mut_front(xs: &mut [u32]) -> usize {
-    lengths(ExponentialGroupMut::new(xs))
+    lengths!(ExponentialGroupMut::new(xs))
 }
 
 #[unsafe(no_mangle)]
 pub extern "C" fn exponential_back(xs: &[u32]) -> usize {
-    lengths(ExponentialGroup::new(xs).rev())
+    lengths!(ExponentialGroup::new(xs).rev())
 }
 
 #[unsafe(no_mangle)]
 pub extern "C" fn exponential_mut_back(xs: &mut [u32]) -> usize {
-    lengths(ExponentialGroupMut::new(xs).rev())
+    lengths!(ExponentialGroupMut::new(xs).rev())
 }
 
 #[unsafe(no_mangle)]
 pub extern "C" fn exponential_by_front(xs: &[u32]) -> usize {
-    lengths(ExponentialGroupBy::new(xs, equal))
+    lengths!(ExponentialGroupBy::new(xs, equal))
 }
 
 #[unsafe(no_mangle)]
 pub extern "C" fn exponential_by_mut_front(xs: &mut [u32]) -> usize {
-    lengths(ExponentialGroupByMut::new(xs, equal))
+    lengths!(ExponentialGroupByMut::new(xs, equal))
 }
 
 #[unsafe(no_mangle)]
 pub extern "C" fn exponential_by_back(xs: &[u32]) -> usize {
-    lengths(ExponentialGroupBy::new(xs, equal).rev())
+    lengths!(ExponentialGroupBy::new(xs, equal).rev())
 }
 
 #[unsafe(no_mangle)]
 pub extern "C" fn exponential_by_mut_back(xs: &mut [u32]) -> usize {
-    lengths(ExponentialGroupByMut::new(xs, equal).rev())
+    lengths!(ExponentialGroupByMut::new(xs, equal).rev())
 }
 
 #[unsafe(no_mangle)]
 pub extern "C" fn exponential_by_key_front(xs: &[u32]) -> usize {
-    lengths(ExponentialGroupByKey::new(xs, key))
+    lengths!(ExponentialGroupByKey::new(xs, key))
 }
 
 #[unsafe(no_mangle)]
 pub extern "C" fn exponential_by_key_mut_front(xs: &mut [u32]) -> usize {
-    lengths(ExponentialGroupByKeyMut::new(xs, key))
+    lengths!(ExponentialGroupByKeyMut::new(xs, key))
 }
 
 #[unsafe(no_mangle)]
 pub extern "C" fn exponential_by_key_back(xs: &[u32]) -> usize {
-    lengths(ExponentialGroupByKey::new(xs, key).rev())
+    lengths!(ExponentialGroupByKey::new(xs, key).rev())
 }
 
 #[unsafe(no_mangle)]
 pub extern "C" fn exponential_by_key_mut_back(xs: &mut [u32]) -> usize {
-    lengths(ExponentialGroupByKeyMut::new(xs, key).rev())
+    lengths!(ExponentialGroupByKeyMut::new(xs, key).rev())
 }
 
 #[unsafe(no_mangle)]
 pub extern "C" fn text_front(bytes: &[u8]) -> usize
     requires { IsUtf8 bytes.now }
 {
-    lengths(LinearStrGroup::new(text_of(bytes)))
+    lengths!(LinearStrGroup::new(text_of(bytes)))
 }
 
 #[unsafe(no_mangle)]
 pub extern "C" fn text_mut_front(bytes: &mut [u8]) -> usize
     requires { IsUtf8 bytes.old }
 {
-    let mut sum = 0usize;
-    for group in LinearStrGroupMut::new(bytes) {
-        sum = with_len(sum, group.len());
-    }
-    sum
+    lengths!(LinearStrGroupMut::new(bytes))
 }
 
 #[unsafe(no_mangle)]
 pub extern "C" fn text_back(bytes: &[u8]) -> usize
     requires { IsUtf8 bytes.now }
 {
-    lengths(LinearStrGroup::new(text_of(bytes)).rev())
+    lengths!(LinearStrGroup::new(text_of(bytes)).rev())
 }
 
 #[unsafe(no_mangle)]
 pub extern "C" fn text_mut_back(bytes: &mut [u8]) -> usize
     requires { IsUtf8 bytes.old }
 {
-    let mut sum = 0usize;
-    for group in LinearStrGroupMut::new(bytes).rev() {
-        sum = with_len(sum, group.len());
-    }
-    sum
+    lengths!(LinearStrGroupMut::new(bytes).rev())
 }
 
 /// Where each of the keys is found, or belongs, in one number.
@@ -338,7 +338,7 @@ pub extern "C" fn searches(xs: &[u32], keys: &[u32]) -> usize {
         let place = match exponential_search(xs, key) {
             Ok(place) | Err(place) => place,
         };
-        sum = with_len(sum, place);
+        sum = sum.wrapping_mul(31).wrapping_add(place);
     }
     sum
 }
@@ -348,8 +348,8 @@ pub extern "C" fn searches(xs: &[u32], keys: &[u32]) -> usize {
 pub extern "C" fn merge_join(left: &[u32], right: &[u32]) -> usize {
     let mut sum = 0usize;
     for (group, partner) in MergeJoin::new(left, itself, right, itself) {
-        sum = with_len(sum, group.len());
-        sum = with_len(sum, partner.len());
+        sum = sum.wrapping_mul(31).wrapping_add(group.len());
+        sum = sum.wrapping_mul(31).wrapping_add(partner.len());
     }
     sum
 }
@@ -360,8 +360,8 @@ pub extern "C" fn merge_join_by(left: &[u32], right: &[u32]) -> usize {
     let mut sum = 0usize;
     for part in MergeJoinBy::new(left, right, |x: &u32, y: &u32| x.cmp(y)) {
         if let Some((group, partner)) = part.both() {
-            sum = with_len(sum, group.len());
-            sum = with_len(sum, partner.len());
+            sum = sum.wrapping_mul(31).wrapping_add(group.len());
+            sum = sum.wrapping_mul(31).wrapping_add(partner.len());
         }
     }
     sum
