@@ -103,30 +103,38 @@ pub fn row_7<W: Write>(out: &mut W) -> Result<bool, Error> {
     write_groups(out, 7, &answers, &ROW_7, counted)
 }
 
+// Whether the first group ends at a local boundary.
+fn is_local() -> bool {
+    let slice = [1, 2, 1];
+    matches!(BinaryGroup::new(&slice).next(), Some([1] | [1, 2, 1]))
+}
+
 /// A slice that is not grouped: the group ends at a local boundary.
 pub fn row_11<W: Write>(out: &mut W) -> Result<bool, Error> {
-    let slice = [1, 2, 1];
-    match BinaryGroup::new(&slice).next() {
-        Some([1] | [1, 2, 1]) => {
-            writeln!(out, "row 11: boundary")?;
-            Ok(true)
-        }
-        _ => differs(out, 11),
+    if !is_local() {
+        return differs(out, 11);
     }
+    writeln!(out, "row 11: boundary")?;
+    Ok(true)
+}
+
+// How many units remain before a call, how many its group has, and whether another gives one.
+fn units() -> (usize, usize, bool) {
+    const UNITS: &[()] = &[(), (), (), (), ()];
+    let mut groups = UNITS.binary_group_by(|a, b| a == b);
+    let remaining = groups.remainder_len();
+    let len = groups.next().map_or(0, |group| group.len());
+    (remaining, len, groups.next().is_some())
 }
 
 /// Elements that take no bytes.
 pub fn row_12<W: Write>(out: &mut W) -> Result<bool, Error> {
-    let slice: &[()] = &[(), (), (), (), ()];
-    let mut groups = slice.binary_group_by(|a, b| a == b);
-    let len = groups.remainder_len();
-    match (groups.next(), groups.next()) {
-        (Some(group), None) if len == 5 && group.len() == 5 => {
-            writeln!(out, "row 12: {len} {} None", group.len())?;
-            Ok(true)
-        }
-        _ => differs(out, 12),
+    let (remaining, len, goes_on) = units();
+    if remaining != 5 || len != 5 || goes_on {
+        return differs(out, 12);
     }
+    writeln!(out, "row 12: {remaining} {len} None")?;
+    Ok(true)
 }
 
 /// A short group after a long one, from the back: galloping from its own end asks little.

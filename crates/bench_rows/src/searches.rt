@@ -22,35 +22,48 @@ const PAIRS: [(i32, i32); 13] = [
     (4, 55),
 ];
 
+// Where three numbers are, and one in nothing.
+fn by_element() -> [Result<usize, usize>; 4] {
+    [
+        exponential_search(&NUMBERS, &13),
+        exponential_search(&NUMBERS, &4),
+        exponential_search(&NUMBERS, &100),
+        exponential_search(&[], &1),
+    ]
+}
+
+fn second(pair: &(i32, i32)) -> i32 {
+    pair.1
+}
+
+// Where pairs of three numbers are.
+fn by_key() -> [Result<usize, usize>; 3] {
+    [
+        exponential_search_by_key(&PAIRS, &13, second),
+        exponential_search_by_key(&PAIRS, &4, second),
+        exponential_search_by_key(&PAIRS, &100, second),
+    ]
+}
+
+// Whether one of several is found, both by element and by key.
+fn one_of_several_is_found() -> bool {
+    matches!(exponential_search(&NUMBERS, &1), Ok(1..=4))
+        && matches!(exponential_search_by_key(&PAIRS, &1, second), Ok(1..=4))
+}
+
 /// Searches by element, with the questions that a comparator counts, and by key.
 pub fn row_8<W: Write>(out: &mut W) -> Result<bool, Error> {
-    let slice = NUMBERS;
-    let none: [i32; 0] = [];
-    let found = [
-        exponential_search(&slice, &13),
-        exponential_search(&slice, &4),
-        exponential_search(&slice, &100),
-        exponential_search(&none, &1),
-    ];
-    let one = exponential_search(&slice, &1);
-    let pairs = PAIRS;
-    let by_key = [
-        exponential_search_by_key(&pairs, &13, |&(_, b)| b),
-        exponential_search_by_key(&pairs, &4, |&(_, b)| b),
-        exponential_search_by_key(&pairs, &100, |&(_, b)| b),
-    ];
-    let one_by_key = exponential_search_by_key(&pairs, &1, |&(_, b)| b);
+    let (found, keyed) = (by_element(), by_key());
     let counted = count(13) <= 9 && count(4) <= 9 && count(100) <= 9;
     if found != [Ok(9), Err(7), Err(13), Err(0)]
-        || by_key != [Ok(9), Err(7), Err(13)]
-        || !matches!(one, Ok(1..=4))
-        || !matches!(one_by_key, Ok(1..=4))
+        || keyed != [Ok(9), Err(7), Err(13)]
+        || !one_of_several_is_found()
         || !counted
     {
         return differs(out, 8);
     }
     let [a, b, c, d] = found;
-    let [e, f, g] = by_key;
+    let [e, f, g] = keyed;
     writeln!(
         out,
         "row 8: {a:?} {b:?} {c:?} in 1..=4 {d:?} {e:?} {f:?} {g:?} in 1..=4"

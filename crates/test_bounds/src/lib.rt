@@ -11,5 +11,6 @@ pub mod laws;
 pub mod reading;
 pub mod searches;
 pub mod texts;
+pub mod threads;
 pub mod views;
 pub mod writing;

@@ -1,8 +1,7 @@
 //! Groups by a key, case by case.
 use slice_group_by::End::{self, Back, Front};
 use slice_group_by::{BinaryGroupByKey, ExponentialGroupByKey};
-use std::test::Fail;
-use test_calls::{answers, views, writes};
+use test_calls::{answers, views};
 
 fn tens(x: &i32) -> i32 {
     *x / 10
@@ -18,43 +17,56 @@ const TWO_TENS: [(End, Option<&'static [i32]>); 3] = [
     (Front, None),
 ];
 
+const TENS: [i32; 5] = [10, 11, 20, 21, 22];
+
+fn binary_by_tens() -> bool {
+    answers(BinaryGroupByKey::new(&TENS, tens), &TWO_TENS)
+}
+
+fn exponential_by_tens() -> bool {
+    answers(ExponentialGroupByKey::new(&TENS, tens), &TWO_TENS)
+}
+
 #[test]
 fn by_tens(rt: HostRuntime) {
-    let slice = [10, 11, 20, 21, 22];
-    assert!(rt; answers(BinaryGroupByKey::new(&slice, tens), &TWO_TENS));
-    assert!(rt; answers(ExponentialGroupByKey::new(&slice, tens), &TWO_TENS));
+    assert!(rt; binary_by_tens());
+    assert!(rt; exponential_by_tens());
+}
+
+const THREE: [i32; 8] = [1, 1, 1, 3, 3, 2, 2, 2];
+
+// What the views show once the outer groups have come: the middle one.
+fn binary_shows_the_middle() -> bool {
+    let mut groups = BinaryGroupByKey::new(&THREE, itself);
+    let _ = (groups.next(), groups.next_back());
+    views!(groups) == (&[3, 3], 2, false, (1, Some(2)))
+}
+
+fn exponential_shows_the_middle() -> bool {
+    let mut groups = ExponentialGroupByKey::new(&THREE, itself);
+    let _ = (groups.next(), groups.next_back());
+    views!(groups) == (&[3, 3], 2, false, (1, Some(2)))
+}
+
+// And once all have come: nothing.
+fn binary_shows_nothing() -> bool {
+    let mut groups = BinaryGroupByKey::new(&THREE, itself);
+    let _ = (groups.next(), groups.next(), groups.next_back());
+    views!(groups) == (&[], 0, true, (0, Some(0)))
+}
+
+fn exponential_shows_nothing() -> bool {
+    let mut groups = ExponentialGroupByKey::new(&THREE, itself);
+    let _ = (groups.next(), groups.next(), groups.next_back());
+    views!(groups) == (&[], 0, true, (0, Some(0)))
 }
 
 #[test]
-fn binary_views(rt: HostRuntime) -> Result<(), Fail> {
-    let slice = [1, 1, 1, 3, 3, 2, 2, 2];
-    let mut groups = BinaryGroupByKey::new(&slice, itself);
-    let outer = (groups.next(), groups.next_back());
-    assert!(rt; outer == (Some(&[1, 1, 1]), Some(&[2, 2, 2])));
-    assert!(rt; views!(groups) == (&[3, 3], 2, false, (1, Some(2))));
-    let wanted = "BinaryGroupByKey { remainder: [3, 3] }";
-    assert!(rt; writes(rt.alloc(), &groups, wanted)?);
-    assert!(rt; groups.next() == Some(&[3, 3]));
-    assert!(rt; views!(groups) == (&[], 0, true, (0, Some(0))));
-    let wanted = "BinaryGroupByKey { remainder: [] }";
-    assert!(rt; writes(rt.alloc(), &groups, wanted)?);
-    Ok(())
-}
-
-#[test]
-fn exponential_views(rt: HostRuntime) -> Result<(), Fail> {
-    let slice = [1, 1, 1, 3, 3, 2, 2, 2];
-    let mut groups = ExponentialGroupByKey::new(&slice, itself);
-    let outer = (groups.next(), groups.next_back());
-    assert!(rt; outer == (Some(&[1, 1, 1]), Some(&[2, 2, 2])));
-    assert!(rt; views!(groups) == (&[3, 3], 2, false, (1, Some(2))));
-    let wanted = "ExponentialGroupByKey { remainder: [3, 3] }";
-    assert!(rt; writes(rt.alloc(), &groups, wanted)?);
-    assert!(rt; groups.next() == Some(&[3, 3]));
-    assert!(rt; views!(groups) == (&[], 0, true, (0, Some(0))));
-    let wanted = "ExponentialGroupByKey { remainder: [] }";
-    assert!(rt; writes(rt.alloc(), &groups, wanted)?);
-    Ok(())
+fn views_of_the_remainder(rt: HostRuntime) {
+    assert!(rt; binary_shows_the_middle());
+    assert!(rt; exponential_shows_the_middle());
+    assert!(rt; binary_shows_nothing());
+    assert!(rt; exponential_shows_nothing());
 }
 
 // How often the key function is called for the first group, and on what last.
@@ -85,11 +97,11 @@ fn exponential_calls(slice: &[u8]) -> (usize, [u8; 2]) {
 // Two calls a question, on the outermost element first.
 #[test]
 fn calls_of_the_key_function(rt: HostRuntime) {
-    assert!(rt;
-        binary_calls(&[10, 11]) == (2, [10, 11]) && exponential_calls(&[10, 11]) == (2, [10, 11])
-    );
-    let slice = [10, 11, 20, 21, 22];
-    for (calls, latest) in [binary_calls(&slice), exponential_calls(&slice)] {
+    const TWO: [u8; 2] = [10, 11];
+    const FIVE: [u8; 5] = [10, 11, 20, 21, 22];
+    assert_eq!(rt; binary_calls(&TWO), (2, [10, 11]));
+    assert_eq!(rt; exponential_calls(&TWO), (2, [10, 11]));
+    for (calls, latest) in [binary_calls(&FIVE), exponential_calls(&FIVE)] {
         assert!(rt; calls > 0 && calls % 2 == 0 && latest[0] == 10);
     }
 }

@@ -11,25 +11,46 @@ use slice_group_by::{
 };
 use std::cell::Cell;
 
-#[test]
-fn groups_call_equality_alone(rt: HostRuntime) {
+// How many groups of equal elements each family finds.
+fn groups_of_elements(xs: &[Counted<'_>]) -> [usize; 3] {
+    [
+        LinearGroup::new(xs).count(),
+        BinaryGroup::new(xs).count(),
+        ExponentialGroup::new(xs).rev().count(),
+    ]
+}
+
+// The same of equal keys.
+fn groups_of_keys(xs: &[Counted<'_>]) -> [usize; 3] {
+    [
+        LinearGroupByKey::new(xs, itself).count(),
+        BinaryGroupByKey::new(xs, itself).rev().count(),
+        ExponentialGroupByKey::new(xs, itself).count(),
+    ]
+}
+
+// What both are over six elements, and how often `==` and `cmp` were called.
+fn groups_and_calls(by_key: bool) -> ([usize; 3], usize, usize) {
     let (equalities, orders) = (Cell::new(0usize), Cell::new(0usize));
     let xs = [1, 1, 2, 3, 3, 3].map(|number| Counted {
         number,
         equalities: &equalities,
         orders: &orders,
     });
-    let counts = [
-        LinearGroup::new(&xs).count(),
-        BinaryGroup::new(&xs).count(),
-        ExponentialGroup::new(&xs).rev().count(),
-        LinearGroupByKey::new(&xs, |x| *x).count(),
-        BinaryGroupByKey::new(&xs, |x| *x).rev().count(),
-        ExponentialGroupByKey::new(&xs, |x| *x).count(),
-    ];
-    assert_eq!(rt; counts, [3; 6]);
-    assert!(rt; equalities.get() > 0);
-    assert_eq!(rt; orders.get(), 0);
+    let counts = if by_key {
+        groups_of_keys(&xs)
+    } else {
+        groups_of_elements(&xs)
+    };
+    (counts, equalities.get(), orders.get())
+}
+
+#[test]
+fn groups_call_equality_alone(rt: HostRuntime) {
+    for by_key in [false, true] {
+        let (counts, equalities, orders) = groups_and_calls(by_key);
+        assert!(rt; counts == [3; 3] && equalities > 0 && orders == 0);
+    }
 }
 
 // How often `cmp` was called since the last time, or more than it is anywhere, where `==` was.
@@ -102,29 +123,41 @@ fn of_points<'a>(xs: &[Counted<'a>], sought: Counted<'a>) -> (usize, usize) {
     (point, orders(sought))
 }
 
-// The form that is lent its comparator asks what is proved; the others ask as often.
-#[test]
-fn searches_call_order_alone_and_alike(rt: HostRuntime) {
+// Whether all forms ask as often as the one that is lent its comparator, which asks what is proved, and none calls `==`.
+fn ask_alike(xs: &[Counted<'_>], sought: Counted<'_>) -> bool {
+    let lent = by_lent_comparator(xs, sought);
+    let points = of_points(xs, sought);
+    lent.0 < 1_000
+        && lent.1 < 1_000
+        && by_value(xs, sought) == lent
+        && by_comparator(xs, sought) == lent
+        && by_key(xs, sought) == lent
+        && by_lent_key(xs, sought) == lent
+        && points.0 == points.1
+        && points.0 < 1_000
+}
+
+// Over the first of nine elements.
+fn ask_alike_over(len: usize, number: u32) -> bool {
     let (equalities, orders) = (Cell::new(0usize), Cell::new(0usize));
     let xs = [1, 1, 2, 3, 3, 3, 5, 5, 7].map(|number| Counted {
         number,
         equalities: &equalities,
         orders: &orders,
     });
-    for len in 0..=xs.len() {
-        let xs = xs.get(..len).unwrap_or(&[]);
+    let sought = Counted {
+        number,
+        equalities: &equalities,
+        orders: &orders,
+    };
+    xs.get(..len).is_some_and(|xs| ask_alike(xs, sought))
+}
+
+#[test]
+fn searches_call_order_alone_and_alike(rt: HostRuntime) {
+    for len in 0..10 {
         for number in 0..9 {
-            let sought = Counted {
-                number,
-                equalities: &equalities,
-                orders: &orders,
-            };
-            let lent = by_lent_comparator(xs, sought);
-            assert!(rt; lent.0 < 1_000 && lent.1 < 1_000);
-            assert!(rt; by_value(xs, sought) == lent && by_comparator(xs, sought) == lent);
-            assert!(rt; by_key(xs, sought) == lent && by_lent_key(xs, sought) == lent);
-            let points = of_points(xs, sought);
-            assert!(rt; points.0 == points.1 && points.0 < 1_000);
+            assert!(rt; ask_alike_over(len, number));
         }
     }
 }

@@ -72,22 +72,21 @@ fn number<'a>(number: u32, calls: &'a Cell<usize>) -> Counted<'a> {
     }
 }
 
-#[test]
-fn compares_once_a_question(rt: HostRuntime) {
+// How often `==` is called for a new iterator, and for a call from the front, one from the back and `last`, and how long their groups
+// are.
+fn calls_and_groups() -> (usize, [(usize, usize); 3]) {
     let calls = Cell::new(0usize);
-    let slice = [
-        number(1, &calls),
-        number(1, &calls),
-        number(2, &calls),
-        number(3, &calls),
-        number(3, &calls),
-    ];
+    let slice = [1, 1, 2, 3, 3].map(|letter| number(letter, &calls));
     let mut groups = LinearGroup::new(&slice);
     let made = calls.get();
     let first = (len_of(groups.next()), calls.replace(0));
     let last = (len_of(groups.next_back()), calls.replace(0));
-    let rest = (len_of(groups.last()), calls.get());
-    assert!(rt; (made, first, last, rest) == (0, (2, 2), (2, 2), (1, 0)));
+    (made, [first, last, (len_of(groups.last()), calls.get())])
+}
+
+#[test]
+fn compares_once_a_question(rt: HostRuntime) {
+    assert_eq!(rt; calls_and_groups(), (0, [(2, 2), (2, 2), (1, 0)]));
 }
 
 // So many zeros, and ones after them.
@@ -95,14 +94,33 @@ pub(super) fn numbers(zeros: usize, calls: &Cell<usize>) -> [Counted<'_>; 1001] 
     array::from_fn(|place| number(if place < zeros { 0 } else { 1 }, calls))
 }
 
+// A call on groups over so many zeros and then ones: how long its group is, and how often `==` was called.
+macro_rules! len_and_calls {
+    ($call:ident, $zeros:expr) => {{
+        let calls = Cell::new(0usize);
+        let slice = numbers($zeros, &calls);
+        let len = len_of(LinearGroup::new(&slice).$call());
+        (len, calls.get())
+    }};
+}
+
+fn next(zeros: usize) -> (usize, usize) {
+    len_and_calls!(next, zeros)
+}
+
+fn next_back(zeros: usize) -> (usize, usize) {
+    len_and_calls!(next_back, zeros)
+}
+
+fn last(zeros: usize) -> (usize, usize) {
+    len_and_calls!(last, zeros)
+}
+
 #[test]
 fn compares_a_thousand(rt: HostRuntime) {
-    let calls = Cell::new(0usize);
-    let slice = numbers(1000, &calls);
-    assert!(rt; len_of(LinearGroup::new(&slice).next()) == 1000 && calls.replace(0) == 1000);
-    let slice = numbers(1, &calls);
-    assert!(rt; len_of(LinearGroup::new(&slice).next_back()) == 1000 && calls.replace(0) == 1000);
-    assert!(rt; len_of(LinearGroup::new(&slice).last()) == 1000 && calls.replace(0) == 1000);
+    assert_eq!(rt; next(1000), (1000, 1000));
+    assert_eq!(rt; next_back(1), (1000, 1000));
+    assert_eq!(rt; last(1), (1000, 1000));
 }
 
 #[test]

@@ -1,38 +1,60 @@
 //! How often `==` of the elements itself is called, which no contract can say.
-use crate::counted::{Counted, numbers};
+use crate::counted::numbers;
 use slice_group_by::{BinaryGroup, ExponentialGroup};
 use std::cell::Cell;
 use test_calls::len_of;
 
-// Whether the group is one of a thousand.
-fn is_thousand(group: Option<&[Counted<'_>]>) -> bool {
-    len_of(group) == 1000
+// A call on groups over so many zeros and then ones, a thousand and one in all: how long its group is, and how often `==` was called.
+macro_rules! len_and_calls {
+    ($groups:ident, $call:ident, $zeros:expr) => {{
+        let calls = Cell::new(0usize);
+        let slice = numbers($zeros, &calls);
+        let len = len_of($groups::new(&slice).$call());
+        (len, calls.get())
+    }};
+}
+
+fn binary_next(zeros: usize) -> (usize, usize) {
+    len_and_calls!(BinaryGroup, next, zeros)
+}
+
+fn binary_next_back(zeros: usize) -> (usize, usize) {
+    len_and_calls!(BinaryGroup, next_back, zeros)
+}
+
+fn binary_last(zeros: usize) -> (usize, usize) {
+    len_and_calls!(BinaryGroup, last, zeros)
+}
+
+fn exponential_next(zeros: usize) -> (usize, usize) {
+    len_and_calls!(ExponentialGroup, next, zeros)
+}
+
+fn exponential_next_back(zeros: usize) -> (usize, usize) {
+    len_and_calls!(ExponentialGroup, next_back, zeros)
+}
+
+fn exponential_last(zeros: usize) -> (usize, usize) {
+    len_and_calls!(ExponentialGroup, last, zeros)
 }
 
 #[test]
-fn thousand_first(rt: HostRuntime) {
-    let calls = Cell::new(0usize);
-    let slice = numbers(1000, &calls);
-    assert!(rt; is_thousand(BinaryGroup::new(&slice).next()) && calls.replace(0) <= 10);
-    assert!(rt; is_thousand(ExponentialGroup::new(&slice).next()) && calls.replace(0) <= 21);
-}
-
-#[test]
-fn thousand_last(rt: HostRuntime) {
-    let calls = Cell::new(0usize);
-    let slice = numbers(1, &calls);
-    assert!(rt; is_thousand(BinaryGroup::new(&slice).next_back()) && calls.replace(0) <= 10);
-    assert!(rt; is_thousand(BinaryGroup::new(&slice).last()) && calls.replace(0) <= 10);
-    assert!(rt; is_thousand(ExponentialGroup::new(&slice).next_back()) && calls.replace(0) <= 21);
-    assert!(rt; is_thousand(ExponentialGroup::new(&slice).last()) && calls.replace(0) <= 21);
+fn thousand_at_the_end_of_the_call(rt: HostRuntime) {
+    for (len, calls) in [binary_next(1000), binary_next_back(1), binary_last(1)] {
+        assert!(rt; len == 1000 && calls <= 10);
+    }
+    for (len, calls) in [
+        exponential_next(1000),
+        exponential_next_back(1),
+        exponential_last(1),
+    ] {
+        assert!(rt; len == 1000 && calls <= 21);
+    }
 }
 
 // By halving it would be ten calls.
 #[test]
 fn short_group_of_a_long_slice(rt: HostRuntime) {
-    let calls = Cell::new(0usize);
-    let slice = numbers(1, &calls);
-    let mut groups = ExponentialGroup::new(&slice);
-    assert!(rt; len_of(groups.next()) == 1);
-    assert!(rt; calls.get() <= 3);
+    let (len, calls) = exponential_next(1);
+    assert!(rt; len == 1 && calls <= 3);
 }

@@ -69,6 +69,23 @@ fn binary(rt: HostRuntime) {
     }
 }
 
+// The length and the questions of a group of so many at the front of twelve hundred, and of one at the back.
+fn exponential_at_front(g: usize) -> (usize, usize) {
+    let mut slice = [1usize; 1200];
+    slice.iter_mut().take(g).for_each(|number| *number = 0);
+    exponential_front(&slice)
+}
+
+fn exponential_at_back(g: usize) -> (usize, usize) {
+    let mut slice = [1usize; 1200];
+    slice
+        .iter_mut()
+        .rev()
+        .take(g)
+        .for_each(|number| *number = 2);
+    exponential_back(&slice)
+}
+
 #[test]
 fn exponential(rt: HostRuntime) {
     for (g, most) in [
@@ -82,14 +99,9 @@ fn exponential(rt: HostRuntime) {
         (14, 9),
         (1001, 21),
     ] {
-        assert!(rt; g < 1200);
-        let mut slice = [1usize; 1200];
-        slice[..g].fill(0);
-        let (len, questions) = exponential_front(&slice);
+        let (len, questions) = exponential_at_front(g);
         assert!(rt; len == g && questions <= most, "{questions} at {g}");
-        let mut slice = [1usize; 1200];
-        slice[1200 - g..].fill(2);
-        let (len, questions) = exponential_back(&slice);
+        let (len, questions) = exponential_at_back(g);
         assert!(rt; len == g && questions <= most, "{questions} at {g}");
     }
 }
@@ -106,12 +118,23 @@ fn thousand_first(rt: HostRuntime) {
     assert!(rt; len == 1 && questions <= 10);
 }
 
+const THREE: [usize; 8] = [1, 1, 1, 2, 2, 2, 3, 3];
+
+// How long the groups from both ends are, and how many questions were asked for each.
+fn three_of_binary() -> [(usize, usize); 3] {
+    let questions = Cell::new(0usize);
+    let mut groups = BinaryGroupBy::new(&THREE, |a, b| asks(&questions, a, b));
+    [
+        (len_of(groups.next()), questions.replace(0)),
+        (len_of(groups.next_back()), questions.replace(0)),
+        (len_of(groups.next()), questions.replace(0)),
+    ]
+}
+
 #[test]
 fn three_groups(rt: HostRuntime) {
-    let slice = [1, 1, 1, 2, 2, 2, 3, 3];
-    let questions = Cell::new(0usize);
-    let mut groups = BinaryGroupBy::new(&slice, |a, b| asks(&questions, a, b));
-    assert!(rt; groups.next() == Some(&[1, 1, 1]) && questions.replace(0) <= 3);
-    assert!(rt; groups.next_back() == Some(&[3, 3]) && questions.replace(0) <= 3);
-    assert!(rt; groups.next() == Some(&[2, 2, 2]) && questions.replace(0) <= 2);
+    let [first, last, middle] = three_of_binary();
+    assert!(rt; first.0 == 3 && first.1 <= 3);
+    assert!(rt; last.0 == 2 && last.1 <= 3);
+    assert!(rt; middle.0 == 3 && middle.1 <= 2);
 }

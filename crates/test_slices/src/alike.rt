@@ -35,13 +35,25 @@ where
     out
 }
 
+const THREE: [i32; 8] = [1, 1, 1, 2, 2, 2, 3, 3];
+
+fn five_of_linear(number: usize) -> [Option<&'static [i32]>; 5] {
+    five(LinearGroup::new(&THREE), number)
+}
+
+fn five_of_binary(number: usize) -> [Option<&'static [i32]>; 5] {
+    five(BinaryGroup::new(&THREE), number)
+}
+
+fn five_of_exponential(number: usize) -> [Option<&'static [i32]>; 5] {
+    five(ExponentialGroup::new(&THREE), number)
+}
+
 #[test]
 fn families_answer_alike(rt: HostRuntime) {
-    let slice = [1, 1, 1, 2, 2, 2, 3, 3];
     for number in 0..32 {
-        let linear = five(LinearGroup::new(&slice), number);
-        assert!(rt; five(BinaryGroup::new(&slice), number) == linear);
-        assert!(rt; five(ExponentialGroup::new(&slice), number) == linear);
+        assert!(rt; five_of_binary(number) == five_of_linear(number));
+        assert!(rt; five_of_exponential(number) == five_of_linear(number));
     }
 }
 
@@ -62,20 +74,50 @@ fn in_one_ten(a: &u8, b: &u8) -> bool {
     tens(a) == tens(b)
 }
 
+const TENS: &[u8] = &[10, 11, 20, 21, 22];
+
+const BY_TENS: [(End, Option<&'static [u8]>); 3] = [
+    (End::Front, Some(&[10, 11])),
+    (End::Back, Some(&[20, 21, 22])),
+    (End::Front, None),
+];
+
+const ONE_BY_ONE: [(End, Option<&'static [u8]>); 2] = [
+    (End::Front, Some(&[10])),
+    (End::Back, Some(&[22])),
+];
+
+fn binary_by_key() -> bool {
+    answers(TENS.binary_group_by_key(tens), &BY_TENS)
+}
+
+fn binary_by() -> bool {
+    answers(TENS.binary_group_by(in_one_ten), &BY_TENS)
+}
+
+fn exponential_by_key() -> bool {
+    answers(TENS.exponential_group_by_key(tens), &BY_TENS)
+}
+
+fn exponential_by() -> bool {
+    answers(TENS.exponential_group_by(in_one_ten), &BY_TENS)
+}
+
+fn binary() -> bool {
+    answers(TENS.binary_group(), &ONE_BY_ONE)
+}
+
+fn exponential() -> bool {
+    answers(TENS.exponential_group(), &ONE_BY_ONE)
+}
+
 // Each method once: with the tens until nothing remains, and with single numbers from both ends.
 #[test]
 fn methods(rt: HostRuntime) {
-    let slice: &[u8] = &[10, 11, 20, 21, 22];
-    let calls: [(End, Option<&[u8]>); 3] = [
-        (End::Front, Some(&[10, 11])),
-        (End::Back, Some(&[20, 21, 22])),
-        (End::Front, None),
-    ];
-    assert!(rt; answers(slice.binary_group_by_key(tens), &calls));
-    assert!(rt; answers(slice.binary_group_by(in_one_ten), &calls));
-    assert!(rt; answers(slice.exponential_group_by_key(tens), &calls));
-    assert!(rt; answers(slice.exponential_group_by(in_one_ten), &calls));
-    let calls: [(End, Option<&[u8]>); 2] = [(End::Front, Some(&[10])), (End::Back, Some(&[22]))];
-    assert!(rt; answers(slice.binary_group(), &calls));
-    assert!(rt; answers(slice.exponential_group(), &calls));
+    assert!(rt; binary_by_key());
+    assert!(rt; binary_by());
+    assert!(rt; exponential_by_key());
+    assert!(rt; exponential_by());
+    assert!(rt; binary());
+    assert!(rt; exponential());
 }

@@ -137,6 +137,13 @@ impl Family for Exponential {
     }
 }
 
+// Whether nothing comes any more, at either end.
+fn is_ended<Q: GroupQueue>(queue: &mut Q) -> bool
+    requires { Q.can_pop queue.old }
+{
+    queue.pop_front().is_none() && queue.pop_back().is_none() && queue.pop_front().is_none()
+}
+
 /// Whether calls at the front give the groups in order, and then nothing comes at either end.
 pub(super) fn come_from_front<F: Family>(case: Case) -> bool {
     let mut queue = F::over(case.slice);
@@ -145,7 +152,7 @@ pub(super) fn come_from_front<F: Family>(case: Case) -> bool {
             return false;
         }
     }
-    [queue.pop_front(), queue.pop_front(), queue.pop_back()] == [None; 3]
+    is_ended(&mut queue)
 }
 
 /// Whether calls at the back give the groups, the last one first, and then nothing comes at either end.
@@ -156,23 +163,19 @@ pub(super) fn come_from_back<F: Family>(case: Case) -> bool {
             return false;
         }
     }
-    [queue.pop_back(), queue.pop_back(), queue.pop_front()] == [None; 3]
+    is_ended(&mut queue)
 }
 
 /// Whether calls at both ends in turn give three groups, the first, the last and the middle one, and then nothing.
 pub(super) fn come_from_both_ends<F: Family>(case: Case) -> bool {
+    let [first, middle, last] = case.groups else {
+        return false;
+    };
     let mut queue = F::over(case.slice);
-    let given = [
-        queue.pop_front(),
-        queue.pop_back(),
-        queue.pop_front(),
-        queue.pop_back(),
-        queue.pop_front(),
-    ];
-    match case.groups {
-        [first, middle, last] => given == [Some(*first), Some(*last), Some(*middle), None, None],
-        _ => false,
-    }
+    queue.pop_front() == Some(*first)
+        && queue.pop_back() == Some(*last)
+        && queue.pop_front() == Some(*middle)
+        && is_ended(&mut queue)
 }
 
 /// Whether `last` gives the last group, or nothing where there is none.

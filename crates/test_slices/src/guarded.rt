@@ -60,82 +60,95 @@ fn comes_whole_mut<'a, Q: GroupQueue<Item = &'a mut [Guarded]>>(queue: &mut Q) -
     is_valid_part_mut(queue.pop_front()) && queue.pop_front().is_none()
 }
 
+// A call on groups by the predicate over the valid part.
+macro_rules! over_valid {
+    ($groups:ident, $given:ident) => {{
+        let array = valid_between_invalid();
+        $given(&mut $groups::new(&array[1..3], accept_valid))
+    }};
+}
+
+macro_rules! over_valid_mut {
+    ($groups:ident, $given:ident) => {{
+        let mut array = valid_between_invalid();
+        $given(&mut $groups::new(&mut array[1..3], accept_valid))
+    }};
+}
+
+macro_rules! last_of_valid {
+    ($groups:ident) => {{
+        let array = valid_between_invalid();
+        is_valid_part($groups::new(&array[1..3], accept_valid).last())
+    }};
+}
+
+macro_rules! last_of_valid_mut {
+    ($groups:ident) => {{
+        let mut array = valid_between_invalid();
+        is_valid_part_mut($groups::new(&mut array[1..3], accept_valid).last())
+    }};
+}
+
+fn linear_comes() -> bool {
+    over_valid!(LinearGroupBy, comes_whole)
+}
+
+fn binary_comes() -> bool {
+    over_valid!(BinaryGroupBy, comes_whole)
+}
+
+fn exponential_comes() -> bool {
+    over_valid!(ExponentialGroupBy, comes_whole)
+}
+
+fn linear_mut_comes() -> bool {
+    over_valid_mut!(LinearGroupByMut, comes_whole_mut)
+}
+
+fn binary_mut_comes() -> bool {
+    over_valid_mut!(BinaryGroupByMut, comes_whole_mut)
+}
+
+fn exponential_mut_comes() -> bool {
+    over_valid_mut!(ExponentialGroupByMut, comes_whole_mut)
+}
+
+fn linear_last() -> bool {
+    last_of_valid!(LinearGroupBy)
+}
+
+fn binary_last() -> bool {
+    last_of_valid!(BinaryGroupBy)
+}
+
+fn exponential_last() -> bool {
+    last_of_valid!(ExponentialGroupBy)
+}
+
+fn linear_mut_last() -> bool {
+    last_of_valid_mut!(LinearGroupByMut)
+}
+
+fn binary_mut_last() -> bool {
+    last_of_valid_mut!(BinaryGroupByMut)
+}
+
+fn exponential_mut_last() -> bool {
+    last_of_valid_mut!(ExponentialGroupByMut)
+}
+
 #[test]
 fn overflow(rt: HostRuntime) {
-    let array = valid_between_invalid();
-    assert!(rt; comes_whole(&mut LinearGroupBy::new(&array[1..3], accept_valid)));
+    assert!(rt; linear_comes() && linear_mut_comes());
+    assert!(rt; binary_comes() && binary_mut_comes());
+    assert!(rt; exponential_comes() && exponential_mut_comes());
 }
 
 #[test]
 fn last_overflow(rt: HostRuntime) {
-    let array = valid_between_invalid();
-    let groups = LinearGroupBy::new(&array[1..3], accept_valid);
-    assert!(rt; is_valid_part(groups.last()));
-}
-
-#[test]
-fn binary_overflow(rt: HostRuntime) {
-    let array = valid_between_invalid();
-    assert!(rt; comes_whole(&mut BinaryGroupBy::new(&array[1..3], accept_valid)));
-}
-
-#[test]
-fn exponential_overflow(rt: HostRuntime) {
-    let array = valid_between_invalid();
-    assert!(rt; comes_whole(&mut ExponentialGroupBy::new(&array[1..3], accept_valid)));
-}
-
-#[test]
-fn binary_last_overflow(rt: HostRuntime) {
-    let array = valid_between_invalid();
-    let groups = BinaryGroupBy::new(&array[1..3], accept_valid);
-    assert!(rt; is_valid_part(groups.last()));
-}
-
-#[test]
-fn exponential_last_overflow(rt: HostRuntime) {
-    let array = valid_between_invalid();
-    let groups = ExponentialGroupBy::new(&array[1..3], accept_valid);
-    assert!(rt; is_valid_part(groups.last()));
-}
-
-#[test]
-fn linear_overflow_mut(rt: HostRuntime) {
-    let mut array = valid_between_invalid();
-    assert!(rt; comes_whole_mut(&mut LinearGroupByMut::new(&mut array[1..3], accept_valid)));
-}
-
-#[test]
-fn binary_overflow_mut(rt: HostRuntime) {
-    let mut array = valid_between_invalid();
-    assert!(rt; comes_whole_mut(&mut BinaryGroupByMut::new(&mut array[1..3], accept_valid)));
-}
-
-#[test]
-fn exponential_overflow_mut(rt: HostRuntime) {
-    let mut array = valid_between_invalid();
-    assert!(rt; comes_whole_mut(&mut ExponentialGroupByMut::new(&mut array[1..3], accept_valid)));
-}
-
-#[test]
-fn linear_last_overflow_mut(rt: HostRuntime) {
-    let mut array = valid_between_invalid();
-    let groups = LinearGroupByMut::new(&mut array[1..3], accept_valid);
-    assert!(rt; is_valid_part_mut(groups.last()));
-}
-
-#[test]
-fn binary_last_overflow_mut(rt: HostRuntime) {
-    let mut array = valid_between_invalid();
-    let groups = BinaryGroupByMut::new(&mut array[1..3], accept_valid);
-    assert!(rt; is_valid_part_mut(groups.last()));
-}
-
-#[test]
-fn exponential_last_overflow_mut(rt: HostRuntime) {
-    let mut array = valid_between_invalid();
-    let groups = ExponentialGroupByMut::new(&mut array[1..3], accept_valid);
-    assert!(rt; is_valid_part_mut(groups.last()));
+    assert!(rt; linear_last() && linear_mut_last());
+    assert!(rt; binary_last() && binary_mut_last());
+    assert!(rt; exponential_last() && exponential_mut_last());
 }
 
 // Whether the elements come one by one.
@@ -157,16 +170,24 @@ fn differ_always(a: &u8, b: &u8) -> bool
     false
 }
 
-#[test]
-fn binary_asks_no_element_about_itself(rt: HostRuntime) {
+fn binary_one_by_one() -> bool {
     let mut slice = [1u8, 2, 3];
-    let mut groups = BinaryGroupByMut::new(&mut slice, differ_always);
-    assert!(rt; come_one_by_one(&mut groups, &[1, 2, 3]));
+    come_one_by_one(
+        &mut BinaryGroupByMut::new(&mut slice, differ_always),
+        &[1, 2, 3],
+    )
+}
+
+fn exponential_one_by_one() -> bool {
+    let mut slice = [1u8, 2, 3];
+    come_one_by_one(
+        &mut ExponentialGroupByMut::new(&mut slice, differ_always),
+        &[1, 2, 3],
+    )
 }
 
 #[test]
-fn exponential_asks_no_element_about_itself(rt: HostRuntime) {
-    let mut slice = [1u8, 2, 3];
-    let mut groups = ExponentialGroupByMut::new(&mut slice, differ_always);
-    assert!(rt; come_one_by_one(&mut groups, &[1, 2, 3]));
+fn asks_no_element_about_itself(rt: HostRuntime) {
+    assert!(rt; binary_one_by_one());
+    assert!(rt; exponential_one_by_one());
 }

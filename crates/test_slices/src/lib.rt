@@ -30,6 +30,4 @@ mod sizes;
 #[cfg(test)]
 mod surface;
 #[cfg(test)]
-mod threads;
-#[cfg(test)]
 mod walks;

@@ -3,6 +3,7 @@ ghost use Rattle.std.specs.Prelude.{◌<◌};
 
 use slice_group_by::End::{self, Back, Front};
 use slice_group_by::{GroupBy, LinearGroupBy, LinearGroupByKey, walk};
+use std::alloc::{AllocError, Global};
 use std::test::Fail;
 use test_calls::{answers, views, writes};
 
@@ -14,16 +15,18 @@ fn itself(x: &i32) -> i32 {
     *x
 }
 
+const THREE: &[i32] = &[1, 1, 1, 3, 3, 2, 2, 2];
+
+const FROM_FRONT: [(End, Option<&'static [i32]>); 4] = [
+    (Front, Some(&[1, 1, 1])),
+    (Front, Some(&[3, 3])),
+    (Front, Some(&[2, 2, 2])),
+    (Front, None),
+];
+
 #[test]
 fn by_equality_of_neighbours(rt: HostRuntime) {
-    let slice: &[i32] = &[1, 1, 1, 3, 3, 2, 2, 2];
-    let calls: [(End, Option<&[i32]>); 4] = [
-        (Front, Some(&[1, 1, 1])),
-        (Front, Some(&[3, 3])),
-        (Front, Some(&[2, 2, 2])),
-        (Front, None),
-    ];
-    assert!(rt; answers(slice.linear_group_by(equal), &calls));
+    assert!(rt; answers(THREE.linear_group_by(equal), &FROM_FRONT));
 }
 
 // Says yes, and may be called only where the left element is below the right one.
@@ -33,68 +36,104 @@ fn ascend_always(a: &u8, b: &u8) -> bool
     true
 }
 
+const ASCENDING: &[u8] = &[1, 2, 3, 4, 5];
+
+const ALL_FROM_FRONT: [(End, Option<&'static [u8]>); 2] = [
+    (Front, Some(&[1, 2, 3, 4, 5])),
+    (Front, None),
+];
+
+const ALL_FROM_BACK: [(End, Option<&'static [u8]>); 2] = [
+    (Back, Some(&[1, 2, 3, 4, 5])),
+    (Back, None),
+];
+
 #[test]
 fn predicate_call_param_order(rt: HostRuntime) {
-    let slice = [1u8, 2, 3, 4, 5];
-    let calls: [(End, Option<&[u8]>); 2] = [(Front, Some(&[1, 2, 3, 4, 5])), (Front, None)];
-    assert!(rt; answers(LinearGroupBy::new(&slice, ascend_always), &calls));
+    assert!(rt;
+        answers(
+            LinearGroupBy::new(ASCENDING, ascend_always),
+            &ALL_FROM_FRONT
+        )
+    );
 }
 
 #[test]
 fn rev_predicate_call_param_order(rt: HostRuntime) {
-    let slice: &[u8] = &[1, 2, 3, 4, 5];
-    let calls: [(End, Option<&[u8]>); 2] = [(Back, Some(&[1, 2, 3, 4, 5])), (Back, None)];
-    assert!(rt; answers(slice.linear_group_by(ascend_always), &calls));
+    assert!(rt; answers(ASCENDING.linear_group_by(ascend_always), &ALL_FROM_BACK));
 }
 
 const PAIRS: [Option<&'static [i32]>; 4] = [Some(&[1, 2]), Some(&[5, 6]), Some(&[3, 4]), None];
 
-// A predicate whose answers change from call to call.
-#[test]
-fn answers_that_change(rt: HostRuntime) {
-    let slice: &[i32] = &[1, 2, 3, 4, 5, 6];
+const SIX: &[i32] = &[1, 2, 3, 4, 5, 6];
+
+// The groups from both ends by a predicate whose answers change from call to call, and how often it is asked.
+fn changing() -> ([Option<&'static [i32]>; 4], usize) {
     let mut questions = 0usize;
     let mut out: [Option<&[i32]>; 4] = [None; 4];
-    let mut groups = slice.linear_group_by(|_a, _b| {
+    let mut groups = SIX.linear_group_by(|_a, _b| {
         questions = questions.wrapping_add(1);
         questions % 2 == 1
     });
     walk(&mut groups, &[Front, Back, Front, Back], &mut out);
-    assert_eq!(rt; questions, 5);
-    assert!(rt; out == PAIRS);
+    (out, questions)
+}
+
+#[test]
+fn answers_that_change(rt: HostRuntime) {
+    let (groups, questions) = changing();
+    assert!(rt; groups == PAIRS && questions == 5);
+}
+
+// How often the key function is called for the group at the back, on what last, and how much is left.
+fn calls_at_the_back() -> (usize, [u8; 2], usize) {
+    const SLICE: [u8; 4] = [1, 2, 2, 3];
+    let mut calls = 0usize;
+    let mut latest = [0u8; 2];
+    let mut groups = LinearGroupByKey::new(&SLICE, |x: &u8| {
+        calls = calls.wrapping_add(1);
+        latest = [latest[1], *x];
+        *x
+    });
+    let _ = groups.next_back();
+    let rest = groups.remainder_len();
+    (calls, latest, rest)
 }
 
 // Two calls of the key function a question, on the left element first, from both ends.
 #[test]
 fn calls_of_the_key_function(rt: HostRuntime) {
-    let slice = [1u8, 2, 2, 3];
-    let mut calls = 0usize;
-    let mut first = 0u8;
-    let mut second = 0u8;
-    let mut groups = LinearGroupByKey::new(&slice, |x: &u8| {
-        calls = calls.wrapping_add(1);
-        first = second;
-        second = *x;
-        *x
-    });
-    let last = groups.next_back();
-    assert!(rt; last == Some(&[3]) && groups.remainder_len() == 3);
-    assert!(rt; (calls, first, second) == (2, 2, 3));
+    assert_eq!(rt; calls_at_the_back(), (2, [2, 3], 3));
+}
+
+// Whether the outer groups come, the views then show the middle one, and behind it nothing.
+fn shows_the_middle() -> bool {
+    let mut groups = THREE.linear_group_by_key(itself);
+    groups.next() == Some(&[1, 1, 1])
+        && groups.next_back() == Some(&[2, 2, 2])
+        && views!(groups) == (&[3, 3], 2, false, (1, Some(2)))
+}
+
+fn shows_nothing() -> bool {
+    let mut groups = THREE.linear_group_by_key(itself);
+    groups.by_ref().count() == 3 && views!(groups) == (&[], 0, true, (0, Some(0)))
+}
+
+// What `Debug` writes behind so many calls at the front, and one at the back.
+fn writes_the_rest(alloc: Global, calls: usize, wanted: &str) -> Result<bool, AllocError> {
+    let mut groups = THREE.linear_group_by_key(itself);
+    let _ = groups.next_back();
+    let _ = groups.by_ref().take(calls).count();
+    writes(alloc, &groups, wanted)
 }
 
 #[test]
 fn views_of_the_remainder(rt: HostRuntime) -> Result<(), Fail> {
-    let slice: &[i32] = &[1, 1, 1, 3, 3, 2, 2, 2];
-    let mut groups = slice.linear_group_by_key(itself);
-    let outer = (groups.next(), groups.next_back());
-    assert!(rt; outer == (Some(&[1, 1, 1]), Some(&[2, 2, 2])));
-    assert!(rt; views!(groups) == (&[3, 3], 2, false, (1, Some(2))));
-    let wanted = "LinearGroupByKey { remainder: [3, 3] }";
-    assert!(rt; writes(rt.alloc(), &groups, wanted)?);
-    assert!(rt; groups.next() == Some(&[3, 3]));
-    assert!(rt; views!(groups) == (&[], 0, true, (0, Some(0))));
-    let wanted = "LinearGroupByKey { remainder: [] }";
-    assert!(rt; writes(rt.alloc(), &groups, wanted)?);
+    let alloc = rt.alloc();
+    assert!(rt; shows_the_middle());
+    assert!(rt; shows_nothing());
+    assert!(rt; writes_the_rest(alloc, 1, "LinearGroupByKey { remainder: [3, 3] }")?);
+    assert!(rt; writes_the_rest(alloc, 2, "LinearGroupByKey { remainder: [] }")?);
     Ok(())
 }
 

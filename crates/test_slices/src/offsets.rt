@@ -13,26 +13,38 @@ const ROWS: [Call; 5] = [
     (Front, None),
 ];
 
-#[test]
-fn groups_begin_at_their_rows(rt: HostRuntime) {
-    let slice = [1, 1, 1, 3, 3, 2, 2, 2];
-    assert!(rt; answers(with_offsets(LinearGroup::new(&slice)), &ROWS));
-    assert!(rt; answers(with_offsets(ExponentialGroup::new(&slice)), &ROWS));
+const SLICE: [i32; 8] = [1, 1, 1, 3, 3, 2, 2, 2];
+
+fn linear_begins_there() -> bool {
+    answers(with_offsets(LinearGroup::new(&SLICE)), &ROWS)
+}
+
+fn exponential_begins_there() -> bool {
+    answers(with_offsets(ExponentialGroup::new(&SLICE)), &ROWS)
+}
+
+fn count_with_offsets() -> usize {
+    with_offsets(LinearGroup::new(&SLICE)).count()
 }
 
 #[test]
-fn groups_with_offsets_are_counted(rt: HostRuntime) {
-    let slice = [1, 1, 1, 3, 3, 2, 2, 2];
-    assert_eq!(rt; with_offsets(LinearGroup::new(&slice)).count(), 3);
+fn groups_begin_at_their_rows(rt: HostRuntime) {
+    assert!(rt; linear_begins_there());
+    assert!(rt; exponential_begins_there());
+    assert_eq!(rt; count_with_offsets(), 3);
+}
+
+fn offsets_up_to_the_end() -> [usize; 3] {
+    const PAIR_AND_ONE: [i32; 3] = [1, 1, 2];
+    let mut groups = LinearGroup::new(&PAIR_AND_ONE);
+    let first = groups.offset();
+    let _ = (groups.next(), groups.next_back());
+    let then = groups.offset();
+    let _ = groups.next();
+    [first, then, groups.offset()]
 }
 
 #[test]
 fn the_offset_stays_past_the_end(rt: HostRuntime) {
-    let mut groups = LinearGroup::new(&[1, 1, 2]);
-    let first = groups.offset();
-    groups.next();
-    groups.next_back();
-    let then = groups.offset();
-    groups.next();
-    assert!(rt; first == 0 && then == 2 && groups.offset() == 2);
+    assert_eq!(rt; offsets_up_to_the_end(), [0, 2, 2]);
 }

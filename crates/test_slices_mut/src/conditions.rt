@@ -2,36 +2,35 @@
 use slice_group_by::End::{self, Front};
 use slice_group_by::{BinaryGroupByMut, ExponentialGroupByMut, LinearGroupByMut};
 use std::cell::Cell;
-use test_calls::answers_mut;
+use test_calls::{answers_mut, len_of_mut};
 
-// A predicate that may never be called.
+// May never be called.
+fn never(_a: &i32, _b: &i32) -> bool
+    requires { ⊥ }
+{
+    true
+}
+
+const ALONE: [(End, Option<&'static [i32]>); 2] = [(Front, Some(&[1])), (Front, None)];
+
+fn linear_alone() -> bool {
+    let mut slice = [1];
+    answers_mut(LinearGroupByMut::new(&mut slice, never), &ALONE)
+}
+
+fn binary_alone() -> bool {
+    let mut slice = [1];
+    answers_mut(BinaryGroupByMut::new(&mut slice, never), &ALONE)
+}
+
+fn exponential_alone() -> bool {
+    let mut slice = [1];
+    answers_mut(ExponentialGroupByMut::new(&mut slice, never), &ALONE)
+}
+
 #[test]
 fn one_element_asks_nothing(rt: HostRuntime) {
-    let calls: [(End, Option<&[i32]>); 2] = [(Front, Some(&[1])), (Front, None)];
-    let mut slice = [1];
-    let linear = LinearGroupByMut::new(
-        &mut slice,
-        |_a: &i32, _b: &i32| -> bool
-            requires { ⊥ }
-        { true },
-    );
-    assert!(rt; answers_mut(linear, &calls));
-    let mut slice = [1];
-    let binary = BinaryGroupByMut::new(
-        &mut slice,
-        |_a: &i32, _b: &i32| -> bool
-            requires { ⊥ }
-        { true },
-    );
-    assert!(rt; answers_mut(binary, &calls));
-    let mut slice = [1];
-    let exponential = ExponentialGroupByMut::new(
-        &mut slice,
-        |_a: &i32, _b: &i32| -> bool
-            requires { ⊥ }
-        { true },
-    );
-    assert!(rt; answers_mut(exponential, &calls));
+    assert!(rt; linear_alone() && binary_alone() && exponential_alone());
 }
 
 // How many questions are enough to halve so many elements, of at most four.
@@ -52,44 +51,49 @@ fn gallops(g: usize) -> u32 {
     }
 }
 
-#[test]
-fn binary_answers_that_alternate(rt: HostRuntime) {
-    let mut slice = [1, 1, 1, 1];
-    let questions = Cell::new(0u32);
-    let mut groups = BinaryGroupByMut::new(&mut slice, |_a, _b| {
-        questions.set(questions.get().wrapping_add(1));
-        questions.get() % 2 == 1
-    });
-    let mut left = 4usize;
-    for _ in 0..4 {
-        let before = questions.get();
-        if let Some(group) = groups.next() {
-            let asked = questions.get().wrapping_sub(before);
-            assert!(rt; !group.is_empty() && asked <= halvings(left));
-            left = left.wrapping_sub(group.len());
+// Whether the groups are not empty and make up the four elements, each of which is asked about by yes and no in turn, and how many
+// questions each call asked: at most so many for a group of so many elements where so many remain.
+macro_rules! are_parts_for_few {
+    ($groups:ident, $few:expr) => {{
+        let mut slice = [1, 1, 1, 1];
+        let questions = Cell::new(0u32);
+        let mut groups = $groups::new(&mut slice, |_a, _b| {
+            questions.set(questions.get().wrapping_add(1));
+            questions.get() % 2 == 1
+        });
+        let mut left = 4usize;
+        for _ in 0..4 {
+            let len = len_of_mut(groups.next());
+            if questions.replace(0) > $few(len, left) || len == 0 && left > 0 {
+                return false;
+            }
+            left = left.wrapping_sub(len);
+            if groups.remainder_len() != left {
+                return false;
+            }
         }
-        assert_eq!(rt; groups.remainder_len(), left);
-    }
-    assert!(rt; left == 0 && groups.next().is_none());
+        left == 0 && groups.next().is_none()
+    }};
+}
+
+fn few_of_binary(_len: usize, left: usize) -> u32 {
+    halvings(left)
+}
+
+fn few_of_exponential(len: usize, _left: usize) -> u32 {
+    gallops(len)
+}
+
+fn binary_alternates() -> bool {
+    are_parts_for_few!(BinaryGroupByMut, few_of_binary)
+}
+
+fn exponential_alternates() -> bool {
+    are_parts_for_few!(ExponentialGroupByMut, few_of_exponential)
 }
 
 #[test]
-fn exponential_answers_that_alternate(rt: HostRuntime) {
-    let mut slice = [1, 1, 1, 1];
-    let questions = Cell::new(0u32);
-    let mut groups = ExponentialGroupByMut::new(&mut slice, |_a, _b| {
-        questions.set(questions.get().wrapping_add(1));
-        questions.get() % 2 == 1
-    });
-    let mut left = 4usize;
-    for _ in 0..4 {
-        let before = questions.get();
-        if let Some(group) = groups.next() {
-            let asked = questions.get().wrapping_sub(before);
-            assert!(rt; !group.is_empty() && asked <= gallops(group.len()));
-            left = left.wrapping_sub(group.len());
-        }
-        assert_eq!(rt; groups.remainder_len(), left);
-    }
-    assert!(rt; left == 0 && groups.next().is_none());
+fn answers_that_alternate(rt: HostRuntime) {
+    assert!(rt; binary_alternates());
+    assert!(rt; exponential_alternates());
 }

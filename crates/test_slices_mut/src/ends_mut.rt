@@ -16,23 +16,56 @@ fn come_from_both_ends<'a, Q: GroupQueue<Item = &'a mut [i32]>>(
     holds(queue.pop_front(), first) && holds(queue.pop_back(), last) && queue.pop_front().is_none()
 }
 
+fn linear_by_tens(slice: &mut [i32]) -> bool {
+    come_from_both_ends(
+        &mut LinearGroupByKeyMut::new(slice, tens),
+        &[10, 11],
+        &[20, 21, 22],
+    )
+}
+
+fn binary_by_tens(slice: &mut [i32]) -> bool {
+    come_from_both_ends(
+        &mut BinaryGroupByKeyMut::new(slice, tens),
+        &[10, 11],
+        &[20, 21, 22],
+    )
+}
+
+fn exponential_by_tens(slice: &mut [i32]) -> bool {
+    come_from_both_ends(
+        &mut ExponentialGroupByKeyMut::new(slice, tens),
+        &[10, 11],
+        &[20, 21, 22],
+    )
+}
+
 #[test]
 fn by_key_from_both_ends(rt: HostRuntime) {
     let mut slice = [10, 11, 20, 21, 22];
-    let mut linear = LinearGroupByKeyMut::new(&mut slice, tens);
-    assert!(rt; come_from_both_ends(&mut linear, &[10, 11], &[20, 21, 22]));
-    let mut binary = BinaryGroupByKeyMut::new(&mut slice, tens);
-    assert!(rt; come_from_both_ends(&mut binary, &[10, 11], &[20, 21, 22]));
-    let mut exponential = ExponentialGroupByKeyMut::new(&mut slice, tens);
-    assert!(rt; come_from_both_ends(&mut exponential, &[10, 11], &[20, 21, 22]));
+    assert!(rt; linear_by_tens(&mut slice));
+    assert!(rt; binary_by_tens(&mut slice));
+    assert!(rt; exponential_by_tens(&mut slice));
+}
+
+fn linear_equal(slice: &mut [i32]) -> bool {
+    come_from_both_ends(&mut LinearGroupMut::new(slice), &[1, 1], &[2])
+}
+
+fn binary_equal(slice: &mut [i32]) -> bool {
+    come_from_both_ends(&mut BinaryGroupMut::new(slice), &[1, 1], &[2])
+}
+
+fn exponential_equal(slice: &mut [i32]) -> bool {
+    come_from_both_ends(&mut ExponentialGroupMut::new(slice), &[1, 1], &[2])
 }
 
 #[test]
 fn equal_from_both_ends(rt: HostRuntime) {
     let mut slice = [1, 1, 2];
-    assert!(rt; come_from_both_ends(&mut LinearGroupMut::new(&mut slice), &[1, 1], &[2]));
-    assert!(rt; come_from_both_ends(&mut BinaryGroupMut::new(&mut slice), &[1, 1], &[2]));
-    assert!(rt; come_from_both_ends(&mut ExponentialGroupMut::new(&mut slice), &[1, 1], &[2]));
+    assert!(rt; linear_equal(&mut slice));
+    assert!(rt; binary_equal(&mut slice));
+    assert!(rt; exponential_equal(&mut slice));
 }
 
 // Fills a group with twos, and says whether there is one, of these numbers.
@@ -59,21 +92,29 @@ fn fill_outer_groups<'a, Q: GroupQueue<Item = &'a mut [i32]>>(queue: &mut Q) -> 
         && queue.pop_front().is_none()
 }
 
+fn fill_outer_of_linear(slice: &mut [i32]) -> bool {
+    fill_outer_groups(&mut LinearGroupMut::new(slice))
+}
+
+fn fill_outer_of_binary(slice: &mut [i32]) -> bool {
+    fill_outer_groups(&mut BinaryGroupMut::new(slice))
+}
+
+fn fill_outer_of_exponential(slice: &mut [i32]) -> bool {
+    fill_outer_groups(&mut ExponentialGroupMut::new(slice))
+}
+
 #[test]
 fn groups_from_both_ends_at_once(rt: HostRuntime) {
     let mut slice = [1, 1, 2, 3, 3];
-    let mut groups = LinearGroupMut::new(&mut slice);
-    let first = groups.next();
-    let last = groups.next_back();
-    assert!(rt; fill(first, &[1, 1]) && fill(last, &[3, 3]));
-    assert!(rt; holds(groups.next(), &[2]) && groups.next().is_none());
-    assert_eq!(rt; slice, [2, 2, 2, 2, 2]);
+    assert!(rt; fill_outer_of_linear(&mut slice));
+    assert_eq!(rt; slice, [2; 5]);
     let mut slice = [1, 1, 2, 3, 3];
-    assert!(rt; fill_outer_groups(&mut BinaryGroupMut::new(&mut slice)));
-    assert_eq!(rt; slice, [2, 2, 2, 2, 2]);
+    assert!(rt; fill_outer_of_binary(&mut slice));
+    assert_eq!(rt; slice, [2; 5]);
     let mut slice = [1, 1, 2, 3, 3];
-    assert!(rt; fill_outer_groups(&mut ExponentialGroupMut::new(&mut slice)));
-    assert_eq!(rt; slice, [2, 2, 2, 2, 2]);
+    assert!(rt; fill_outer_of_exponential(&mut slice));
+    assert_eq!(rt; slice, [2; 5]);
 }
 
 // The iterator and its array are used again, where the borrow of the groups that were out has ended.

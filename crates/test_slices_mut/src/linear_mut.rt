@@ -46,35 +46,54 @@ fn group_outlives_the_iterator(rt: HostRuntime) {
     assert_eq!(rt; slice, [7, 7, 2, 2]);
 }
 
+// Whether the first group comes, and the other one remains, over which nines are written.
+fn fill_the_rest(slice: &mut [i32]) -> bool {
+    let mut groups = LinearGroupByKeyMut::new(slice, itself);
+    let is_first = groups.remainder_len() == 4
+        && holds(groups.next(), &[1, 1])
+        && groups.remainder_len() == 2
+        && !groups.is_empty();
+    let remainder = groups.into_remainder();
+    let is_other = &*remainder == [2, 2].as_slice();
+    remainder.fill(9);
+    is_first && is_other
+}
+
 #[test]
 fn remainder_is_for_writing(rt: HostRuntime) {
     let mut slice = [1, 1, 2, 2];
-    let mut groups = LinearGroupByKeyMut::new(&mut slice, itself);
-    assert!(rt; groups.remainder_len() == 4 && holds(groups.next(), &[1, 1]));
-    assert!(rt; groups.remainder_len() == 2 && !groups.is_empty());
-    let remainder = groups.into_remainder();
-    assert_eq!(rt; &*remainder, [2, 2].as_slice());
-    remainder.fill(9);
+    assert!(rt; fill_the_rest(&mut slice));
     assert_eq!(rt; slice, [1, 1, 9, 9]);
+}
+
+fn nothing_remains(slice: &mut [i32]) -> bool {
+    let mut groups = LinearGroupByKeyMut::new(slice, itself);
+    let _group = groups.next();
+    groups.is_empty() && groups.remainder_len() == 0 && groups.into_remainder().is_empty()
 }
 
 #[test]
 fn empty_when_all_are_out(rt: HostRuntime) {
-    let mut slice = [1, 1];
-    let mut groups = LinearGroupByKeyMut::new(&mut slice, itself);
-    let _group = groups.next();
-    assert!(rt; groups.is_empty() && groups.remainder_len() == 0);
-    assert!(rt; groups.into_remainder().is_empty());
+    assert!(rt; nothing_remains(&mut [1, 1]));
+}
+
+fn hints_and_ends(slice: &mut [i32]) -> bool {
+    let mut groups = LinearGroupMut::new(slice);
+    groups.size_hint() == (1, Some(3))
+        && holds(groups.next(), &[1, 1])
+        && groups.size_hint() == (1, Some(1))
+        && holds(groups.last(), &[2])
+}
+
+fn hints_at_nothing() -> bool {
+    let groups = LinearGroupMut::<i32>::new(&mut []);
+    groups.size_hint() == (0, Some(0)) && groups.last().is_none()
 }
 
 #[test]
 fn size_hint_and_last(rt: HostRuntime) {
-    let mut slice = [1, 1, 2];
-    let mut groups = LinearGroupMut::new(&mut slice);
-    assert!(rt; groups.size_hint() == (1, Some(3)) && holds(groups.next(), &[1, 1]));
-    assert!(rt; groups.size_hint() == (1, Some(1)) && holds(groups.last(), &[2]));
-    let groups = LinearGroupMut::<i32>::new(&mut []);
-    assert!(rt; groups.size_hint() == (0, Some(0)) && groups.last().is_none());
+    assert!(rt; hints_and_ends(&mut [1, 1, 2]));
+    assert!(rt; hints_at_nothing());
 }
 
 // No contract says so: `last` leaves the elements before its group, and a method of the trait leaves the variable's slice.

@@ -4,57 +4,80 @@ use slice_group_by::{
     BinaryGroupByKeyMut, BinaryGroupByMut, ExponentialGroupByKeyMut, ExponentialGroupByMut,
 };
 
-// Writes 9 into the slice if it is [2, 2], and else leaves it.
-fn fill_twos(remainder: &mut [i32]) {
-    if &*remainder == [2, 2].as_slice() {
-        remainder.fill(9);
-    }
+// Writes 9 into the remainder, and says whether it was [2, 2].
+fn fill_twos(remainder: &mut [i32]) -> bool {
+    let are_twos = &*remainder == [2, 2].as_slice();
+    remainder.fill(9);
+    are_twos
+}
+
+// Whether the first group comes, and the other one remains, over which nines are written.
+fn fill_the_rest_by_predicate(slice: &mut [i32]) -> bool {
+    let mut groups = ExponentialGroupByMut::new(slice, equal);
+    groups.remainder_len() == 4
+        && holds(groups.next(), &[1, 1])
+        && groups.remainder_len() == 2
+        && !groups.is_empty()
+        && fill_twos(groups.into_remainder())
+}
+
+fn fill_the_rest_by_key(slice: &mut [i32]) -> bool {
+    let mut groups = ExponentialGroupByKeyMut::new(slice, itself);
+    groups.remainder_len() == 4
+        && holds(groups.next(), &[1, 1])
+        && groups.remainder_len() == 2
+        && !groups.is_empty()
+        && fill_twos(groups.into_remainder())
 }
 
 #[test]
-fn remainder_of_exponential_by_predicate_is_for_writing(rt: HostRuntime) {
+fn remainder_of_exponential_is_for_writing(rt: HostRuntime) {
     let mut slice = [1, 1, 2, 2];
-    let mut groups = ExponentialGroupByMut::new(&mut slice, equal);
-    assert!(rt; groups.remainder_len() == 4 && holds(groups.next(), &[1, 1]));
-    assert!(rt; groups.remainder_len() == 2 && !groups.is_empty());
-    fill_twos(groups.into_remainder());
+    assert!(rt; fill_the_rest_by_predicate(&mut slice));
     assert_eq!(rt; slice, [1, 1, 9, 9]);
-}
-
-#[test]
-fn remainder_of_exponential_by_key_is_for_writing(rt: HostRuntime) {
     let mut slice = [1, 1, 2, 2];
-    let mut groups = ExponentialGroupByKeyMut::new(&mut slice, itself);
-    assert!(rt; groups.remainder_len() == 4 && holds(groups.next(), &[1, 1]));
-    assert!(rt; groups.remainder_len() == 2 && !groups.is_empty());
-    fill_twos(groups.into_remainder());
+    assert!(rt; fill_the_rest_by_key(&mut slice));
     assert_eq!(rt; slice, [1, 1, 9, 9]);
 }
 
 // The group is written to first, which leaves the elements after it.
+fn fill_the_first(slice: &mut [i32]) -> bool {
+    let mut groups = BinaryGroupByKeyMut::new(slice, tens);
+    let first = groups.next().map(|group| {
+        group.fill(0);
+        group.len()
+    });
+    first == Some(2)
+        && groups.remainder() == [20].as_slice()
+        && groups.remainder_len() == 1
+        && !groups.is_empty()
+}
+
 #[test]
 fn remainder_of_binary_by_key_is_seen(rt: HostRuntime) {
     let mut slice = [10, 11, 20];
-    let mut groups = BinaryGroupByKeyMut::new(&mut slice, tens);
-    if let Some(group) = groups.next() {
-        assert_eq!(rt; &*group, [10, 11].as_slice());
-        group.fill(0);
-    }
-    assert!(rt;
-        groups.remainder() == [20].as_slice() && groups.remainder_len() == 1 && !groups.is_empty()
-    );
+    assert!(rt; fill_the_first(&mut slice));
     assert_eq!(rt; slice, [0, 0, 20]);
+}
+
+fn nothing_remains_of_binary(slice: &mut [i32]) -> bool {
+    let mut groups = BinaryGroupByMut::new(slice, equal);
+    groups.by_ref().count() == 2
+        && groups.is_empty()
+        && groups.remainder_len() == 0
+        && groups.into_remainder().is_empty()
+}
+
+fn nothing_remains_of_exponential(slice: &mut [i32]) -> bool {
+    let mut groups = ExponentialGroupByMut::new(slice, equal);
+    groups.by_ref().count() == 2
+        && groups.is_empty()
+        && groups.remainder_len() == 0
+        && groups.into_remainder().is_empty()
 }
 
 #[test]
 fn nothing_remains_when_all_are_out(rt: HostRuntime) {
-    let mut slice = [1, 1, 2];
-    let mut binary = BinaryGroupByMut::new(&mut slice, equal);
-    assert!(rt; holds(binary.next(), &[1, 1]) && holds(binary.next(), &[2]));
-    assert!(rt; binary.is_empty() && binary.remainder_len() == 0);
-    assert!(rt; binary.into_remainder().is_empty());
-    let mut exponential = ExponentialGroupByMut::new(&mut slice, equal);
-    assert!(rt; holds(exponential.next(), &[1, 1]) && holds(exponential.next(), &[2]));
-    assert!(rt; exponential.is_empty() && exponential.remainder_len() == 0);
-    assert!(rt; exponential.into_remainder().is_empty());
+    assert!(rt; nothing_remains_of_binary(&mut [1, 1, 2]));
+    assert!(rt; nothing_remains_of_exponential(&mut [1, 1, 2]));
 }

@@ -1,28 +1,29 @@
 //! Groups of equal characters, which compare the bytes of ASCII, beside those by a predicate, which ask about one pair after another.
 use slice_group_by::{LinearStrGroup, LinearStrGroupBy};
 
-// Whether both give the same groups from this end.
-fn agree(text: &str, back: bool) -> bool {
-    let mut copies = LinearStrGroup::new(text);
-    let mut pairs = LinearStrGroupBy::new(text, |a, b| a == b);
-    for _ in 0..text.len() {
-        let (group, wanted) = if back {
-            (copies.next_back(), pairs.next_back())
-        } else {
-            (copies.next(), pairs.next())
-        };
-        if group != wanted {
-            return false;
-        }
-    }
-    copies.is_empty() && pairs.is_empty()
+// Whether both give the same groups from the front.
+fn agree_from_front(text: &str) -> bool {
+    let copies = LinearStrGroup::new(text);
+    let pairs = LinearStrGroupBy::new(text, same);
+    copies.eq(pairs)
+}
+
+// From the back.
+fn agree_from_back(text: &str) -> bool {
+    let copies = LinearStrGroup::new(text).rev();
+    let pairs = LinearStrGroupBy::new(text, same).rev();
+    copies.eq(pairs)
+}
+
+fn same(a: char, b: char) -> bool {
+    a == b
 }
 
 // Whether they do on each part at the front, up to the place, of bytes that are a text there.
 fn agree_on_fronts(bytes: &[u8]) -> bool {
     for len in 0..bytes.len() {
         if let Ok(text) = str::from_utf8(&bytes[..len]) {
-            if !agree(text, false) || !agree(text, true) {
+            if !agree_from_front(text) || !agree_from_back(text) {
                 return false;
             }
         }

@@ -11,10 +11,14 @@ const BYTES: [(End, Option<(usize, &'static str)>); 5] = [
     (Front, None),
 ];
 
+fn offset_behind_two_characters() -> usize {
+    let mut groups = LinearStrGroup::new("éé-");
+    let _ = groups.next();
+    groups.offset()
+}
+
 #[test]
 fn groups_begin_at_their_bytes(rt: HostRuntime) {
     assert!(rt; answers(with_offsets(LinearStrGroup::new("aaaabbbbb饰饰cccc")), &BYTES));
-    let mut groups = LinearStrGroup::new("éé-");
-    groups.next();
-    assert!(rt; groups.offset() == 4);
+    assert_eq!(rt; offset_behind_two_characters(), 4);
 }

@@ -16,20 +16,33 @@ const BYTE_CALLS: [(End, Option<&'static [u8]>); 3] = [
     (Front, None),
 ];
 
+fn string_answers(text: String) -> bool {
+    answers(text.linear_group(), &CALLS)
+}
+
+fn array_answers(mut array: [u8; 3]) -> bool {
+    if std::str::from_utf8(&array).is_err() {
+        return false;
+    }
+    answers_mut(array.linear_group_mut(), &BYTE_CALLS)
+}
+
+fn vector_answers(mut vec: Vec<u8>) -> bool {
+    if std::str::from_utf8(vec.as_slice()).is_err() {
+        return false;
+    }
+    answers_mut(vec.linear_group_mut(), &BYTE_CALLS)
+}
+
 #[test]
 fn of_a_string(rt: HostRuntime) -> Result<(), Fail> {
-    let text = format!(in rt.alloc(); "ééa")?;
-    assert!(rt; answers(text.linear_group(), &CALLS));
+    assert!(rt; string_answers(format!(in rt.alloc(); "ééa")?));
     Ok(())
 }
 
 #[test]
 fn of_bytes(rt: HostRuntime) -> Result<(), Fail> {
-    let mut array = *b"bba";
-    assert!(rt; answers_mut(array.linear_group_mut(), &BYTE_CALLS));
-    let mut vec = vec![in rt.alloc(); b'b', b'b', b'a']?;
-    if std::str::from_utf8(vec.as_slice()).is_ok() {
-        assert!(rt; answers_mut(vec.linear_group_mut(), &BYTE_CALLS));
-    }
+    assert!(rt; array_answers(*b"bba"));
+    assert!(rt; vector_answers(vec![in rt.alloc(); b'b', b'b', b'a']?));
     Ok(())
 }

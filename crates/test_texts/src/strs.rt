@@ -123,54 +123,90 @@ fn by_key_from_both_ends(rt: HostRuntime) {
     assert!(rt; answers(text.linear_group_by_key(is_digit), &LETTERS_AND_A_DIGIT));
 }
 
+const LETTERS_AND_CJK: &str = "aaaabbbbb饰饰cccc";
+
+// What the views show behind so many calls from the front, and as many from the back, all of which give groups.
+fn shows(calls: usize, rest: &str) -> bool {
+    let mut groups = LinearStrGroup::new(LETTERS_AND_CJK);
+    let fronts = groups.by_ref().take(calls).count();
+    let backs = groups.by_ref().rev().take(calls).count();
+    fronts == calls
+        && backs == calls
+        && groups.as_str() == rest
+        && groups.remainder_len() == rest.len()
+        && groups.is_empty() == rest.is_empty()
+}
+
 #[test]
 fn views_of_the_remainder(rt: HostRuntime) {
-    let mut groups = LinearStrGroup::new("aaaabbbbb饰饰cccc");
-    assert_eq!(rt; groups.remainder_len(), 19);
-    assert!(rt; groups.next() == Some("aaaa") && groups.next_back() == Some("cccc"));
-    assert!(rt; groups.as_str() == "bbbbb饰饰" && groups.remainder_len() == 11 && !groups.is_empty());
-    assert!(rt; groups.next_back() == Some("饰饰") && groups.next_back() == Some("bbbbb"));
-    assert!(rt; groups.as_str() == "" && groups.remainder_len() == 0 && groups.is_empty());
+    assert!(rt; shows(0, LETTERS_AND_CJK) && LETTERS_AND_CJK.len() == 19);
+    assert!(rt; shows(1, "bbbbb饰饰"));
+    assert!(rt; shows(2, ""));
+}
+
+fn size_hint() -> (usize, Option<usize>) {
+    "ab".linear_group().size_hint()
+}
+
+fn last() -> Option<&'static str> {
+    LinearStrGroup::new("ab").last()
+}
+
+fn last_of_nothing() -> Option<&'static str> {
+    LinearStrGroup::new("").last()
+}
+
+fn last_ascending() -> Option<&'static str> {
+    LinearStrGroupBy::new("ab", ascends).last()
+}
+
+fn last_of_itself() -> Option<&'static str> {
+    LinearStrGroupByKey::new("ab", itself).last()
 }
 
 #[test]
 fn size_hint_and_last(rt: HostRuntime) {
-    let text = "ab";
-    assert_eq!(rt; text.linear_group().size_hint(), (0, None));
-    assert!(rt; text.linear_group().last() == Some("b") && LinearStrGroup::new("").last() == None);
-    assert!(rt; text.linear_group_by(ascends).last() == Some("ab"));
-    assert!(rt; text.linear_group_by_key(itself).last() == Some("b"));
+    assert_eq!(rt; size_hint(), (0, None));
+    assert!(rt; last() == Some("b") && last_of_nothing() == None);
+    assert!(rt; last_ascending() == Some("ab"));
+    assert!(rt; last_of_itself() == Some("b"));
 }
 
 const ASCENDING: [Call; 3] = [(Front, Some("abc")), (Front, Some("ab")), (Front, None)];
 
 const ASCENDING_FROM_BACK: [Call; 3] = [(Back, Some("ab")), (Back, Some("abc")), (Back, None)];
 
+fn ascending_is(calls: &[Call]) -> bool {
+    answers("abcab".linear_group_by(ascends), calls)
+}
+
 // A test that is not symmetric has the same groups from both ends.
 #[test]
 fn ascending_from_both_ends(rt: HostRuntime) {
-    let text = "abcab";
-    assert!(rt; answers(text.linear_group_by(ascends), &ASCENDING));
-    assert!(rt; answers(text.linear_group_by(ascends), &ASCENDING_FROM_BACK));
+    assert!(rt; ascending_is(&ASCENDING));
+    assert!(rt; ascending_is(&ASCENDING_FROM_BACK));
+}
+
+// The length of the group at the back, and the characters for whose keys it was asked last.
+fn asked_at_the_back() -> (usize, [char; 2]) {
+    let mut latest = [' '; 2];
+    let mut groups = LinearStrGroupByKey::new("xy", |c: char| {
+        latest = [latest[1], c];
+        c
+    });
+    let len = groups.next_back().map_or(0, |group| group.len());
+    (len, latest)
 }
 
 // The key function is called on the left character first, from the back too.
 #[test]
 fn calls_of_the_key_function(rt: HostRuntime) {
-    let mut first = ' ';
-    let mut second = ' ';
-    let mut groups = LinearStrGroupByKey::new("xy", |c: char| {
-        first = second;
-        second = c;
-        c
-    });
-    let last = groups.next_back();
-    assert!(rt; last == Some("y") && first == 'x' && second == 'y');
+    assert_eq!(rt; asked_at_the_back(), (1, ['x', 'y']));
 }
 
-// A predicate that may be called only where the left character is below the right one.
-#[test]
-fn predicate_call_param_order(rt: HostRuntime) {
+// The length of the group at the back, and how often a predicate was asked that may be called only where the left character is below
+// the right one.
+fn ascending_at_the_back() -> (usize, usize) {
     let mut questions = 0usize;
     let mut groups = LinearStrGroupBy::new(
         "abcde",
@@ -181,50 +217,73 @@ fn predicate_call_param_order(rt: HostRuntime) {
             true
         },
     );
-    let last = groups.next_back();
-    assert!(rt; last == Some("abcde") && questions == 4);
+    let len = groups.next_back().map_or(0, |group| group.len());
+    (len, questions)
 }
 
 #[test]
-fn questions_of_a_walk(rt: HostRuntime) {
+fn predicate_call_param_order(rt: HostRuntime) {
+    assert_eq!(rt; ascending_at_the_back(), (5, 4));
+}
+
+// The groups of a walk from both ends, and how many questions it asks.
+fn walked() -> ([Option<&'static str>; 5], usize) {
     let mut questions = 0usize;
     let mut out: [Option<&str>; 5] = [None; 5];
-    let mut groups = LinearStrGroupBy::new("aaaabbbbb饰饰cccc", |a, b| {
+    let mut groups = LinearStrGroupBy::new(LETTERS_AND_CJK, |a, b| {
         questions = questions.wrapping_add(1);
         a == b
     });
     walk(&mut groups, &[Front, Back, Back, Front, Front], &mut out);
-    assert!(rt; out == [Some("aaaa"), Some("cccc"), Some("饰饰"), Some("bbbbb"), None]);
-    assert_eq!(rt; questions, 14);
+    (out, questions)
 }
 
-fn end(back: bool) -> End {
-    if back { Back } else { Front }
+const WALKED: [Option<&'static str>; 5] = [
+    Some("aaaa"),
+    Some("cccc"),
+    Some("饰饰"),
+    Some("bbbbb"),
+    None,
+];
+
+#[test]
+fn questions_of_a_walk(rt: HostRuntime) {
+    let (groups, questions) = walked();
+    assert!(rt; groups == WALKED && questions == 14);
 }
+
+// Whether four calls, at the back where it says so, give these groups, and no other is left.
+fn come_in_order(backs: [bool; 4], groups: [&str; 4]) -> bool {
+    let mut queue = LinearStrGroup::new("aéé饰𝄞𝄞");
+    for (back, wanted) in backs.iter().zip(groups.iter()) {
+        let group = if *back {
+            queue.next_back()
+        } else {
+            queue.next()
+        };
+        if group != Some(*wanted) {
+            return false;
+        }
+    }
+    queue.next().is_none()
+}
+
+const ORDERS: [([bool; 3], [&'static str; 4]); 8] = [
+    ([false, false, false], ["a", "éé", "饰", "𝄞𝄞"]),
+    ([true, false, false], ["𝄞𝄞", "a", "éé", "饰"]),
+    ([false, true, false], ["a", "𝄞𝄞", "éé", "饰"]),
+    ([true, true, false], ["𝄞𝄞", "饰", "a", "éé"]),
+    ([false, false, true], ["a", "éé", "𝄞𝄞", "饰"]),
+    ([true, false, true], ["𝄞𝄞", "a", "饰", "éé"]),
+    ([false, true, true], ["a", "𝄞𝄞", "饰", "éé"]),
+    ([true, true, true], ["𝄞𝄞", "饰", "éé", "a"]),
+];
 
 // Characters of one, two, three and four bytes. The fourth call takes what is left, from either end.
 #[test]
 fn every_order_of_four_calls(rt: HostRuntime) {
-    let orders = [
-        ([false, false, false], ["a", "éé", "饰", "𝄞𝄞"]),
-        ([true, false, false], ["𝄞𝄞", "a", "éé", "饰"]),
-        ([false, true, false], ["a", "𝄞𝄞", "éé", "饰"]),
-        ([true, true, false], ["𝄞𝄞", "饰", "a", "éé"]),
-        ([false, false, true], ["a", "éé", "𝄞𝄞", "饰"]),
-        ([true, false, true], ["𝄞𝄞", "a", "饰", "éé"]),
-        ([false, true, true], ["a", "𝄞𝄞", "饰", "éé"]),
-        ([true, true, true], ["𝄞𝄞", "饰", "éé", "a"]),
-    ];
-    for ([first, second, third], [a, b, c, d]) in orders {
-        for fourth in [false, true] {
-            let calls = [
-                (end(first), Some(a)),
-                (end(second), Some(b)),
-                (end(third), Some(c)),
-                (end(fourth), Some(d)),
-                (Front, None),
-            ];
-            assert!(rt; answers(LinearStrGroup::new("aéé饰𝄞𝄞"), &calls));
-        }
+    for ([first, second, third], groups) in ORDERS {
+        assert!(rt; come_in_order([first, second, third, false], groups));
+        assert!(rt; come_in_order([first, second, third, true], groups));
     }
 }

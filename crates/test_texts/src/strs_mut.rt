@@ -1,4 +1,6 @@
 //! Groups of a text's bytes for writing, case by case.
+ghost use Rattle.std.specs.Str.{IsUtf8};
+
 use slice_group_by::End::{self, Back, Front};
 use slice_group_by::{
     LinearStrGroupByKeyMut, LinearStrGroupByMut, LinearStrGroupMut, StrGroupByMut, walk,
@@ -61,15 +63,24 @@ fn str_mut_rev_easy(rt: HostRuntime) {
     assert!(rt; answers_mut(LinearStrGroupMut::new(&mut bytes), &EASY_FROM_BACK));
 }
 
+// Whether the first group comes, the rest stays a text while it is written, and comes then.
+fn fill_the_first(bytes: &mut [u8]) -> bool
+    requires { IsUtf8 bytes.old }
+{
+    let mut groups = LinearStrGroupMut::new(bytes);
+    let first = groups.next();
+    groups.as_str() == "éé"
+        && groups.remainder_len() == 4
+        && filled(first, b"a", 0xFF)
+        && holds(groups.next(), Some("éé".as_bytes()))
+        && groups.next().is_none()
+}
+
 #[test]
 fn remainder_stays_text(rt: HostRuntime) -> Result<(), Fail> {
     let mut bytes = [0x61, 0xC3, 0xA9, 0xC3, 0xA9];
     std::str::from_utf8(&bytes)?;
-    let mut groups = LinearStrGroupMut::new(&mut bytes);
-    let first = groups.next();
-    assert!(rt; groups.as_str() == "éé" && groups.remainder_len() == 4);
-    assert!(rt; filled(first, b"a", 0xFF));
-    assert!(rt; holds(groups.next(), Some("éé".as_bytes())) && groups.next().is_none());
+    assert!(rt; fill_the_first(&mut bytes));
     assert_eq!(rt; bytes, [0xFF, 0xC3, 0xA9, 0xC3, 0xA9]);
     Ok(())
 }
@@ -80,14 +91,21 @@ const DIGITS_FROM_BACK: [Call; 3] = [
     (Back, None),
 ];
 
+fn letters_and_digits_come(mut bytes: &mut [u8]) -> bool
+    requires { IsUtf8 bytes.old }
+{
+    let mut groups = bytes.linear_group_by_key_mut(is_digit);
+    holds(groups.next(), Some(b"ab"))
+        && groups.as_str() == "12é"
+        && groups.remainder_len() == 4
+        && answers_mut(groups, &DIGITS_FROM_BACK)
+}
+
 #[test]
 fn by_key_from_both_ends(rt: HostRuntime) -> Result<(), Fail> {
     let mut array = [0x61, 0x62, 0x31, 0x32, 0xC3, 0xA9];
     std::str::from_utf8(&array)?;
-    let mut bytes: &mut [u8] = &mut array;
-    let mut groups = bytes.linear_group_by_key_mut(is_digit);
-    assert!(rt; holds(groups.next(), Some(b"ab")) && groups.as_str() == "12é");
-    assert!(rt; groups.remainder_len() == 4 && answers_mut(groups, &DIGITS_FROM_BACK));
+    assert!(rt; letters_and_digits_come(&mut array));
     Ok(())
 }
 
@@ -95,72 +113,112 @@ const ASCENDING: [Call; 3] = [(Front, Some(b"abc")), (Front, Some(b"ab")), (Fron
 
 const ASCENDING_FROM_BACK: [Call; 3] = [(Back, Some(b"ab")), (Back, Some(b"abc")), (Back, None)];
 
+fn ascending_is(calls: &[Call]) -> bool {
+    let mut array = *b"abcab";
+    answers_mut(LinearStrGroupByMut::new(&mut array, ascends), calls)
+}
+
+fn ascending_by_method_is(calls: &[Call]) -> bool {
+    let mut array = *b"abcab";
+    let mut bytes: &mut [u8] = &mut array;
+    answers_mut(bytes.linear_group_by_mut(ascends), calls)
+}
+
 // A test that is not symmetric has the same groups from both ends.
 #[test]
 fn ascending_from_both_ends(rt: HostRuntime) {
-    let mut array = *b"abcab";
-    assert!(rt; answers_mut(LinearStrGroupByMut::new(&mut array, ascends), &ASCENDING));
-    let mut other = *b"abcab";
-    let mut bytes: &mut [u8] = &mut other;
-    assert!(rt; answers_mut(bytes.linear_group_by_mut(ascends), &ASCENDING_FROM_BACK));
+    assert!(rt; ascending_is(&ASCENDING));
+    assert!(rt; ascending_by_method_is(&ASCENDING_FROM_BACK));
+}
+
+// Whether the outer groups come, and may be written while what remains stays a text, and comes then.
+fn fill_the_outer_ones(bytes: &mut [u8]) -> bool
+    requires { IsUtf8 bytes.old }
+{
+    let mut groups = LinearStrGroupMut::new(bytes);
+    let first = groups.next();
+    let last = groups.next_back();
+    filled(first, "é".as_bytes(), 0x80)
+        && filled(last, "é".as_bytes(), 0x80)
+        && groups.as_str() == "a"
+        && groups.remainder_len() == 1
+        && holds(groups.next(), Some(b"a"))
+        && groups.next().is_none()
 }
 
 #[test]
 fn any_bytes_may_be_written(rt: HostRuntime) -> Result<(), Fail> {
     let mut bytes = [0xC3, 0xA9, 0x61, 0xC3, 0xA9];
     std::str::from_utf8(&bytes)?;
-    let mut groups = LinearStrGroupMut::new(&mut bytes);
-    let first = groups.next();
-    let last = groups.next_back();
-    assert!(rt; filled(first, "é".as_bytes(), 0x80) && filled(last, "é".as_bytes(), 0x80));
-    assert!(rt; groups.as_str() == "a" && groups.remainder_len() == 1);
-    assert!(rt; holds(groups.next(), Some(b"a")) && groups.next().is_none());
+    assert!(rt; fill_the_outer_ones(&mut bytes));
     assert_eq!(rt; bytes, [0x80, 0x80, 0x61, 0x80, 0x80]);
     Ok(())
+}
+
+fn hints_at_nothing(mut bytes: &mut [u8]) -> bool
+    requires { IsUtf8 bytes.old }
+{
+    StrGroupByMut::linear_group_mut(&mut bytes).size_hint() == (0, None)
+}
+
+fn last_is(bytes: &mut [u8], wanted: Option<&[u8]>) -> bool
+    requires { IsUtf8 bytes.old }
+{
+    holds(LinearStrGroupMut::new(bytes).last(), wanted)
 }
 
 #[test]
 fn size_hint_and_last(rt: HostRuntime) {
     let mut array = *b"aab";
-    let mut bytes: &mut [u8] = &mut array;
-    let groups = StrGroupByMut::linear_group_mut(&mut bytes);
-    assert_eq!(rt; groups.size_hint(), (0, None));
-    assert!(rt; holds(groups.last(), Some(b"b")));
-    assert!(rt; LinearStrGroupMut::new(&mut []).last().is_none());
+    assert!(rt; hints_at_nothing(&mut array));
+    assert!(rt; last_is(&mut [], None));
+}
+
+fn fill_the_last(bytes: &mut [u8]) -> bool
+    requires { IsUtf8 bytes.old }
+{
+    filled(LinearStrGroupMut::new(bytes).last(), b"kk", b'-')
 }
 
 // No contract says so: `last` leaves the bytes before its group.
 #[test]
 fn last_leaves_the_other_bytes(rt: HostRuntime) {
     let mut array = *b"abcdefghijkk";
-    let groups = LinearStrGroupMut::new(&mut array);
-    assert!(rt; filled(groups.last(), b"kk", b'-'));
+    assert!(rt; fill_the_last(&mut array));
     assert_eq!(rt; array, *b"abcdefghij--");
 }
 
-// No contract says so: a method leaves the variable's bytes. What they are after a method is not known, so they are tested
-// again.
-#[test]
-fn leaves_the_other_bytes(rt: HostRuntime) -> Result<(), Fail> {
-    let mut array = *b"abb--";
-    let mut bytes: &mut [u8] = &mut array;
+// A call of each method, which the bytes outlast. What they are after a method is not known, so they are tested again.
+fn call_each_method(mut bytes: &mut [u8]) -> bool
+    requires { IsUtf8 bytes.old }
+{
     let _ = StrGroupByMut::linear_group_mut(&mut bytes).next();
-    std::str::from_utf8(bytes)?;
+    if std::str::from_utf8(bytes).is_err() {
+        return false;
+    }
     let _ = bytes.linear_group_by_mut(ascends).next_back();
-    std::str::from_utf8(bytes)?;
+    if std::str::from_utf8(bytes).is_err() {
+        return false;
+    }
     let _ = bytes.linear_group_by_key_mut(itself).last();
-    assert_eq!(rt; &*bytes, b"abb--".as_slice());
-    Ok(())
+    &*bytes == b"abb--".as_slice()
+}
+
+// No contract says so: a method leaves the variable's bytes.
+#[test]
+fn leaves_the_other_bytes(rt: HostRuntime) {
+    let mut array = *b"abb--";
+    assert!(rt; call_each_method(&mut array));
+    assert_eq!(rt; array, *b"abb--");
 }
 
 // A predicate that refuses its second question alone, which no function of two characters does.
-#[test]
-fn walks_with_a_changing_predicate(rt: HostRuntime) {
-    let mut bytes = *b"wxyz";
-    let mut questions = 0usize;
-    let mut groups = LinearStrGroupByMut::new(&mut bytes, |_a, _b| {
-        questions = questions.wrapping_add(1);
-        questions != 2
+fn walk_by_changing_predicate(bytes: &mut [u8], questions: &mut usize) -> bool
+    requires { IsUtf8 bytes.old }
+{
+    let mut groups = LinearStrGroupByMut::new(bytes, |_a, _b| {
+        *questions = questions.wrapping_add(1);
+        *questions != 2
     });
     let mut last: Option<&mut [u8]> = None;
     let mut first: Option<&mut [u8]> = None;
@@ -168,7 +226,14 @@ fn walks_with_a_changing_predicate(rt: HostRuntime) {
     walk(&mut groups, &[Back], from_mut(&mut last));
     walk(&mut groups, &[Front], from_mut(&mut first));
     walk(&mut groups, &[Back], from_mut(&mut none));
-    assert!(rt; holds(last, Some(b"yz")) && holds(first, Some(b"wx")) && none.is_none());
+    holds(last, Some(b"yz")) && holds(first, Some(b"wx")) && none.is_none()
+}
+
+#[test]
+fn walks_with_a_changing_predicate(rt: HostRuntime) {
+    let mut bytes = *b"wxyz";
+    let mut questions = 0usize;
+    assert!(rt; walk_by_changing_predicate(&mut bytes, &mut questions));
     assert_eq!(rt; questions, 3);
 }
 

@@ -98,24 +98,36 @@ fn linear_keys_are_two_a_question(rt: HostRuntime) {
     assert_eq!(rt; [linear_keys(&[10, 11, 20, 21]), linear_keys(&[])], [6, 0]);
 }
 
+// Slices, how long the longest group of equal elements is, and how many questions are asked.
+const LONGEST: [(&[u32], (usize, usize)); 4] = [
+    (&[1, 2, 2, 2, 2, 3, 3], (4, 6)),
+    (&[1, 2, 2], (2, 2)),
+    (&[7], (1, 0)),
+    (&[], (0, 0)),
+];
+
+// The same of equal tens, where the number of calls for a key is not said.
+const LONGEST_TENS: [(&[u32], usize); 5] = [
+    (&[10, 21, 22, 23, 29, 31, 32], 4),
+    (&[5, 15, 115], 1),
+    (&[5, 15, 16], 2),
+    (&[7], 1),
+    (&[], 0),
+];
+
 #[test]
 fn adapters_ask_no_more(rt: HostRuntime) {
-    let counts = [
-        linear_questions_of_for(&[1, 1, 2]),
-        linear_questions_of_rev(&[1, 1, 2]),
-    ];
-    assert_eq!(rt; counts, [2, 2]);
-    assert_eq!(rt; longest_and_questions(&[1, 2, 2, 2, 2, 3, 3]), (4, 6));
-    assert_eq!(rt; longest_and_questions(&[1, 2, 2]), (2, 2));
-    assert_eq!(rt;
-        [longest_and_questions(&[7]), longest_and_questions(&[])],
-        [(1, 0), (0, 0)]
-    );
-    assert_eq!(rt;
-        [longest_and_binary_keys(&[7]), longest_and_binary_keys(&[])],
-        [(1, 0), (0, 0)]
-    );
-    assert_eq!(rt; longest_and_binary_keys(&[10, 21, 22, 23, 29, 31, 32]).0, 4);
-    assert_eq!(rt; longest_and_binary_keys(&[5, 15, 115]).0, 1);
-    assert_eq!(rt; longest_and_binary_keys(&[5, 15, 16]).0, 2);
+    const PAIR_AND_ONE: &[u32] = &[1, 1, 2];
+    assert!(rt; linear_questions_of_for(PAIR_AND_ONE) == 2);
+    assert!(rt; linear_questions_of_rev(PAIR_AND_ONE) == 2);
+    for (numbers, wanted) in LONGEST {
+        assert!(rt; longest_and_questions(numbers) == wanted, "{numbers:?}");
+    }
+    for (numbers, len) in LONGEST_TENS {
+        let (longest, calls) = longest_and_binary_keys(numbers);
+        assert!(rt;
+            longest == len && (numbers.len() > 1 || calls == 0),
+            "{numbers:?}"
+        );
+    }
 }

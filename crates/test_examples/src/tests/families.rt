@@ -29,8 +29,11 @@ fn walks_families(rt: HostRuntime) {
     assert_eq!(rt; exponential[1], Some([1, 1].as_slice()));
 }
 
-fn is_two(group: &mut [u8]) -> bool {
-    matches!(group, [2])
+fn is_two(group: Option<&mut [u8]>) -> bool {
+    match group {
+        Some(group) => &*group == [2].as_slice(),
+        None => false,
+    }
 }
 
 #[test]
@@ -47,28 +50,39 @@ fn walks_two_families(rt: HostRuntime) {
         from_mut(&mut last),
     );
     assert_eq!(rt; reading[0], Some([2].as_slice()));
-    assert!(rt; last.is_some_and(is_two));
+    assert!(rt; is_two(last));
 }
 
 #[test]
 fn counts_sorted(rt: HostRuntime) {
-    let counts = [
-        count_sorted(&[1, 1, 2, 5, 5]),
-        count_sorted::<i32>(&[]),
-        count_sorted(&[1, 3, 2]),
-    ];
-    assert_eq!(rt; counts, [Some(3), Some(0), None]);
+    assert!(rt; count_sorted(&[1, 1, 2, 5, 5]) == Some(3));
+    assert!(rt; count_sorted::<i32>(&[]) == Some(0));
+    assert!(rt; count_sorted(&[1, 3, 2]).is_none());
+    assert!(rt; first_len(&[1, 1, 2]) == 2);
+}
+
+#[test]
+fn sorts_and_counts(rt: HostRuntime) {
     let mut mixed = [3, 1, 3, 2, 1];
-    assert_eq!(rt; sort_and_count(&mut mixed), 3);
-    assert_eq!(rt; mixed, [1, 1, 2, 3, 3]);
-    assert_eq!(rt; first_len(&[1, 1, 2]), 2);
-    assert_eq!(rt; after_first(&[1, 1, 2]).next(), Some([2].as_slice()));
-    for len in 0..72u32 {
-        let numbers: [u32; 1001] = array::from_fn(|place| u32::from(place >= len as usize));
-        let rest = numbers.len() - len as usize;
-        assert_eq!(rt;
-            after_first(&numbers).remainder_len(),
-            if len == 0 { 0 } else { rest }
-        );
+    assert!(rt; sort_and_count(&mut mixed) == 3);
+    assert!(rt; mixed == [1, 1, 2, 3, 3]);
+}
+
+// How many elements remain after the first group, of so many zeros before ones.
+fn count_after(zeros: usize) -> usize {
+    let numbers: [u32; 1001] = array::from_fn(|place| u32::from(place >= zeros));
+    after_first(&numbers).remainder_len()
+}
+
+#[test]
+fn walks_on_after_the_first_group(rt: HostRuntime) {
+    assert!(rt;
+        after_first(&[1, 1, 2])
+            .next()
+            .is_some_and(|group| group == [2].as_slice())
+    );
+    assert!(rt; count_after(0) == 0);
+    for zeros in 1..72 {
+        assert!(rt; count_after(zeros) == 1001 - zeros);
     }
 }

@@ -13,22 +13,15 @@ const LETTERS: [u32; 3] = [67, 75, 82];
 // How many words there are of each length.
 const WORDS: [usize; 6] = [1, 3, 9, 27, 81, 243];
 
-fn holds_of_words<F: Fn(&[u32]) -> bool>(check: F) -> bool
-    requires { F.IsAlwaysCallable check }
-{
-    let mut holds = true;
-    for (len, words) in WORDS.iter().enumerate() {
-        for number in 0..*words {
-            let mut rest = number;
-            let mut word = [0u32; 5];
-            for letter in &mut word {
-                *letter = LETTERS[rest % 3];
-                rest /= 3;
-            }
-            holds &= word.get(..len).is_some_and(|word| check(word));
-        }
+// The word of five letters that the number's ternary digits are.
+fn word_of(number: usize) -> [u32; 5] {
+    let mut rest = number;
+    let mut word = [0u32; 5];
+    for letter in &mut word {
+        *letter = LETTERS[rest % 3];
+        rest /= 3;
     }
-    holds
+    word
 }
 
 // How many letters there are before one that differs from the first.
@@ -126,9 +119,15 @@ fn characters_stay(word: &[u32]) -> bool {
 
 #[test]
 fn of_each_word(rt: HostRuntime) {
-    assert!(rt; holds_of_words(is_longest));
-    assert!(rt; holds_of_words(is_longest_where_sorted));
-    assert!(rt; holds_of_words(adds_up));
-    assert!(rt; holds_of_words(ends_are_cleared));
-    assert!(rt; holds_of_words(characters_stay));
+    for (len, words) in WORDS.iter().enumerate() {
+        for number in 0..*words {
+            let whole = word_of(number);
+            let word = whole.get(..len).unwrap_or(&[]);
+            assert!(rt; is_longest(word), "{word:?}");
+            assert!(rt; is_longest_where_sorted(word), "{word:?}");
+            assert!(rt; adds_up(word), "{word:?}");
+            assert!(rt; ends_are_cleared(word), "{word:?}");
+            assert!(rt; characters_stay(word), "{word:?}");
+        }
+    }
 }

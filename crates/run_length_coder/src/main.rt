@@ -1,0 +1,23 @@
+//! Codes the bytes of standard input as runs of equal bytes, a line a run: input of any size, in the memory of one block and one
+//! line. With the argument `decode` it reads such lines, and writes the bytes again. `program.rt` has what it does.
+//!
+//! The stored input is lines of runs, of which some say none.
+#![tactic(auto)]
+
+mod decoder;
+mod encoder;
+mod line;
+mod program;
+mod runs;
+
+use std::io::{BufReader, BufWriter};
+use std::process::ExitCode;
+use std::{env, io};
+
+fn main(rt: HostRuntime) -> io::Result<ExitCode> {
+    let words: Vec<String> = env::args(&rt)?.skip(1).collect(rt.alloc())?;
+    let mut input = BufReader::with_capacity(rt.alloc(), 65536, rt.stdin())?;
+    let mut out = BufWriter::new(rt.alloc(), rt.stdout())?;
+    let status = program::run(rt.alloc(), &words, &mut input, &mut out, &mut rt.stderr());
+    Ok(ExitCode::from(status))
+}

@@ -1,0 +1,25 @@
+//! Joins two tables of standard input that are sorted by their keys. The keys are texts that ascend byte by byte, and one may stand
+//! several times. `program.rt` has what is read and what is written.
+//!
+//! Each row of the join goes out as it is found. What is kept in memory is the two tables and the longest line.
+#![tactic(auto)]
+
+mod join;
+mod kind;
+mod output;
+mod program;
+mod row;
+mod run;
+mod table;
+
+use std::io::{BufReader, BufWriter};
+use std::process::ExitCode;
+use std::{env, io};
+
+fn main(rt: HostRuntime) -> io::Result<ExitCode> {
+    let words: Vec<String> = env::args(&rt)?.skip(1).collect(rt.alloc())?;
+    let input = BufReader::new(rt.alloc(), rt.reader())?;
+    let mut out = BufWriter::new(rt.alloc(), io::writer(&rt))?;
+    let status = program::run(rt.alloc(), &words, input, &mut out, &mut rt.stderr());
+    Ok(ExitCode::from(status))
+}

@@ -1,0 +1,28 @@
+//! Counts the tokens of standard input, the longest runs of characters of one class, in one pass: input of any size, in the memory
+//! of one block. Letters, digits and white space are those of ASCII. All other bytes, whether they are parts of characters or not,
+//! are of the class `other`. `program.rt` has what it does.
+//!
+//! The stored input is Rattle source: a file of this repository as it once stood.
+#![tactic(auto)]
+
+mod characters;
+mod class;
+mod counter;
+mod program;
+mod report;
+mod tally;
+
+use std::process::ExitCode;
+use std::{env, io};
+
+fn main(rt: HostRuntime) -> io::Result<ExitCode> {
+    let words: Vec<String> = env::args(&rt)?.skip(1).collect(rt.alloc())?;
+    let status = program::run(
+        rt.alloc(),
+        &words,
+        &mut rt.stdin(),
+        &mut rt.stdout(),
+        &mut rt.stderr(),
+    );
+    Ok(ExitCode::from(status))
+}

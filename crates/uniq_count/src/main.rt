@@ -1,0 +1,21 @@
+//! Counts equal neighbouring lines of standard input, as `uniq -c` does, and writes the counts with no columns: input of any size.
+//! What is kept in memory is a block of lines, or one that is longer, a slice for each of them, and one line that may go on. Lines
+//! are bytes up to a line feed; the last needs none. `program.rt` has what it does.
+#![tactic(auto)]
+
+mod counter;
+mod lines;
+mod program;
+mod repeated;
+
+use std::io::{BufReader, BufWriter};
+use std::process::ExitCode;
+use std::{env, io};
+
+fn main(rt: HostRuntime) -> io::Result<ExitCode> {
+    let words: Vec<String> = env::args(&rt)?.skip(1).collect(rt.alloc())?;
+    let mut input = BufReader::with_capacity(rt.alloc(), 65536, rt.stdin())?;
+    let mut out = BufWriter::new(rt.alloc(), rt.stdout())?;
+    let status = program::run(rt.alloc(), &words, &mut input, &mut out, &mut rt.stderr());
+    Ok(ExitCode::from(status))
+}

@@ -1,0 +1,125 @@
+"""What the programs write and say, written out by hand: the program, its arguments, its input, its status, what it writes, and what it
+says on standard error."""
+
+LEFT_OUT = b"line %d is left out: %s\n"
+NO_JOIN_DIVIDER = b"there is no line `--`: it has to stand between the left rows and the right ones\n"
+NO_INDEX_DIVIDER = b"there is no line `--`: it has to stand between the entries and the queries\n"
+NO_COMMA = b"it has no comma"
+NO_TEXT = b"it is not UTF-8"
+
+
+def said(*lines):
+    """The complaints of these lines: a number and why each is left out."""
+    return b"".join(LEFT_OUT % line for line in lines)
+
+
+def utf8(*lines):
+    """The same of texts that are not ASCII."""
+    return said(*((number, why.encode()) for number, why in lines))
+
+
+NO_RUN = b"it is no run: two numbers with a space between them"
+NO_BYTE = b"its byte is no number up to 255"
+NO_COUNT = b"its count is no number of 64 bits"
+RUNS = b"2 97\n0 98\n3\n\n1 256\nx 1\n18446744073709551616 1\n\xff 1\n1 98 \n1 99\r\n3 100"
+WRONG_RUNS = said(
+    (2, b"its count is 0"), (3, NO_RUN), (4, NO_RUN), (5, NO_BYTE), (6, NO_COUNT), (7, NO_COUNT), (8, NO_RUN), (9, NO_BYTE)
+)
+
+LOWER = 'its key %s is lower than %s, the greatest before it'
+TABLES = b"a,1\nb,2\n--\nb,3\nc,4\n"
+WRONG_TABLES = b"a,1\nno\nb,2\n--\nb,3\nnone\nc,4\n"
+WRONG_LINES = said((2, NO_COMMA), (6, NO_COMMA))
+JOINED = {"inner": b"b,2,3\n", "left": b"a,1,\nb,2,3\n", "full": b"a,1,\nb,2,3\nc,,4\n", "semi": b"b,2\n", "anti": b"a,1\n"}
+
+CASES = [
+    ("run_length_coder", [], b"", 0, b"", b""),
+    ("run_length_coder", [], b"aaab\0\0\xff", 0, b"3 97\n1 98\n2 0\n1 255\n", b""),
+    ("run_length_coder", [], b"\n\n", 0, b"2 10\n", b""),
+    ("run_length_coder", ["decode"], b"", 0, b"", b""),
+    ("run_length_coder", ["decode"], b"3 97\n1 98\n2 0\n1 255\n", 0, b"aaab\0\0\xff", b""),
+    ("run_length_coder", ["decode"], RUNS, 1, b"aacddd", WRONG_RUNS),
+    ("run_length_coder", ["decode"], b"65537 7\n1 8\n", 0, b"\x07" * 65537 + b"\x08", b""),
+    ("uniq_count", [], b"", 0, b"", b""),
+    ("uniq_count", [], b"a\na\nb\r\nb\n\n\n\0\n\xff\n\xff", 0, b"2 a\n1 b\r\n1 b\n2 \n1 \0\n2 \xff\n", b""),
+    ("uniq_count", [], b"\n", 0, b"1 \n", b""),
+    ("token_counter", [], b"", 0, b"letters: 0\ndigits: 0\nspace: 0\nother: 0\n", b""),
+    ("token_counter", [], b"let x1 = \xe9\xa5\xb0\xff;\r\n\0", 0, b"letters: 2\ndigits: 1\nspace: 4\nother: 3\n", b""),
+    ("token_counter", [], b"aZ09 \t\n\x0b\x0c\r[`{@/:", 0, b"letters: 1\ndigits: 1\nspace: 2\nother: 2\n", b""),
+    ("grouped_report", [], b"", 0, b"total: 0\n", b""),
+    (
+        "grouped_report", [], b"9,1\r\n7,18446744073709551615\n9,2\n7,+1", 0,
+        b"department 7: 18446744073709551616\ndepartment 9: 3\ntotal: 18446744073709551619\n", b"",
+    ),
+    (
+        "grouped_report", [], b"5,6\nno\n\xff,2\n4294967296,3\n5,7\n1,\x00\n", 1, b"department 5: 13\ntotal: 13\n",
+        said((2, NO_COMMA), (3, NO_TEXT), (4, b"its department is no number of 32 bits"), (6, b"its amount is no number of 64 bits")),
+    ),
+    ("table_join", ["full"], b"a,1\nb,2\nb,x,y\n--\r\nb,3\r\nb,4\nc,5", 0, b"a,1,\nb,2,3\nb,2,4\nb,x,y,3\nb,x,y,4\nc,,5\n", b""),
+    ("table_join", [], TABLES, 0, JOINED["inner"], b""),
+    *(("table_join", [kind], TABLES, 0, rows, b"") for kind, rows in JOINED.items()),
+    *(("table_join", [kind], WRONG_TABLES, 1, rows, WRONG_LINES) for kind, rows in JOINED.items()),
+    (
+        "table_join", ["semi"], b"b,1\nno\n\xff,2\na\"\0,3\n--\nb,4\nwrong\n", 1, b"b,1\n",
+        said((2, NO_COMMA), (3, NO_TEXT), (4, (LOWER % (r'"a\"\0"', '"b"')).encode()), (7, NO_COMMA)),
+    ),
+    ("table_join", ["anti"], "b,1\naé,2\n--\n".encode(), 1, b"b,1\n", utf8((2, LOWER % ('"aé"', '"b"')))),
+    # a key is written as `{:?}` writes it
+    (
+        "table_join", ["anti"], "é,1\nä,2\na,3\nà\"\t\u200b,4\n--\nz,5\n".encode(), 1, "é,1\n".encode(),
+        utf8((2, LOWER % ('"ä"', '"é"')), (3, LOWER % ('"a"', '"é"')), (4, LOWER % (r'"à\"\t\u{200b}"', '"é"'))),
+    ),
+    ("table_join", ["anti"], "é\"\x1b,1\na,2\n--\n".encode(), 1, "é\"\x1b,1\n".encode(), utf8((2, LOWER % ('"a"', r'"é\"\u{1b}"')))),
+    ("table_join", [], b"--\n", 0, b"", b""),
+    ("table_join", [], b"a,1\n", 1, b"", NO_JOIN_DIVIDER),
+    ("table_join", [], b"", 1, b"", NO_JOIN_DIVIDER),
+    ("table_join", [], b"--\n--\n", 1, b"", said((2, NO_COMMA))),
+    ("index_reader", [], b"3,30\n5,51\r\n5,50\n--\r\n5\n4\n+3", 0, b"5: 51 50\n4: none\n3: 30\n3 queries\n", b""),
+    ("index_reader", [], b"--\n", 0, b"0 queries\n", b""),
+    (
+        "index_reader", [], b"5,1\nno\n\xff,2\n-5,3\n6,x\n4,4\n--\n--\n\xff\n", 1, b"0 queries\n",
+        said(
+            (2, NO_COMMA), (3, NO_TEXT), (4, b"its key is no number of 32 bits"), (5, b"its place is no number of 64 bits"),
+            (6, (LOWER % (4, 5)).encode()), (8, b"it is no number of 32 bits"), (9, NO_TEXT),
+        ),
+    ),
+    ("index_reader", [], b"5,1\n5\n", 1, b"", said((2, NO_COMMA)) + NO_INDEX_DIVIDER),
+    ("index_reader", [], b"", 1, b"", NO_INDEX_DIVIDER),
+    # lines are read without their end, of which the last has none
+    ("table_join", ["anti"], b"a,\r\r\nb,\xc3\xa9\n--", 0, b"a,\r\nb,\xc3\xa9\n", b""),
+]
+
+# The names of the programs, and arguments that each knows but in other words.
+PROGRAMS = {
+    "run_length_coder": ["decode", "a"],
+    "uniq_count": ["a"],
+    "token_counter": ["a"],
+    "grouped_report": ["a"],
+    "table_join": ["left", "right"],
+    "index_reader": ["a"],
+}
+
+# A run of each, in which nothing is wrong.
+SAMPLES = [
+    ("run_length_coder", [], b"aaab\0\0\xff"),
+    ("run_length_coder", ["decode"], b"3 97\n1 98\n12 255\n"),
+    ("uniq_count", [], b"a\na\nb\n\nccc\n"),
+    ("token_counter", [], b"let x1 = \xc3\xa9;\n"),
+    ("grouped_report", [], b"9,1\n7,65\n9,2\n10,3\n"),
+    ("table_join", ["full"], b"a,1\nb,2\nb,x\n--\nb,3\nc,5\n"),
+    ("table_join", ["anti"], b"a,1\nb,2\n--\nb,3\nc,5\n"),
+    ("index_reader", [], b"3,30\n5,51\n5,50\n--\n5\n4\n3\n"),
+]
+
+# A run of each that reads lines, in which the first is left out.
+WITH_A_LINE_LEFT_OUT = [
+    ("run_length_coder", ["decode"], b"no run\n1 97\n"),
+    ("grouped_report", [], b"no row\n1,2\n"),
+    ("table_join", [], b"no row\na,1\n--\na,2\n"),
+    ("index_reader", [], b"no row\n1,2\n--\n1\n"),
+]
+
+# Arguments that no program knows.
+UNKNOWN = [
+    [word] for word in ["", "-", "--", "--helps", "help", "-h", "-c", "-d", "d", "Decode", "decoded", "INNER", "join", "1"]
+] + [["--help", "--help"], ["a", "b", "c"], [""] * 7]
