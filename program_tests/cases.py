@@ -119,7 +119,32 @@ WITH_A_LINE_LEFT_OUT = [
     ("index_reader", [], b"no row\n1,2\n--\n1\n"),
 ]
 
+# How the input of each begins that reads lines, what is said of its last line, before it is read on.
+LEFT_OUT_AT_ONCE = [
+    ("run_length_coder", ["decode"], b"no run\n", b"line 1 is left out"),
+    ("grouped_report", [], b"no row\n", b"line 1 is left out"),
+    ("table_join", [], b"no row\n", b"line 1 is left out"),
+    ("table_join", [], b"--\nno row\n", b"line 2 is left out"),
+    ("index_reader", [], b"no row\n", b"line 1 is left out"),
+    ("index_reader", [], b"--\nno query\n", b"line 2 is left out"),
+]
+
+# Long inputs of each, read by blocks.
+BLOCKS = [
+    ("run_length_coder", [], b"a" * 300_000),
+    ("run_length_coder", ["decode"], b"1 97\n" * 60_000),
+    ("uniq_count", [], b"a\n" * 150_000),
+    ("token_counter", [], b"a" * 300_000),
+    ("grouped_report", [], b"1,1\n" * 75_000),
+    ("table_join", ["semi"], b"k,v\n" * 75_000 + b"--\n"),
+    ("index_reader", [], b"1,1\n" * 75_000 + b"--\n"),
+]
+
 # Arguments that no program knows.
 UNKNOWN = [
-    [word] for word in ["", "-", "--", "--helps", "help", "-h", "-c", "-d", "d", "Decode", "decoded", "INNER", "join", "1"]
+    [word]
+    for word in [
+        "", "-", "--", "--helps", "help", "-h", "-c", "-d", "d", "Decode", "decoded", "INNER", "join", "1", " --help", "--help ", "-help",
+        "--version", "decode\n", "--decode", "inner ", "--inner",
+    ]
 ] + [["--help", "--help"], ["a", "b", "c"], [""] * 7]

@@ -16,7 +16,16 @@ RIGHT = [
     # of two letters that differ there is one question, and every family has to ask it
     *(f"{family} reading halves FF ab a,b 1" for family in FAMILIES),
     *(f"{family} writing halves FF ab ## a,b 1" for family in FAMILIES),
+    # of eight alike a scan asks seven questions, halving seven others three, and galloping about the second, third and fifth of them, and
+    # then about two of the last three
+    *(f"{family} reading halves F aaaaaaaa aaaaaaaa {count}" for family, count in [("linear", 7), ("binary", 3), ("exponential", 5)]),
 ]
+
+# Of letters in turns a scan ends behind the first, halving behind the seventh, and galloping behind the third.
+for family, group in [("linear", "a"), ("binary", "aeaeaea"), ("exponential", "aea")]:
+    for judge in ["halves", "key", "equality"]:
+        RIGHT.append(f"{family} reading {judge} F aeaeaeae {group} -")
+        RIGHT.append(f"{family} writing {judge} F aeaeaeae {'#' * len(group)}{'aeaeaeae'[len(group):]} {group} -")
 
 WRONG = [
     "linear reading halves FFF abc a,bc,a -",
@@ -40,6 +49,9 @@ WRONG = [
     "text writing halves F éa #a é -",
     "text writing halves F éa ### é -",
     "text writing halves F éa éa é -",
+    "linear reading halves FFF abc a,c,- -",
+    *(f"{family} writing halves B abc a## {group} -" for family in FAMILIES for group in ["b", "c", "BC", "bd", "abc"]),
+    *(f"text reading halves B abc {group} -" for group in ["b", "c", "BC", "bd", "abc"]),
 ]
 
 for family in FAMILIES:
@@ -61,24 +73,25 @@ for search, word in [("element", "aacd"), ("comparator", "aacd"), ("key", "aACd"
     for place in [0, 1, 3, 4, 1000]:
         WRONG += [f"search {search} c {word} found {place}", f"search {search} b {word} absent {place}"]
 
+# A line, and what is said to be missing or wrong in it.
 NO_LINES = [
-    "",
-    "linea reading halves FF abc a,bc 2",
-    "linear read halves FF abc a,bc 2",
-    "linear reading half FF abc a,bc 2",
-    "linear reading halves FG abc a,bc 2",
-    "linear reading halves LF abc bc,a 2",
-    "linear reading halves FF abc a 2",
-    "linear reading halves F abc a,bc 2",
-    "linear reading halves FF abc a,bc",
-    "linear reading halves FF abc a,bc two",
-    "linear reading halves FF abc a,bc 2 3",
-    "search elements c aacd found 2",
-    "search element cc aacd found 2",
-    "search element c aacd finds 2",
-    "search element c aacd found two",
-    "search element c aacd found",
-    "search element c aacd found 2 2",
+    ("", "type"),
+    ("linea reading halves FF abc a,bc 2", "type"),
+    ("linear read halves FF abc a,bc 2", "reading or writing"),
+    ("linear reading half FF abc a,bc 2", "judge"),
+    ("linear reading halves FG abc a,bc 2", "list of calls"),
+    ("linear reading halves LF abc bc,a 2", "list of calls"),
+    ("linear reading halves FF abc a 2", "list of answers"),
+    ("linear reading halves F abc a,bc 2", "list of calls"),
+    ("linear reading halves FF abc a,bc", "number of questions"),
+    ("linear reading halves FF abc a,bc two", "number of questions"),
+    ("linear reading halves FF abc a,bc 2 3", "end"),
+    ("search elements c aacd found 2", "search"),
+    ("search element cc aacd found 2", "target"),
+    ("search element c aacd finds 2", "answer"),
+    ("search element c aacd found two", "place"),
+    ("search element c aacd found", "place"),
+    ("search element c aacd found 2 2", "end"),
 ]
 
 

@@ -4,28 +4,40 @@ use slice_group_by::{BinaryGroupByMut, ExponentialGroupByMut, LinearGroupByMut};
 use std::cell::Cell;
 use test_calls::{answers_mut, len_of_mut};
 
-// May never be called.
-fn never(_a: &i32, _b: &i32) -> bool
-    requires { ⊥ }
-{
-    true
-}
-
 const ALONE: [(End, Option<&'static [i32]>); 2] = [(Front, Some(&[1])), (Front, None)];
 
+// A predicate that may never be called.
 fn linear_alone() -> bool {
     let mut slice = [1];
-    answers_mut(LinearGroupByMut::new(&mut slice, never), &ALONE)
+    let groups = LinearGroupByMut::new(
+        &mut slice,
+        |_a: &i32, _b: &i32| -> bool
+            requires { ⊥ }
+        { true },
+    );
+    answers_mut(groups, &ALONE)
 }
 
 fn binary_alone() -> bool {
     let mut slice = [1];
-    answers_mut(BinaryGroupByMut::new(&mut slice, never), &ALONE)
+    let groups = BinaryGroupByMut::new(
+        &mut slice,
+        |_a: &i32, _b: &i32| -> bool
+            requires { ⊥ }
+        { true },
+    );
+    answers_mut(groups, &ALONE)
 }
 
 fn exponential_alone() -> bool {
     let mut slice = [1];
-    answers_mut(ExponentialGroupByMut::new(&mut slice, never), &ALONE)
+    let groups = ExponentialGroupByMut::new(
+        &mut slice,
+        |_a: &i32, _b: &i32| -> bool
+            requires { ⊥ }
+        { true },
+    );
+    answers_mut(groups, &ALONE)
 }
 
 #[test]
