@@ -147,4 +147,4 @@ UNKNOWN = [
         "", "-", "--", "--helps", "help", "-h", "-c", "-d", "d", "Decode", "decoded", "INNER", "join", "1", " --help", "--help ", "-help",
         "--version", "decode\n", "--decode", "inner ", "--inner",
     ]
-] + [["--help", "--help"], ["a", "b", "c"], [""] * 7]
+] + [["--help", "--help"], ["a", "b", "c"], [""] * 7, [b"\xff"], ["--help", b"\xff"]]

@@ -13,12 +13,13 @@ mod row;
 mod run;
 mod sums;
 
+use program_parts::arguments::arguments;
+use std::io;
 use std::io::{BufReader, BufWriter};
 use std::process::ExitCode;
-use std::{env, io};
 
 fn main(rt: HostRuntime) -> io::Result<ExitCode> {
-    let words: Vec<String> = env::args(&rt)?.skip(1).collect(rt.alloc())?;
+    let words = arguments(&rt)?;
     let input = BufReader::new(rt.alloc(), rt.reader())?;
     let mut out = BufWriter::new(rt.alloc(), io::writer(&rt))?;
     let status = program::run(rt.alloc(), &words, input, &mut out, &mut rt.stderr());

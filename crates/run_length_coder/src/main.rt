@@ -10,12 +10,13 @@ mod line;
 mod program;
 mod runs;
 
+use program_parts::arguments::arguments;
+use std::io;
 use std::io::{BufReader, BufWriter};
 use std::process::ExitCode;
-use std::{env, io};
 
 fn main(rt: HostRuntime) -> io::Result<ExitCode> {
-    let words: Vec<String> = env::args(&rt)?.skip(1).collect(rt.alloc())?;
+    let words = arguments(&rt)?;
     let mut input = BufReader::with_capacity(rt.alloc(), 65536, rt.stdin())?;
     let mut out = BufWriter::new(rt.alloc(), rt.stdout())?;
     let status = program::run(rt.alloc(), &words, &mut input, &mut out, &mut rt.stderr());

@@ -12,11 +12,12 @@ mod program;
 mod report;
 mod tally;
 
+use program_parts::arguments::arguments;
+use std::io;
 use std::process::ExitCode;
-use std::{env, io};
 
 fn main(rt: HostRuntime) -> io::Result<ExitCode> {
-    let words: Vec<String> = env::args(&rt)?.skip(1).collect(rt.alloc())?;
+    let words = arguments(&rt)?;
     let status = program::run(
         rt.alloc(),
         &words,
