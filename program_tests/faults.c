@@ -32,14 +32,18 @@ static int is_interrupted(long times, long *left) {
     return 1;
 }
 
+static void note(const char *call) {
+    long counter = number("COUNT", -1);
+    if (counter >= 0) syscall(SYS_write, counter, call, 1);
+}
+
 // READ_EACH: at most so many bytes at once. READ_SIGNALS: so many interruptions before each read. READ_ERROR: behind
-// READ_AT bytes one read fails by this code. READ_MORE: what a read behind the end gives. READ_COUNT: the descriptor to
-// which a byte is written for each read.
+// READ_AT bytes one read fails by this code. READ_MORE: what a read behind the end gives. COUNT: the descriptor to which a
+// letter is written for each call, `r` or `w`.
 ssize_t read(int fd, void *buffer, size_t count) {
     static long given, left = -1, has_failed, is_ended, has_gone_on;
     if (fd != 0) return syscall(SYS_read, fd, buffer, count);
-    long counter = number("READ_COUNT", -1);
-    if (counter >= 0) syscall(SYS_write, counter, "r", 1);
+    note("r");
     if (is_interrupted(number("READ_SIGNALS", 0), &left)) return fails(EINTR);
     long error = number("READ_ERROR", 0), at = number("READ_AT", 0);
     if (error && !has_failed) {
@@ -67,6 +71,7 @@ ssize_t read(int fd, void *buffer, size_t count) {
 ssize_t write(int fd, const void *buffer, size_t count) {
     static long taken, left[2] = {-1, -1}, has_failed;
     if (fd != 1 && fd != 2) return syscall(SYS_write, fd, buffer, count);
+    note("w");
     if (is_interrupted(number("WRITE_SIGNALS", 0), &left[fd - 1])) return fails(EINTR);
     count = least(count, number("WRITE_EACH", -1));
     long error = number("WRITE_ERROR", -1), at = number("WRITE_AT", 0);
