@@ -1,67 +1,56 @@
--- The part of a slice between two places, as a search from one of its ends sees it: which element stands at which place.
-use Rattle.std.proofs.Common.{◌≡◌, ℕ, ◌+◌, ◌-◌, ◌<◌, ◌≤◌, List, length, get_or, refl, ap, sym, ◌∙◌, arith, inl, inr}
-use Rattle.std.specs.Prelude.{Some, None, ◌⊎◌, reverse, slice_get, slice_range}
+-- A search from an end of a part of a slice: when it may be made, and what it asks.
+use Rattle.std.proofs.Common.{◌≡◌, ℕ, ◌-◌, ◌<◌, List, length, get_or, refl, subst, sym, ◌∙◌, arith}
+use Rattle.std.specs.Prelude.{Bool, Result, Some, reverse, slice_get}
 use Rattle.std.proofs.lemmas.List.{length-reverse}
-use Rattle.std.proofs.lemmas.Option.{slice_get_cases}
-use Rattle.sgb_search.specs.Searching.{IsBetween}
-use Rattle.sgb_search.proofs.Lists.Apart.{get_reverse}
-use Rattle.sgb_search.proofs.Splits.Grouped.{get_range}
-use Rattle.sgb_search.proofs.Lists.Ranges.{length-range}
+use Rattle.std.proofs.lemmas.Option.{slice_get-get_or}
+use Rattle.sgb_search.specs.declared.end.End.{End}
+use Rattle.sgb_search.specs.declared.judge.Judge.{Ghosts}
+use Rattle.sgb_search.specs.Split.{from, AreApart}
+use Rattle.sgb_search.specs.Judges.{MayAskAll}
+use Rattle.sgb_search.specs.Searching.{SearchCost, IsBetween, IsPlaceSearch, MayAskAt, AnsweredAt, outward, as_ordering, place_of, SearchQuestions}
+use Rattle.sgb_search.proofs.Lists.Apart.{get_reverse, outward_len, outward_of, outward_apart}
+use Rattle.sgb_search.proofs.Lists.Ends.{length-from}
+use Rattle.sgb_search.proofs.Questions.AtPlaces.{may_places}
+use Rattle.sgb_search.proofs.Searches.Boundaries.{ends_at, never_equal}
 
-module _ {T : Type 0} (xs : List T) where
-  -- a place of the list has an element
-  element_at : (i : ℕ) → i < length xs → (x : T) × (slice_get xs i ≡ Some x)
-  element_at i l = by (slice_get_cases xs i).1
-    where
-      by : ((x : T) × (i < length xs) × (slice_get xs i ≡ Some x) × (get_or xs i x ≡ x)) ⊎ ((length xs ≤ i) × (slice_get xs i ≡ None))
-          → (x : T) × (slice_get xs i ≡ Some x)
-      by (inl (x, within, there, is)) = (x, there)
-      by (inr (past, none)) = absurd (omega (arith, l, past))
+-- the two elements that are asked about, as they are read
+module _ {T : Type 0} (part : List T) (i : ℕ) (d e : T) where
+  pub front_at : i < length (outward part) → slice_get (outward part) i ≡ Some (get_or part 0 d, get_or part i e)
+  front_at l =
+      let n = outward_len part in
+      outward_of part i (get_or part 0 d) (get_or part i e) (slice_get-get_or part 0 d (omega (arith, l)))
+      (slice_get-get_or part i e (omega (arith, l)))
 
-  pub range_at : (low high k : ℕ) → low + k < high → high ≤ length xs
-      → slice_get (slice_range xs low high) k ≡ slice_get xs (low + k)
-  range_at low high k l inside =
-      let e = element_at (low + k) (omega (arith, l, inside)) in get_range xs low high (low + k) k e.0 refl l e.1 ∙ sym e.1
+  back_read : (k j : ℕ) (f : T) → k < length part → j ≡ length part - 1 - k → slice_get (reverse part) k ≡ Some (get_or part j f)
+  back_read k j f l at =
+      get_reverse part k (get_or part j f) l (subst (λ (m : ℕ). slice_get part m ≡ Some (get_or part j f)) at
+      (slice_get-get_or part j f (omega (arith, l, at))))
 
-pub reverse_at : {T : Type 0} (xs : List T) (k : ℕ) → k < length xs → slice_get (reverse xs) k ≡ slice_get xs (length xs - 1 - k)
-reverse_at xs k l =
-    let e = element_at xs (length xs - 1 - k) (omega (arith, l)) in get_reverse xs k e.0 l e.1 ∙ sym e.1
+  pub back_at : i < length (outward (reverse part))
+      → slice_get (outward (reverse part)) i ≡ Some (get_or part (length part - 1) d, get_or part (length part - 1 - i) e)
+  back_at l =
+      let n : length (outward (reverse part)) ≡ length part = outward_len (reverse part) ∙ length-reverse part in
+      outward_of (reverse part) i (get_or part (length part - 1) d) (get_or part (length part - 1 - i) e)
+      (back_read 0 (length part - 1) d (omega (arith, l, n)) (omega arith)) (back_read i (length part - 1 - i) e (omega (arith, l, n)) refl)
 
--- the part of xs from low up to high, which is not empty
-module _ {T : Type 0} (xs : List T) (low high : ℕ) (nonempty : low < high) (inside : high ≤ length xs) where
-  abbrev pub part : List T
-  part = slice_range xs low high
+module _ {T J : Type 0} (g : Ghosts J T) (e : End) (part : List T) where
+  abbrev may : J → ℕ → Type 0
+  may = MayAskAt g.may_ask g.answers (outward (from e part))
 
-  part_len : length part ≡ high - low
-  part_len = length-range xs low high (omega (arith, nonempty)) inside
+  abbrev answers : J → ℕ → Bool → J → Type 0
+  answers = AnsweredAt g.may_ask g.answers (outward (from e part))
 
-  at_same : (i j : ℕ) → i ≡ j → slice_get xs i ≡ slice_get xs j
-  at_same i j e = ap (slice_get xs) e
+  len : length (outward (from e part)) ≡ length part
+  len = outward_len (from e part) ∙ length-from e part
 
-  -- from the front: the first element, and those at the places after it
-  pub front_size : high - (low + 1) + 1 ≡ length part
-  front_size = omega (arith, part_len, nonempty)
+  pub search_may : (j : J) → MayAskAll g.may_ask g.answers (AreApart part) j → MayAskAll may answers (IsBetween 1 (length part)) j
+  search_may =
+      may_places g.may_ask g.answers (outward (from e part)) (IsBetween 1 (length part)) (AreApart part)
+      (λ i q b. outward_apart e part i q b.0) (λ i b. omega (arith, b, len))
 
-  pub front_first : slice_get part 0 ≡ slice_get xs low
-  front_first = range_at xs low high 0 (omega (arith, nonempty)) inside ∙ at_same (low + 0) low (omega arith)
-
-  pub front_others : (i : ℕ) → IsBetween (low + 1) high i → slice_get part (i - (low + 1) + 1) ≡ slice_get xs i
-  front_others i b =
-      range_at xs low high (i - (low + 1) + 1) (omega (arith, b)) inside ∙ at_same (low + (i - (low + 1) + 1)) i (omega (arith, b))
-
-  -- from the back: the last element, and those at the places before it
-  pub back_size : high - low - 1 - 0 + 1 ≡ length (reverse part)
-  back_size = omega (arith, length-reverse part, part_len, nonempty)
-
-  back_at : (k : ℕ) → low + k < high → slice_get (reverse part) k ≡ slice_get xs (high - 1 - k)
-  back_at k l =
-      reverse_at part k (omega (arith, part_len, l))
-      ∙ range_at xs low high (length part - 1 - k) (omega (arith, part_len, l)) inside
-      ∙ at_same (low + (length part - 1 - k)) (high - 1 - k) (omega (arith, part_len, l))
-
-  pub back_first : slice_get (reverse part) 0 ≡ slice_get xs (high - 1)
-  back_first = back_at 0 (omega (arith, nonempty)) ∙ at_same (high - 1 - 0) (high - 1) (omega arith)
-
-  pub back_others : (i : ℕ) → IsBetween 0 (high - low - 1) i → slice_get (reverse part) (i - 0 + 1) ≡ slice_get xs (high - 1 - 1 - i)
-  back_others i b =
-      back_at (i - 0 + 1) (omega (arith, b)) ∙ at_same (high - 1 - (i - 0 + 1)) (high - 1 - 1 - i) (omega (arith, b))
+  pub search_asks : (cost : SearchCost) (j : J) (r : Result ℕ ℕ) (k : J) → IsPlaceSearch may answers as_ordering cost 1 (length part) j r k
+      → SearchQuestions g cost e part (place_of r) j k
+  search_asks cost j r k h =
+      let s = subst (λ (n : ℕ). IsPlaceSearch may answers as_ordering cost 1 n j r k) (sym len) h in
+      subst (λ (q : Result ℕ ℕ). IsPlaceSearch may answers as_ordering cost 1 (length (outward (from e part))) j q k)
+      (ends_at as_ordering s.questions _ 1 _ never_equal r s.tells) s

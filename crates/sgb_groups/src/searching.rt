@@ -1,14 +1,14 @@
 //! The binary and the exponential way to find a group: a search among the places beside the outermost element, at either end of a
 //! slice.
-ghost use Rattle.std.specs.Prelude.{◌≡◌, ◌+◌, ◌-◌, ◌<◌, ◌≤◌, Bool, length};
+ghost use Rattle.std.specs.Prelude.{◌≤◌, length, reverse};
 ghost use Rattle.sgb_search.specs.Judges.{MayAskAll};
-ghost use Rattle.sgb_search.specs.Searching.{SearchCost, SearchRun, IsPlaceSearch, MayAskAt, AnsweredAt, as_ordering, IsBetween};
+ghost use Rattle.sgb_search.specs.Searching.{SearchCost, IsPlaceSearch, MayAskAt, AnsweredAt, outward, as_ordering, IsBetween};
 
 use crate::group_end::GroupEnd;
 use crate::groups::SliceGroups;
 use crate::groups_mut::SliceGroupsMut;
 use sgb_search::end::End;
-use sgb_search::gallop::{Places, before_end};
+use sgb_search::gallop::{Places, before_end, place_of};
 use sgb_search::judge::Judge;
 use std::cmp::Ordering;
 use std::marker::PhantomData;
@@ -44,9 +44,9 @@ pub trait GroupSearch {
     ) -> Result<usize, usize>
         requires order { low ≤ high }
         requires callable { MayAskAll (λ s i. P.may_compare s places.now i)
-            (λ s i o t. P.compares s places.now i o t) (IsBetween low high) asker.old }
-        ensures { IsPlaceSearch (λ s i. P.may_compare s places.now i) (λ s i o t. P.compares s places.now i o t)
-            cost low high asker.old result asker.new };
+            (λ s i a t. P.compares s places.now i a t) (IsBetween low high) asker.old }
+        ensures { IsPlaceSearch (λ s i. P.may_compare s places.now i) (λ s i a t. P.compares s places.now i a t)
+            (λ a. P.reads places.now a) cost low high asker.old result asker.new };
 }
 
 /// Asks about the outermost element and others, by the search `S`.
@@ -89,52 +89,53 @@ impl<S: GroupSearch> GroupEnd for Search<S> {
         high: usize,
         judge: &mut J,
     ) -> usize {
-        match end {
-            End::Front => match S::search(judge, &FromFront { slice, low }, low + 1, high) {
-                Ok(place) | Err(place) => place - low,
-            },
-            End::Back => match S::search(judge, &FromBack { slice, high }, 0, high - low - 1) {
-                Ok(place) | Err(place) => place + 1,
-            },
-        }
+        let part = &slice[low..high];
+        place_of(match end {
+            End::Front => S::search(judge, &FromFront { part }, 1, part.len()),
+            End::Back => S::search(judge, &FromBack { part }, 1, part.len()),
+        })
     }
 }
 
-// The elements of the slice from the place `low` on: their places there, each asked about with the element at `low`.
+// The elements of a part of a slice as it reads from its front, each asked about with the first.
 #[derive(Drop)]
 struct FromFront<'a, T> {
-    slice: &'a [T],
-    low: usize,
+    part: &'a [T],
 }
 
 impl<'a, T, J: Judge<T>> Places<J> for FromFront<'a, T> {
-    ghost may_compare = { λ j c i. MayAskAt J.may_ask J.answers c.slice.now c.low j i };
+    type Answer = bool;
 
-    ghost compares = { λ j c i o k. AnsweredAt J.may_ask J.answers c.slice.now c.low j i o k };
+    ghost may_compare = { λ j c i. MayAskAt J.may_ask J.answers (outward c.part.now) j i };
+
+    ghost compares = { λ j c i b k. AnsweredAt J.may_ask J.answers (outward c.part.now) j i b k };
+
+    ghost reads = { λ _ b. as_ordering b };
 
     #[inline]
     fn compare(&self, judge: &mut J, place: usize) -> Ordering {
-        before_end(judge.ask(&self.slice[self.low], &self.slice[place]))
+        before_end(judge.ask(&self.part[0], &self.part[place]))
     }
 }
 
-// The elements of the slice before the place `high`, read from the back: place 0 is that of the last but one, and each is asked about
-// with the last.
+// The elements of a part of a slice as it reads from its back, each asked about with the last.
 #[derive(Drop)]
 struct FromBack<'a, T> {
-    slice: &'a [T],
-    high: usize,
+    part: &'a [T],
 }
 
 impl<'a, T, J: Judge<T>> Places<J> for FromBack<'a, T> {
-    ghost may_compare = { λ j c i. (i + 1 < c.high)
-        × MayAskAt J.may_ask J.answers c.slice.now (c.high - 1) j (c.high - 1 - 1 - i) };
+    type Answer = bool;
 
-    ghost compares = { λ j c i o k. AnsweredAt J.may_ask J.answers c.slice.now (c.high - 1) j (c.high - 1 - 1 - i) o k };
+    ghost may_compare = { λ j c i. MayAskAt J.may_ask J.answers (outward (reverse c.part.now)) j i };
+
+    ghost compares = { λ j c i b k. AnsweredAt J.may_ask J.answers (outward (reverse c.part.now)) j i b k };
+
+    ghost reads = { λ _ b. as_ordering b };
 
     #[inline]
     fn compare(&self, judge: &mut J, place: usize) -> Ordering {
-        let last = self.high - 1;
-        before_end(judge.ask(&self.slice[last], &self.slice[last - 1 - place]))
+        let last = self.part.len() - 1;
+        before_end(judge.ask(&self.part[last], &self.part[last - place]))
     }
 }

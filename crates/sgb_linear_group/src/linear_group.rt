@@ -21,16 +21,6 @@ use sgb_search::judge::{EqualityJudge, Judge, KeyJudge, PredicateJudge};
 /// ```
 pub type LinearGroup<'a, T> = LinearGroups<'a, T, EqualityJudge>;
 
-/// An iterator over the groups of equal numbers of a slice: the groups of `LinearGroup`, found by vectors, sixteen numbers at a
-/// time. A call takes time by the length of its group; how many comparisons that are is not counted.
-///
-/// ```
-/// let mut groups = LinearNumberGroup::new(&[1, 1, 1, 3, 3, 2, 2, 2]);
-/// groups.next();      // Some([1, 1, 1])
-/// groups.next_back(); // Some([2, 2, 2])
-/// ```
-pub type LinearNumberGroup<'a, T> = LinearGroups<'a, T, NumberJudge>;
-
 /// An iterator over the groups of a slice by a predicate, which is asked about neighbours, the left one first. A call for a group
 /// of g elements asks g questions, or g - 1 where nothing remains after it.
 ///

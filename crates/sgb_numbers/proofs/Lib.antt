@@ -1,4 +1,5 @@
 mod Sixteen
 mod SignedBits
 mod Neighbours
+mod Vectors
 pub mod Judged

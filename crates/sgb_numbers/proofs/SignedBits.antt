@@ -1,5 +1,5 @@
 -- A signed number that fits its type, and the bits that a vector holds of it.
-use Rattle.std.proofs.Common.{◌≡◌, ℕ, ◌+◌, ◌-◌, ◌%◌, ◌^◌, ◌<◌, ◌≤◌, not, cond, List, [], ◌∷◌, length, map, get_or, replicate, eqb, int_eq, ℤ, of_z, to_z, refl, sym, ap, ap₂, ◌∙◌, arith, inl, inr}
+use Rattle.std.proofs.Common.{◌≡◌, ℕ, ◌+◌, ◌-◌, ◌%◌, ◌^◌, ◌<◌, ◌≤◌, not, cond, List, [], ◌∷◌, ◌++◌, length, map, get_or, replicate, eqb, int_eq, ℤ, pos, of_z, to_z, refl, sym, ap, ap₂, ◌∙◌, arith, inl, inr}
 use Rattle.std.proofs.lemmas.Bool.{eqb-true, eq-eqb, false_from_ne_true, cases_Bool, false≢true}
 use Rattle.std.proofs.lemmas.Bool.Decides.{Decides-int_eq}
 use Rattle.std.proofs.lemmas.Int.{to_z-of_z}
@@ -7,8 +7,11 @@ use Rattle.std.proofs.lemmas.List.{length-map}
 use Rattle.std.proofs.lemmas.Simd.{map-map, length-chunk, get_or-chunk, bitmask_splat, Each1-from_get_or}
 use Rattle.std.specs.Int.{Width}
 use Rattle.std.specs.Int.RustNames.{FitsSigned}
-use Rattle.std.specs.Simd.Lanes.{Each1, zip2, chunk, mask_l, top}
+use Rattle.std.specs.Simd.Lanes.{Each1, zip2, chunk, mask_l, top, pick_l}
+use Rattle.std.specs.Prelude.{reverse}
 use mir.Val.{bits, hbits}
+use Rattle.sgb_numbers.specs.Boundaries.{boundaries}
+use Rattle.sgb_numbers.proofs.Vectors.{down, unequal, lanes_mask, boundaries-chunk, mask_of, mask_of_turned}
 
 module _ (w : Width) (e : ℤ) (here : FitsSigned w e) where
   same_bits : (x : ℤ) → FitsSigned w x → not (eqb (of_z w x) (of_z w e)) ≡ not (int_eq x e)
@@ -38,3 +41,41 @@ module _ (w : Width) (e : ℤ) (here : FitsSigned w e) where
       (λ i l. rw (get_or-chunk at 16 xs i e (omega arith)) (fits (at + i) e (omega arith) (omega arith))) in
       bitmask_splat w (λ a b. not (eqb a b)) (map (of_z w) v) 16 (of_z w e) (length-map v (of_z w) ∙ long) (omega arith)
       ∙ ap mask_l (map-map (λ x. not (eqb x (of_z w e))) (of_z w) v ∙ all_bits v each)
+
+-- neighbouring signed numbers
+module _ (w : Width) where
+  same_tests : (xs ys : List ℤ) → Each1 (FitsSigned w) xs → Each1 (FitsSigned w) ys
+      → zip2 (unequal eqb) (map (of_z w) xs) (map (of_z w) ys) ≡ zip2 (unequal int_eq) xs ys
+  same_tests [] ys f g = refl
+  same_tests (x ∷ xs) [] f g = refl
+  same_tests (x ∷ xs) (y ∷ ys) f g = ap₂ (λ b bs. b ∷ bs) (same_bits w y g.0 x f.0) (same_tests xs ys f.1 g.1)
+
+  module _ (xs : List ℤ) (at : ℕ) (room : at + 16 < length xs)
+      (fits : (k : ℕ) (d : ℤ) → at ≤ k → k < at + 17 → FitsSigned w (get_or xs k d)) where
+    abbrev held : ℕ → List ℕ
+    held from = map (of_z w) (chunk from 16 xs)
+
+    each : (from : ℕ) → at ≤ from → from ≤ at + 1 → Each1 (FitsSigned w) (chunk from 16 xs)
+    each from l u =
+        Each1-from_get_or (FitsSigned w) (chunk from 16 xs) (pos 0)
+        (λ i few.
+        let long = length-chunk from 16 xs (omega (arith, u, room)) in
+        rw (get_or-chunk from 16 xs i (pos 0) (omega (arith, few, long))) (fits (from + i) (pos 0) (omega (arith, l)) (omega (arith, few, long, u))))
+
+    long_of : (from : ℕ) → from ≤ at + 1 → length (held from) ≡ 16
+    long_of from u = length-map (chunk from 16 xs) (of_z w) ∙ length-chunk from 16 xs (omega (arith, u, room))
+
+    tests_are : zip2 (unequal eqb) (held at) (held (at + 1)) ≡ chunk at 16 (boundaries int_eq xs)
+    tests_are =
+        same_tests (chunk at 16 xs) (chunk (at + 1) 16 xs) (each at (omega arith) (omega arith)) (each (at + 1) (omega arith) (omega arith))
+        ∙ sym (boundaries-chunk int_eq at 16 xs)
+
+    pub signed_cuts : lanes_mask w (unequal eqb) (held at) (held (at + 1)) ≡ mask_l (chunk at 16 (boundaries int_eq xs))
+    signed_cuts =
+        mask_of 0 w (unequal eqb) (held at) (held (at + 1)) (long_of at (omega arith)) (long_of (at + 1) (omega arith)) ∙ ap mask_l tests_are
+
+    pub signed_cuts_back : lanes_mask w (unequal eqb) (pick_l 0 (held at ++ held at) (down 16)) (pick_l 0 (held (at + 1) ++ held (at + 1)) (down 16))
+        ≡ mask_l (reverse (chunk at 16 (boundaries int_eq xs)))
+    signed_cuts_back =
+        mask_of_turned 0 w (unequal eqb) (held at) (held (at + 1)) (long_of at (omega arith)) (long_of (at + 1) (omega arith))
+        ∙ ap (λ bs. mask_l (reverse bs)) tests_are

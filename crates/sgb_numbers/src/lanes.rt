@@ -1,6 +1,7 @@
 //! The types of numbers that are compared by vectors.
-ghost use Rattle.std.specs.Prelude.{◌≡◌, ◌+◌, ◌≤◌, not, length, map};
+ghost use Rattle.std.specs.Prelude.{◌≡◌, ◌+◌, ◌<◌, ◌≤◌, not, length, map, reverse};
 ghost use Rattle.std.specs.Simd.Lanes.{mask_l, chunk};
+ghost use Rattle.sgb_numbers.specs.Boundaries.{boundaries};
 
 use crate::signed::{Signed, read_all};
 use std::simd::prelude::*;
@@ -11,6 +12,16 @@ pub trait Lanes: PartialEq {
     fn unlike(number: &Self, slice: &[Self], at: usize) -> u64
         requires { at + 16 ≤ length slice.now }
         ensures { result ≡ mask_l (map (λ y. not (Self.eq y number.now)) (chunk at 16 slice.now)) };
+
+    /// Which of sixteen neighbouring pairs from the place `at` on differ: bit k is set for the elements at `at + k` and the next.
+    fn cuts(slice: &[Self], at: usize) -> u64
+        requires { at + 16 < length slice.now }
+        ensures { result ≡ mask_l (chunk at 16 (boundaries Self.eq slice.now)) };
+
+    /// The same pairs, the last one first.
+    fn cuts_back(slice: &[Self], at: usize) -> u64
+        requires { at + 16 < length slice.now }
+        ensures { result ≡ mask_l (reverse (chunk at 16 (boundaries Self.eq slice.now))) };
 }
 
 impl Lanes for u8 {
@@ -19,6 +30,20 @@ impl Lanes for u8 {
         u8x16::from_slice(&slice[at..])
             .simd_ne(u8x16::splat(*number))
             .to_bitmask()
+    }
+
+    #[inline(always)]
+    fn cuts(slice: &[u8], at: usize) -> u64 {
+        let first = u8x16::from_slice(&slice[at..]);
+        let second = u8x16::from_slice(&slice[at + 1..]);
+        first.simd_ne(second).to_bitmask()
+    }
+
+    #[inline(always)]
+    fn cuts_back(slice: &[u8], at: usize) -> u64 {
+        let first = u8x16::from_slice(&slice[at..]).reverse();
+        let second = u8x16::from_slice(&slice[at + 1..]).reverse();
+        first.simd_ne(second).to_bitmask()
     }
 }
 
@@ -29,6 +54,20 @@ impl Lanes for u16 {
             .simd_ne(u16x16::splat(*number))
             .to_bitmask()
     }
+
+    #[inline(always)]
+    fn cuts(slice: &[u16], at: usize) -> u64 {
+        let first = u16x16::from_slice(&slice[at..]);
+        let second = u16x16::from_slice(&slice[at + 1..]);
+        first.simd_ne(second).to_bitmask()
+    }
+
+    #[inline(always)]
+    fn cuts_back(slice: &[u16], at: usize) -> u64 {
+        let first = u16x16::from_slice(&slice[at..]).reverse();
+        let second = u16x16::from_slice(&slice[at + 1..]).reverse();
+        first.simd_ne(second).to_bitmask()
+    }
 }
 
 impl Lanes for u32 {
@@ -37,6 +76,20 @@ impl Lanes for u32 {
         u32x16::from_slice(&slice[at..])
             .simd_ne(u32x16::splat(*number))
             .to_bitmask()
+    }
+
+    #[inline(always)]
+    fn cuts(slice: &[u32], at: usize) -> u64 {
+        let first = u32x16::from_slice(&slice[at..]);
+        let second = u32x16::from_slice(&slice[at + 1..]);
+        first.simd_ne(second).to_bitmask()
+    }
+
+    #[inline(always)]
+    fn cuts_back(slice: &[u32], at: usize) -> u64 {
+        let first = u32x16::from_slice(&slice[at..]).reverse();
+        let second = u32x16::from_slice(&slice[at + 1..]).reverse();
+        first.simd_ne(second).to_bitmask()
     }
 }
 
@@ -47,6 +100,20 @@ impl Lanes for u64 {
             .simd_ne(u64x16::splat(*number))
             .to_bitmask()
     }
+
+    #[inline(always)]
+    fn cuts(slice: &[u64], at: usize) -> u64 {
+        let first = u64x16::from_slice(&slice[at..]);
+        let second = u64x16::from_slice(&slice[at + 1..]);
+        first.simd_ne(second).to_bitmask()
+    }
+
+    #[inline(always)]
+    fn cuts_back(slice: &[u64], at: usize) -> u64 {
+        let first = u64x16::from_slice(&slice[at..]).reverse();
+        let second = u64x16::from_slice(&slice[at + 1..]).reverse();
+        first.simd_ne(second).to_bitmask()
+    }
 }
 
 impl Lanes for usize {
@@ -55,6 +122,20 @@ impl Lanes for usize {
         usizex16::from_slice(&slice[at..])
             .simd_ne(usizex16::splat(*number))
             .to_bitmask()
+    }
+
+    #[inline(always)]
+    fn cuts(slice: &[usize], at: usize) -> u64 {
+        let first = usizex16::from_slice(&slice[at..]);
+        let second = usizex16::from_slice(&slice[at + 1..]);
+        first.simd_ne(second).to_bitmask()
+    }
+
+    #[inline(always)]
+    fn cuts_back(slice: &[usize], at: usize) -> u64 {
+        let first = usizex16::from_slice(&slice[at..]).reverse();
+        let second = usizex16::from_slice(&slice[at + 1..]).reverse();
+        first.simd_ne(second).to_bitmask()
     }
 }
 
@@ -65,6 +146,20 @@ impl Lanes for f32 {
             .simd_ne(f32x16::splat(*number))
             .to_bitmask()
     }
+
+    #[inline(always)]
+    fn cuts(slice: &[f32], at: usize) -> u64 {
+        let first = f32x16::from_slice(&slice[at..]);
+        let second = f32x16::from_slice(&slice[at + 1..]);
+        first.simd_ne(second).to_bitmask()
+    }
+
+    #[inline(always)]
+    fn cuts_back(slice: &[f32], at: usize) -> u64 {
+        let first = f32x16::from_slice(&slice[at..]).reverse();
+        let second = f32x16::from_slice(&slice[at + 1..]).reverse();
+        first.simd_ne(second).to_bitmask()
+    }
 }
 
 impl Lanes for f64 {
@@ -73,6 +168,20 @@ impl Lanes for f64 {
         f64x16::from_slice(&slice[at..])
             .simd_ne(f64x16::splat(*number))
             .to_bitmask()
+    }
+
+    #[inline(always)]
+    fn cuts(slice: &[f64], at: usize) -> u64 {
+        let first = f64x16::from_slice(&slice[at..]);
+        let second = f64x16::from_slice(&slice[at + 1..]);
+        first.simd_ne(second).to_bitmask()
+    }
+
+    #[inline(always)]
+    fn cuts_back(slice: &[f64], at: usize) -> u64 {
+        let first = f64x16::from_slice(&slice[at..]).reverse();
+        let second = f64x16::from_slice(&slice[at + 1..]).reverse();
+        first.simd_ne(second).to_bitmask()
     }
 }
 
@@ -85,6 +194,22 @@ impl Lanes for i8 {
             .simd_ne(i8x16::splat(*number))
             .to_bitmask()
     }
+
+    #[inline(always)]
+    fn cuts(slice: &[i8], at: usize) -> u64 {
+        read_all(slice, at, at + 17);
+        let first = i8x16::from_slice(&slice[at..]);
+        let second = i8x16::from_slice(&slice[at + 1..]);
+        first.simd_ne(second).to_bitmask()
+    }
+
+    #[inline(always)]
+    fn cuts_back(slice: &[i8], at: usize) -> u64 {
+        read_all(slice, at, at + 17);
+        let first = i8x16::from_slice(&slice[at..]).reverse();
+        let second = i8x16::from_slice(&slice[at + 1..]).reverse();
+        first.simd_ne(second).to_bitmask()
+    }
 }
 
 impl Lanes for i16 {
@@ -95,6 +220,22 @@ impl Lanes for i16 {
         i16x16::from_slice(&slice[at..])
             .simd_ne(i16x16::splat(*number))
             .to_bitmask()
+    }
+
+    #[inline(always)]
+    fn cuts(slice: &[i16], at: usize) -> u64 {
+        read_all(slice, at, at + 17);
+        let first = i16x16::from_slice(&slice[at..]);
+        let second = i16x16::from_slice(&slice[at + 1..]);
+        first.simd_ne(second).to_bitmask()
+    }
+
+    #[inline(always)]
+    fn cuts_back(slice: &[i16], at: usize) -> u64 {
+        read_all(slice, at, at + 17);
+        let first = i16x16::from_slice(&slice[at..]).reverse();
+        let second = i16x16::from_slice(&slice[at + 1..]).reverse();
+        first.simd_ne(second).to_bitmask()
     }
 }
 
@@ -107,6 +248,22 @@ impl Lanes for i32 {
             .simd_ne(i32x16::splat(*number))
             .to_bitmask()
     }
+
+    #[inline(always)]
+    fn cuts(slice: &[i32], at: usize) -> u64 {
+        read_all(slice, at, at + 17);
+        let first = i32x16::from_slice(&slice[at..]);
+        let second = i32x16::from_slice(&slice[at + 1..]);
+        first.simd_ne(second).to_bitmask()
+    }
+
+    #[inline(always)]
+    fn cuts_back(slice: &[i32], at: usize) -> u64 {
+        read_all(slice, at, at + 17);
+        let first = i32x16::from_slice(&slice[at..]).reverse();
+        let second = i32x16::from_slice(&slice[at + 1..]).reverse();
+        first.simd_ne(second).to_bitmask()
+    }
 }
 
 impl Lanes for i64 {
@@ -118,6 +275,22 @@ impl Lanes for i64 {
             .simd_ne(i64x16::splat(*number))
             .to_bitmask()
     }
+
+    #[inline(always)]
+    fn cuts(slice: &[i64], at: usize) -> u64 {
+        read_all(slice, at, at + 17);
+        let first = i64x16::from_slice(&slice[at..]);
+        let second = i64x16::from_slice(&slice[at + 1..]);
+        first.simd_ne(second).to_bitmask()
+    }
+
+    #[inline(always)]
+    fn cuts_back(slice: &[i64], at: usize) -> u64 {
+        read_all(slice, at, at + 17);
+        let first = i64x16::from_slice(&slice[at..]).reverse();
+        let second = i64x16::from_slice(&slice[at + 1..]).reverse();
+        first.simd_ne(second).to_bitmask()
+    }
 }
 
 impl Lanes for isize {
@@ -128,5 +301,21 @@ impl Lanes for isize {
         isizex16::from_slice(&slice[at..])
             .simd_ne(isizex16::splat(*number))
             .to_bitmask()
+    }
+
+    #[inline(always)]
+    fn cuts(slice: &[isize], at: usize) -> u64 {
+        read_all(slice, at, at + 17);
+        let first = isizex16::from_slice(&slice[at..]);
+        let second = isizex16::from_slice(&slice[at + 1..]);
+        first.simd_ne(second).to_bitmask()
+    }
+
+    #[inline(always)]
+    fn cuts_back(slice: &[isize], at: usize) -> u64 {
+        read_all(slice, at, at + 17);
+        let first = isizex16::from_slice(&slice[at..]).reverse();
+        let second = isizex16::from_slice(&slice[at + 1..]).reverse();
+        first.simd_ne(second).to_bitmask()
     }
 }

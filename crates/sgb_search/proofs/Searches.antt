@@ -1,11 +1,10 @@
 -- Searches among places, and binary and exponential calls.
 pub mod Digits
+pub mod Boundaries
 pub mod Halving
 pub mod Galloping
 pub mod SearchRuns
 pub mod Sides
-pub mod GroupSearches
-pub mod PlaceRuns
 pub mod SearchQueue
 pub mod PartitionPoint
 pub mod Ascending

@@ -4,12 +4,12 @@
 --     AsksRange g less equal xs f equals t  the questions, whatever is answered
 use Rattle.std.specs.Prelude.{◌≡◌, ℕ, List, ◌++◌, length, Bool, Err}
 use Rattle.std.specs.List.{AllByRecursion}
-use Rattle.std.specs.Fn.{Mut, TakesAt}
+use Rattle.std.specs.Fn.{Mut}
 use Rattle.std.specs.Borrow.{Bor}
 use Rattle.std.specs.declared.cmp.Ordering.{Ordering}
 use Rattle.std.specs.declared.cmp.Ordering.TheVariants.{Less, Equal, Greater}
 use Rattle.sgb_search.specs.Searching.{as_ordering}
-use Rattle.sgb_search.specs.Search.{CalledAs, IsSearch, IsLocalBoundary}
+use Rattle.sgb_search.specs.Search.{IsSearch, IsLocalBoundary}
 
 -- the elements of xs that ord answers Equal, where it answers Less before them and Greater after them
 pub record IsRange {T : Type 0} (ord : T → Ordering) (xs equals : List T) : Type 0 where
@@ -32,7 +32,7 @@ pub record IsLocalRange {T : Type 0} (less equal : T → Bool) (xs equals : List
 module _ {F T K : Type 0} (g : Mut F (Bor T × Unit {0}) K) where
   -- a search that leads from the state f to t, for the place n up to which the answers pass the test
   abbrev pub AsksPartition : (K → Bool) → List T → F → ℕ → F → Type 0
-  AsksPartition passes xs f n t = IsSearch (TakesAt g) (CalledAs g (λ k. as_ordering (passes k))) xs f (Err n) t
+  AsksPartition passes xs f n t = IsSearch g xs (λ k. as_ordering (passes k)) f (Err n) t
 
   -- the two searches by which the range is found, one after the other: up to where answers pass the one test, and from there on the other
   pub record AsksRange (less equal : K → Bool) (xs : List T) (f : F) (equals : List T) (t : F) : Type 0 where

@@ -1,6 +1,6 @@
 -- What a binary or exponential call asks: about its outermost element and others, and not about each neighbouring pair; and what
 -- halving and galloping over places say of their runs.
-use Rattle.std.specs.Prelude.{ℕ, ◌/◌, ◌≡◌, ◌≢◌, ◌+◌, ◌-◌, ◌*◌, ◌<◌, ◌≤◌, Bool, true, false, List, [], ◌∷◌, ◌++◌, length, ◌⊎◌, Result, Ok, Err, Some, slice_get}
+use Rattle.std.specs.Prelude.{ℕ, ◌/◌, ◌≡◌, ◌≢◌, ◌+◌, ◌-◌, ◌*◌, ◌<◌, ◌≤◌, Bool, true, false, List, [], ◌∷◌, ◌++◌, length, map, ◌⊎◌, Result, Ok, Err, Some, slice_get}
 use Rattle.std.proofs.Common.{zero, suc}
 use Rattle.std.specs.List.{AllByRecursion, Contains}
 use Rattle.std.specs.declared.cmp.Ordering.{Ordering}
@@ -43,49 +43,103 @@ pub record IsWithin (cost : SearchCost) (n g m : ℕ) : Type 0 where
   pub call : m ≤ cost.call n g
   pub walk : m + cost.walk (n - g) ≤ cost.walk n
 
+-- A search over places: a question compares a place with what is sought, and its answer is read as an ordering. `Ok` gives a place that is
+-- Equal, `Err` one that Less comes before and Greater from there on.
+
+-- i is one of the places from low up to, not including, high
+abbrev pub IsBetween : ℕ → ℕ → ℕ → Type 0
+IsBetween low high i = (low ≤ i) × (i < high)
+
+-- the place of an answer
+abbrev pub place_of : Result ℕ ℕ → ℕ
+place_of (Ok i) = i
+place_of (Err i) = i
+
+-- answered i o: place i is answered o
+module _ (answered : ℕ → Ordering → Type 0) where
+  -- i is low, or the place before it is answered Less
+  abbrev pub IsLowEnd : ℕ → ℕ → Type 0
+  IsLowEnd low i = (i ≡ low) ⊎ ((low < i) × answered (i - 1) Less)
+
+  -- i is high, or is itself answered Greater
+  abbrev pub IsHighEnd : ℕ → ℕ → Type 0
+  IsHighEnd high i = (i ≡ high) ⊎ ((i < high) × answered i Greater)
+
+  -- place i is answered in two ways
+  abbrev pub Contradicts : ℕ → Type 0
+  Contradicts i = (a : Ordering) × (b : Ordering) × answered i a × answered i b × (a ≢ b)
+
+  -- both ends are at i; where answers may contradict each other, an end may be unknown, and then two came about the place on its other
+  -- side
+  pub record TellsBoundary (both : Bool) (low high i : ℕ) : Type 0 where
+    pub low_end : IsLowEnd low i ⊎ ((both ≡ true) × Contradicts i)
+    pub high_end : IsHighEnd high i ⊎ ((both ≡ true) × ((low < i) × Contradicts (i - 1)))
+
+-- qs: the places that were asked about, each with its answer; reads: the answer as an ordering
+module _ {A : Type 0} (reads : A → Ordering) (qs : List (ℕ × A)) where
+  abbrev pub WasAnswered : ℕ → Ordering → Type 0
+  WasAnswered i o = (a : A) × Contains qs (i, a) × (reads a ≡ o)
+
+  -- what an answer tells: of `Ok`, that the last question was about that place and was answered Equal; of `Err`, the boundary
+  abbrev pub Tells : Bool → ℕ → ℕ → Result ℕ ℕ → Type 0
+  Tells both low high (Ok i) =
+      IsBetween low high i × ((front : List (ℕ × A)) × (a : A) × (qs ≡ front ++ (i, a) ∷ []) × (reads a ≡ Equal))
+  Tells both low high (Err i) = (low ≤ i) × (i ≤ high) × TellsBoundary WasAnswered both low high i
+
+-- may s i: in the state s the place i may be asked about; gives s i a t: the answer may be a, and then the state is t
+module _ {S A : Type 0} (may : S → ℕ → Type 0) (gives : S → ℕ → A → S → Type 0) (reads : A → Ordering) where
+  -- a search of the places from low up to high that gives r: its questions, each about one of them, their number, and what r tells
+  pub record IsPlaceSearch (cost : SearchCost) (low high : ℕ) (s : S) (r : Result ℕ ℕ) (t : S) : Type 0 where
+    pub questions : List (ℕ × A)
+    pub run : IsRun may gives s questions t
+    pub places : AllByRecursion (λ q. IsBetween low high q.0) questions
+    pub most : IsWithin cost (high - low + 1) (place_of r - low + 1) (length questions)
+    pub tells : Tells reads questions cost.may_contradict low high r
+
+  -- the ends between which galloping over the places from start up to stop halves: low was answered Less, and the place before high was not
+  pub record IsBracket (start stop : ℕ) (s : S) (low high : ℕ) (t : S) : Type 0 where
+    pub questions : List (ℕ × A)
+    pub run : IsRun may gives s questions t
+    pub places : AllByRecursion (λ q. IsBetween start stop q.0) questions
+    pub after : start ≤ low
+    pub order : low ≤ high
+    pub within : high ≤ stop
+    pub nonempty : high ≤ low → stop ≤ start
+    pub most : length questions + digits (high - low) ≤ 2 * digits (low - start + 1) + 1
+    pub low_end : (low ≡ start) ⊎ WasAnswered reads questions low Less
+    pub high_end : (high ≡ stop) ⊎ ((o : Ordering) × WasAnswered reads questions (high - 1) o × (o ≢ Less))
+
+-- zs: the question about each place
+module _ {S Q A : Type 0} (may : S → Q → Type 0) (gives : S → Q → A → S → Type 0) (zs : List Q) where
+  -- there is a place i, and the question about it may be asked
+  abbrev pub MayAskAt : S → ℕ → Type 0
+  MayAskAt s i = (i < length zs) × ((q : Q) → slice_get zs i ≡ Some q → may s q)
+
+  -- it was asked, and answered so
+  abbrev pub AnsweredAt : S → ℕ → A → S → Type 0
+  AnsweredAt s i a t = (q : Q) × (slice_get zs i ≡ Some q) × gives s q a t
+
+  -- a search of the places from low on
+  abbrev pub Searches : (A → Ordering) → SearchCost → ℕ → S → Result ℕ ℕ → S → Type 0
+  Searches reads cost low s r t = IsPlaceSearch MayAskAt AnsweredAt reads cost low (length zs) s r t
+
+-- two sides of a place: what is accepted lies before it
+abbrev pub as_ordering : Bool → Ordering
+as_ordering true = Less
+as_ordering false = Greater
+
 -- xs: the remainder as it reads from the call's end on, the outermost element first
+module _ {T : Type 0} where
+  -- the questions of a call: the outermost element with the one at each place
+  abbrev pub outward : List T → List (T × T)
+  outward [] = []
+  outward (x ∷ xs) = map (λ y. (x, y)) (x ∷ xs)
+
+  -- the search of a call that takes the first g elements, from the state j of the judge to the state k
+  abbrev pub SearchRun : {J : Type 0} → List T → Ghosts J T → SearchCost → J → ℕ → J → Type 0
+  SearchRun xs judge cost j g k = Searches judge.may_ask judge.answers (outward xs) as_ordering cost 1 j (Err g) k
+
 module _ {T : Type 0} (xs : List T) where
-  -- the pair is the outermost element and one at another place
-  pub record IsOutward (q : T × T) : Type 0 where
-    pub outermost_at : slice_get xs 0 ≡ Some q.0
-    pub place : ℕ
-    pub apart : 0 < place
-    pub other_at : slice_get xs place ≡ Some q.1
-
-  -- one of the questions was about the outermost element and the one at place i, and its answer was b
-  pub record IsAskedAt (qs : List ((T × T) × Bool)) (i : ℕ) (b : Bool) : Type 0 where
-    pub outermost : T
-    pub other : T
-    pub outermost_at : slice_get xs 0 ≡ Some outermost
-    pub other_at : slice_get xs i ≡ Some other
-    pub asked : Contains qs ((outermost, other), b)
-
-  -- both answers came about the one at place i
-  abbrev pub ContradictsAt : List ((T × T) × Bool) → ℕ → Type 0
-  ContradictsAt qs i = IsAskedAt qs i true × IsAskedAt qs i false
-
-  -- the innermost of the first g elements was accepted, if there are more than one
-  abbrev pub IsInner : List ((T × T) × Bool) → ℕ → Type 0
-  IsInner qs g = (g ≡ 1) ⊎ IsAskedAt qs (g - 1) true
-
-  -- the element beyond them was refused, if there is one
-  abbrev pub IsBeyond : List ((T × T) × Bool) → ℕ → Type 0
-  IsBeyond qs g = (g ≡ length xs) ⊎ IsAskedAt qs g false
-
-  -- the first g end there by the answers; where the judge may contradict itself, an answer beside the boundary may be unknown, and then
-  -- both came about the element on its other side
-  pub record EndsBy (both : Bool) (qs : List ((T × T) × Bool)) (g : ℕ) : Type 0 where
-    pub inner : IsInner qs g ⊎ ((both ≡ true) × ContradictsAt qs g)
-    pub beyond : IsBeyond qs g ⊎ ((both ≡ true) × ((1 < g) × ContradictsAt qs (g - 1)))
-
-  -- the questions of a call that takes the first g elements, from the state j of the judge to the state k
-  pub record SearchRun {J : Type 0} (judge : Ghosts J T) (cost : SearchCost) (j : J) (g : ℕ) (k : J) : Type 0 where
-    pub questions : List ((T × T) × Bool)
-    pub run : IsRun judge.may_ask judge.answers j questions k
-    pub outward : AllByRecursion (λ r. IsOutward r.0) questions
-    pub most : IsWithin cost (length xs) g (length questions)
-    pub ends : EndsBy cost.may_contradict questions g
-
   -- by p the first g elements, one or more, end at a local boundary: the innermost agrees with the outermost, and the element beyond does
   -- not
   pub record IsLocalEnd (p : T → T → Bool) (g : ℕ) : Type 0 where
@@ -103,85 +157,3 @@ module _ {T J : Type 0} (g : Ghosts J T) where
   -- the questions of a search for the end of the n elements that the call takes, which read from the call's end
   abbrev pub SearchQuestions : SearchCost → End → List T → ℕ → J → J → Type 0
   SearchQuestions cost e xs n j k = SearchRun (from e xs) g cost j n k
-
--- A search over places: a question compares a place with what is sought. `Ok` gives a place that is Equal, `Err` one that Less comes before
--- and Greater from there on.
-
--- i is one of the places from low up to, not including, high
-abbrev pub IsBetween : ℕ → ℕ → ℕ → Type 0
-IsBetween low high i = (low ≤ i) × (i < high)
-
--- the place of an answer
-abbrev pub place_of : Result ℕ ℕ → ℕ
-place_of (Ok i) = i
-place_of (Err i) = i
-
--- qs: the places that were compared, each with its answer
-module _ (qs : List (ℕ × Ordering)) where
-  -- i is low, or the place before it was answered Less
-  abbrev pub IsLowEnd : ℕ → ℕ → Type 0
-  IsLowEnd low i = (i ≡ low) ⊎ ((low < i) × Contains qs (i - 1, Less))
-
-  -- i is high, or was itself answered Greater
-  abbrev pub IsHighEnd : ℕ → ℕ → Type 0
-  IsHighEnd high i = (i ≡ high) ⊎ ((i < high) × Contains qs (i, Greater))
-
-  -- place i was answered in two ways
-  abbrev pub Contradicts : ℕ → Type 0
-  Contradicts i = (a : Ordering) × (b : Ordering) × Contains qs (i, a) × Contains qs (i, b) × (a ≢ b)
-
-  -- both ends are at i; where answers may contradict each other, an end may be unknown, and then two came about the place on its other
-  -- side
-  pub record TellsBoundary (both : Bool) (low high i : ℕ) : Type 0 where
-    pub low_end : IsLowEnd low i ⊎ ((both ≡ true) × Contradicts i)
-    pub high_end : IsHighEnd high i ⊎ ((both ≡ true) × ((low < i) × Contradicts (i - 1)))
-
-  -- what an answer tells: of `Ok`, that the last question was about that place and was answered Equal; of `Err`, the boundary
-  abbrev pub Tells : Bool → ℕ → ℕ → Result ℕ ℕ → Type 0
-  Tells both low high (Ok i) = IsBetween low high i × ((front : List (ℕ × Ordering)) × (qs ≡ front ++ (i, Equal) ∷ []))
-  Tells both low high (Err i) = (low ≤ i) × (i ≤ high) × TellsBoundary both low high i
-
--- may s i: in the state s the place i may be compared; gives s i o t: the answer may be o, and then the state is t
-module _ {S : Type 0} (may : S → ℕ → Type 0) (gives : S → ℕ → Ordering → S → Type 0) where
-  -- a search of the places from low up to high that gives r: its questions, each about one of them, their number, and what r tells
-  pub record IsPlaceSearch (cost : SearchCost) (low high : ℕ) (s : S) (r : Result ℕ ℕ) (t : S) : Type 0 where
-    pub questions : List (ℕ × Ordering)
-    pub run : IsRun may gives s questions t
-    pub places : AllByRecursion (λ q. IsBetween low high q.0) questions
-    pub most : IsWithin cost (high - low + 1) (place_of r - low + 1) (length questions)
-    pub tells : Tells questions cost.may_contradict low high r
-
-  -- the ends between which galloping over the places from start up to stop halves: low was answered Less, and the place before high was not
-  pub record IsBracket (start stop : ℕ) (s : S) (low high : ℕ) (t : S) : Type 0 where
-    pub questions : List (ℕ × Ordering)
-    pub run : IsRun may gives s questions t
-    pub places : AllByRecursion (λ q. IsBetween start stop q.0) questions
-    pub after : start ≤ low
-    pub order : low ≤ high
-    pub within : high ≤ stop
-    pub nonempty : high ≤ low → stop ≤ start
-    pub most : length questions + digits (high - low) ≤ 2 * digits (low - start + 1) + 1
-    pub low_end : (low ≡ start) ⊎ Contains questions (low, Less)
-    pub high_end : (high ≡ stop) ⊎ ((o : Ordering) × Contains questions (high - 1, o) × (o ≢ Less))
-
--- the answer of a judge, as that of a comparator: what is accepted lies before the end of the group
-abbrev pub as_ordering : Bool → Ordering
-as_ordering true = Less
-as_ordering false = Greater
-
--- a judge that is asked about the elements at two places of xs: the place o of the outermost first, and then the place i
-module _ {J T : Type 0} (may : J → T × T → Type 0) (gives : J → T × T → Bool → J → Type 0) (xs : List T) (o : ℕ) where
-  -- the two are places of xs, and the question about them may be asked
-  abbrev pub MayAskAt : J → ℕ → Type 0
-  MayAskAt j i =
-      (o < length xs) × (i < length xs) × ((x y : T) → slice_get xs o ≡ Some x → slice_get xs i ≡ Some y → may j (x, y))
-
-  -- it was asked, and answered so
-  pub record AnsweredAt (j : J) (i : ℕ) (order : Ordering) (k : J) : Type 0 where
-    pub outermost : T
-    pub other : T
-    pub outermost_at : slice_get xs o ≡ Some outermost
-    pub other_at : slice_get xs i ≡ Some other
-    pub accepted : Bool
-    pub answered : gives j (outermost, other) accepted k
-    pub ordering : order ≡ as_ordering accepted

@@ -11,13 +11,19 @@ pub trait Places<A> {
     // The asker may be asked about the place.
     ghost may_compare: { A → Self → ℕ → Type 0 };
 
+    /// What it answers.
+    type Answer;
+
     // The asker before, the place, an answer that may come, and the asker after.
-    ghost compares: { A → Self → ℕ → Ordering → A → Type 0 };
+    ghost compares: { A → Self → ℕ → Self.Answer → A → Type 0 };
+
+    // An answer, as how the place compares with what is sought.
+    ghost reads: { Self → Self.Answer → Ordering };
 
     /// How the place compares with what is sought: one question.
     fn compare(&self, asker: &mut A, place: usize) -> Ordering
         requires { may_compare asker.old self.now place }
-        ensures { compares asker.old self.now place result asker.new };
+        ensures { (a : Self.Answer) × compares asker.old self.now place a asker.new × (result ≡ reads self.now a) };
 }
 
 /// How a place compares with the end of those that belong to what is searched: it lies before it, or beyond it.
@@ -55,9 +61,9 @@ pub fn halve<A, P: Places<A>>(
 ) -> Result<usize, usize>
     requires order { low ≤ high }
     requires callable { MayAskAll (λ s i. P.may_compare s places.now i)
-        (λ s i o t. P.compares s places.now i o t) (IsBetween low high) asker.old }
-    ensures { IsPlaceSearch (λ s i. P.may_compare s places.now i) (λ s i o t. P.compares s places.now i o t)
-        binary low high asker.old result asker.new }
+        (λ s i a t. P.compares s places.now i a t) (IsBetween low high) asker.old }
+    ensures { IsPlaceSearch (λ s i. P.may_compare s places.now i) (λ s i a t. P.compares s places.now i a t)
+        (λ a. P.reads places.now a) binary low high asker.old result asker.new }
 {
     let mut from = low;
     let mut upto = high;
@@ -86,9 +92,9 @@ pub fn halve<A, P: Places<A>>(
 fn bracket<A, P: Places<A>>(asker: &mut A, places: &P, low: usize, high: usize) -> (usize, usize)
     requires order { low ≤ high }
     requires callable { MayAskAll (λ s i. P.may_compare s places.now i)
-        (λ s i o t. P.compares s places.now i o t) (IsBetween low high) asker.old }
-    ensures { IsBracket (λ s i. P.may_compare s places.now i) (λ s i o t. P.compares s places.now i o t)
-        low high asker.old result.0 result.1 asker.new }
+        (λ s i a t. P.compares s places.now i a t) (IsBetween low high) asker.old }
+    ensures { IsBracket (λ s i. P.may_compare s places.now i) (λ s i a t. P.compares s places.now i a t)
+        (λ a. P.reads places.now a) low high asker.old result.0 result.1 asker.new }
 {
     if high - low < 2 {
         return (low, high);
@@ -118,9 +124,9 @@ pub fn gallop<A, P: Places<A>>(
 ) -> Result<usize, usize>
     requires order { low ≤ high }
     requires callable { MayAskAll (λ s i. P.may_compare s places.now i)
-        (λ s i o t. P.compares s places.now i o t) (IsBetween low high) asker.old }
-    ensures { IsPlaceSearch (λ s i. P.may_compare s places.now i) (λ s i o t. P.compares s places.now i o t)
-        exponential low high asker.old result asker.new }
+        (λ s i a t. P.compares s places.now i a t) (IsBetween low high) asker.old }
+    ensures { IsPlaceSearch (λ s i. P.may_compare s places.now i) (λ s i a t. P.compares s places.now i a t)
+        (λ a. P.reads places.now a) exponential low high asker.old result asker.new }
 {
     let (from, upto) = bracket(asker, places, low, high);
     halve(asker, places, from, upto)

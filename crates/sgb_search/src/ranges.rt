@@ -4,10 +4,10 @@ ghost use Rattle.std.specs.Prelude.{◌≡◌, ◌<◌, ◌≤◌, length, Bool,
 ghost use Rattle.std.specs.List.{slice_get, filter, count_by};
 ghost use Rattle.std.specs.List.Sorted.{IsPartitionedBy, IsPartitionPoint};
 ghost use Rattle.std.specs.Ordering.{is_lt, is_eq};
-ghost use Rattle.std.specs.Fn.{TakesAt};
+ghost use Rattle.std.specs.Fn.{TakesAt, CalledAt};
 ghost use Rattle.std.specs.declared.cmp.Ordering.{Ordering};
-ghost use Rattle.sgb_search.specs.Searching.{as_ordering};
-ghost use Rattle.sgb_search.specs.Search.{MayCall, Computes, CalledAs, IsSearch, IsLocalBoundary, IsLessEqualGreater, NeverDescends};
+ghost use Rattle.sgb_search.specs.Searching.{as_ordering, MayAskAt, AnsweredAt};
+ghost use Rattle.sgb_search.specs.Search.{MayCall, Computes, IsLocalBoundary, IsLessEqualGreater, NeverDescends};
 ghost use Rattle.sgb_search.specs.Ranges.{IsRange, IsLocalRange, AsksPartition, AsksRange};
 
 use crate::gallop::{Places, before_end, gallop, place_of};
@@ -99,11 +99,13 @@ struct Sided<'a, T, S> {
 }
 
 impl<'a, T, K, S: Side<K>, F: FnMut(&T) -> K> Places<F> for Sided<'a, T, S> {
-    ghost may_compare = { λ f p i. (i < length p.slice.now)
-        × ((x : T) → slice_get p.slice.now i ≡ Some x → TakesAt F.FnMut f x) };
+    type Answer = K;
 
-    ghost compares = { λ f p i o h. (x : T) × (slice_get p.slice.now i ≡ Some x)
-        × CalledAs F.FnMut (λ k. as_ordering (S.passes p.side.now k)) f x o h };
+    ghost may_compare = { λ f p i. MayAskAt (TakesAt F.FnMut) (CalledAt F.FnMut) p.slice.now f i };
+
+    ghost compares = { λ f p i k h. AnsweredAt (TakesAt F.FnMut) (CalledAt F.FnMut) p.slice.now f i k h };
+
+    ghost reads = { λ p k. as_ordering (S.passes p.side.now k) };
 
     #[inline]
     fn compare(&self, asker: &mut F, place: usize) -> Ordering {

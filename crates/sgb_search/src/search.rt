@@ -1,20 +1,23 @@
 //! Searches of a slice that gallop from its first element.
-ghost use Rattle.std.specs.Prelude.{◌≡◌, ℕ, ◌<◌, length, map, MatchResult, Some};
-ghost use Rattle.std.specs.List.{slice_get};
+ghost use Rattle.std.specs.Prelude.{length, map};
 ghost use Rattle.std.specs.List.Sorted.{IsSearchInRange};
 ghost use Rattle.std.specs.Fn.{TakesAt, CalledAt};
 ghost use Rattle.std.specs.declared.cmp.Ordering.{Ordering};
-ghost use Rattle.sgb_search.specs.Search.{MayCall, Computes, ComparesKey, IsSearch, IsLocalAnswer, IsLessEqualGreater, FindsIn, NeverDescends};
+ghost use Rattle.sgb_search.specs.Searching.{MayAskAt, AnsweredAt};
+ghost use Rattle.sgb_search.specs.Search.{MayCall, Computes, IsSearch, IsLocalAnswer, IsLessEqualGreater, FindsIn, NeverDescends};
 
 use crate::gallop::{Places, gallop};
 use std::cmp::Ordering;
 
 // The places of a slice are its elements, of which a comparator is asked.
 impl<'a, T, F: FnMut(&T) -> Ordering> Places<F> for &'a [T] {
-    ghost may_compare = { λ f xs i. (i < length xs.now)
-        × ((x : T) → slice_get xs.now i ≡ Some x → TakesAt F.FnMut f x) };
+    type Answer = Ordering;
 
-    ghost compares = { λ f xs i o h. (x : T) × (slice_get xs.now i ≡ Some x) × CalledAt F.FnMut f x o h };
+    ghost may_compare = { λ f xs i. MayAskAt (TakesAt F.FnMut) (CalledAt F.FnMut) xs.now f i };
+
+    ghost compares = { λ f xs i o h. AnsweredAt (TakesAt F.FnMut) (CalledAt F.FnMut) xs.now f i o h };
+
+    ghost reads = { λ _ o. o };
 
     #[inline]
     fn compare(&self, asker: &mut F, place: usize) -> Ordering {
@@ -30,11 +33,13 @@ pub(crate) struct Keyed<'a, T, B> {
 }
 
 impl<'a, T, B: Ord + Drop, F: FnMut(&T) -> B> Places<F> for Keyed<'a, T, B> {
-    ghost may_compare = { λ f c i. (i < length c.slice.now)
-        × ((x : T) → slice_get c.slice.now i ≡ Some x → TakesAt F.FnMut f x) };
+    type Answer = B;
 
-    ghost compares = { λ f c i o h. (x : T) × (slice_get c.slice.now i ≡ Some x)
-        × ComparesKey F.FnMut B.cmp c.key.now f x o h };
+    ghost may_compare = { λ f c i. MayAskAt (TakesAt F.FnMut) (CalledAt F.FnMut) c.slice.now f i };
+
+    ghost compares = { λ f c i k h. AnsweredAt (TakesAt F.FnMut) (CalledAt F.FnMut) c.slice.now f i k h };
+
+    ghost reads = { λ c k. B.cmp k c.key.now };
 
     #[inline]
     fn compare(&self, asker: &mut F, place: usize) -> Ordering {
@@ -71,7 +76,7 @@ where
     F: FnMut(&T) -> Ordering,
     requires { MayCall F.FnMut slice.now f }
     ensures bound { IsSearchInRange result (length slice.now) }
-    ensures questions { (t : F) × IsSearch (TakesAt F.FnMut) (CalledAt F.FnMut) slice.now f result t }
+    ensures questions { (t : F) × IsSearch F.FnMut slice.now (λ o. o) f result t }
     ensures boundary { (ord : T → Ordering) → Computes F.FnMut slice.now ord f → IsLocalAnswer ord slice.now result }
     ensures found { (ord : T → Ordering) → Computes F.FnMut slice.now ord f → IsLessEqualGreater ord slice.now
         → FindsIn ord slice.now result }
@@ -99,7 +104,7 @@ where
     F: FnMut(&T) -> Ordering,
     requires { MayCall F.FnMut slice.now f.old }
     ensures bound { IsSearchInRange result (length slice.now) }
-    ensures questions { IsSearch (TakesAt F.FnMut) (CalledAt F.FnMut) slice.now f.old result f.new }
+    ensures questions { IsSearch F.FnMut slice.now (λ o. o) f.old result f.new }
     ensures boundary { (ord : T → Ordering) → Computes F.FnMut slice.now ord f.old → IsLocalAnswer ord slice.now result }
     ensures found { (ord : T → Ordering) → Computes F.FnMut slice.now ord f.old → IsLessEqualGreater ord slice.now
         → FindsIn ord slice.now result }
@@ -150,7 +155,7 @@ where
     B: Ord + Drop,
     requires { MayCall F.FnMut slice.now f }
     ensures bound { IsSearchInRange result (length slice.now) }
-    ensures questions { (t : F) × IsSearch (TakesAt F.FnMut) (ComparesKey F.FnMut B.cmp b.now) slice.now f result t }
+    ensures questions { (t : F) × IsSearch F.FnMut slice.now (λ k. B.cmp k b.now) f result t }
     ensures boundary { (key : T → B) → Computes F.FnMut slice.now key f
         → IsLocalAnswer (λ x. B.cmp (key x) b.now) slice.now result }
     ensures found { (key : T → B) → Computes F.FnMut slice.now key f
@@ -181,7 +186,7 @@ where
     B: Ord + Drop,
     requires { MayCall F.FnMut slice.now f.old }
     ensures bound { IsSearchInRange result (length slice.now) }
-    ensures questions { IsSearch (TakesAt F.FnMut) (ComparesKey F.FnMut B.cmp b.now) slice.now f.old result f.new }
+    ensures questions { IsSearch F.FnMut slice.now (λ k. B.cmp k b.now) f.old result f.new }
     ensures boundary { (key : T → B) → Computes F.FnMut slice.now key f.old
         → IsLocalAnswer (λ x. B.cmp (key x) b.now) slice.now result }
     ensures found { (key : T → B) → Computes F.FnMut slice.now key f.old

@@ -6,6 +6,7 @@ pub mod Join
 pub mod Keys
 pub mod Counts
 pub mod Chunks
+pub mod NumberGives
 pub mod Offsets
 pub use Rattle.sgb_search.specs.Split
 pub use Rattle.sgb_search.specs.Judges

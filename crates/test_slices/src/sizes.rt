@@ -14,7 +14,8 @@ const _: () = prove!(
 );
 
 const _: () = prove!(
-    size_of::<LinearNumberGroup<'static, u32>>() == size_of::<(&[u32], usize, usize)>()
+    size_of::<LinearNumberGroup<'static, u32>>()
+        == size_of::<(&[u32], usize, usize, u64, usize, u64, usize)>()
 );
 
 const _: () = prove!(

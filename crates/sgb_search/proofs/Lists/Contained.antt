@@ -1,5 +1,5 @@
 -- The elements of a list that has a first one.
-use Rattle.std.specs.Prelude.{◌≡◌, List, ◌∷◌, length, ◌⊎◌, refl}
+use Rattle.std.specs.Prelude.{◌≡◌, List, ◌∷◌, ◌⊎◌, refl}
 use Rattle.std.proofs.Common.{zero, suc, arith, inl, inr}
 use Rattle.std.specs.List.{Contains}
 

@@ -1,29 +1,30 @@
 -- The steps of galloping.
 use Rattle.std.specs.Prelude.{◌≡◌, ℕ, ◌+◌, ◌-◌, ◌*◌, ◌<◌, ◌≤◌, List, [], ◌∷◌, ◌++◌, length, ◌⊎◌, ◌≢◌, true, false, refl, Result, Ok, Err}
 use Rattle.std.proofs.Common.{sym, ap, subst, arith, inl, inr, length-append, append_assoc, ◌∙◌, true≢false, is_lt}
-use Rattle.std.specs.List.{AllByRecursion, Contains}
-use Rattle.std.proofs.lemmas.List.Elements.{Contains-append_left, Contains-append_right, Contains-push}
+use Rattle.std.specs.List.{AllByRecursion}
+use Rattle.std.proofs.lemmas.List.Elements.{Contains-push}
 use Rattle.std.specs.declared.cmp.Ordering.{Ordering}
 use Rattle.std.specs.declared.cmp.Ordering.TheVariants.{Less, Equal, Greater}
-use Rattle.sgb_search.specs.Searching.{digits, binary, exponential, IsWithin, IsBetween, IsLowEnd, IsHighEnd, Contradicts, TellsBoundary, IsPlaceSearch, IsBracket}
+use Rattle.sgb_search.specs.Searching.{digits, binary, exponential, IsWithin, IsBetween, WasAnswered, IsLowEnd, IsHighEnd, TellsBoundary, IsPlaceSearch, IsBracket}
 use Rattle.sgb_search.proofs.Searches.Digits.{digits_half, digits_zero, digits_mono, digits_le_self, within_galloping}
 use Rattle.sgb_search.specs.Judges.{IsRun, MayAskAll}
 use Rattle.sgb_search.proofs.Questions.Runs.{run_push, run_append, may_after}
 use Rattle.sgb_search.proofs.Lists.AllByRecursion.{all_push, all_append, all_each}
+use Rattle.sgb_search.proofs.Searches.Boundaries.{answered_left, answered_right}
 
-module _ {S : Type 0} (may : S → ℕ → Type 0) (gives : S → ℕ → Ordering → S → Type 0) where
+module _ {S A : Type 0} (may : S → ℕ → Type 0) (gives : S → ℕ → A → S → Type 0) (reads : A → Ordering) where
   -- low was answered Less, and place is twice as far from start, or stop where that is nearer
-  pub record HasDoubled (start stop low place : ℕ) (questions : List (ℕ × Ordering)) : Type 0 where
+  pub record HasDoubled (start stop low place : ℕ) (questions : List (ℕ × A)) : Type 0 where
     pub positive : start < low
     pub ahead : low < place
     pub near : place + start ≤ 2 * low
     pub within : place ≤ stop
     pub twice : place < stop → place + start ≡ 2 * low
-    pub answered : Contains questions (low, Less)
+    pub answered : WasAnswered reads questions low Less
 
   -- after some doublings: low was the last to be answered Less, and place is next
   pub record Doubles (start stop : ℕ) (s : S) (low place : ℕ) (t : S) : Type 0 where
-    pub questions : List (ℕ × Ordering)
+    pub questions : List (ℕ × A)
     pub run : IsRun may gives s questions t
     pub places : AllByRecursion (λ q. IsBetween start stop q.0) questions
     pub after : start ≤ low
@@ -44,12 +45,12 @@ one_way (inr never) = cc never.0
 pub not_less : (o : Ordering) → false ≡ is_lt o → o ≢ Less
 not_less o e f = true≢false (sym (e ∙ ap is_lt f))
 
-module _ {S : Type 0} (may : S → ℕ → Type 0) (gives : S → ℕ → Ordering → S → Type 0) (start stop : ℕ) (s : S) (up : start ≤ stop) where
-  pub doubles_start : (place : ℕ) → place ≡ start + 1 → Doubles may gives start stop s start place s
+module _ {S A : Type 0} (may : S → ℕ → Type 0) (gives : S → ℕ → A → S → Type 0) (reads : A → Ordering) (start stop : ℕ) (s : S) (up : start ≤ stop) where
+  pub doubles_start : (place : ℕ) → place ≡ start + 1 → Doubles may gives reads start stop s start place s
   doubles_start place e =
       record { questions = []; run = refl; places = tt; after = omega arith; most = omega arith; low_end = inl (refl, e) }
 
-  module _ (low place : ℕ) (t : S) (n : Doubles may gives start stop s low place t) where
+  module _ (low place : ℕ) (t : S) (n : Doubles may gives reads start stop s low place t) where
     pub doubles_low : place < stop → low < place
     doubles_low b = elim n.low_end as (λ _. low < place) [ inl e ↦ omega (arith, e) | inr e ↦ e.ahead ]
 
@@ -89,8 +90,8 @@ module _ {S : Type 0} (may : S → ℕ → Type 0) (gives : S → ℕ → Orderi
           omega (arith, n.most)
     ]
 
-    low_known : (low ≡ start) ⊎ Contains n.questions (low, Less)
-    low_known = elim n.low_end as (λ _. (low ≡ start) ⊎ Contains n.questions (low, Less)) [ inl e ↦ inl e.0 | inr e ↦ inr e.answered ]
+    low_known : (low ≡ start) ⊎ WasAnswered reads n.questions low Less
+    low_known = elim n.low_end as (λ _. (low ≡ start) ⊎ WasAnswered reads n.questions low Less) [ inl e ↦ inl e.0 | inr e ↦ inr e.answered ]
 
     low_within : stop ≤ place → low ≤ stop
     low_within b = elim n.low_end as (λ _. low ≤ stop) [ inl e ↦ omega (arith, up, e) | inr e ↦ omega (arith, e.ahead, e.within) ]
@@ -98,7 +99,7 @@ module _ {S : Type 0} (may : S → ℕ → Type 0) (gives : S → ℕ → Orderi
     low_below : stop ≤ place → stop ≤ low → stop ≤ start
     low_below b p = elim n.low_end as (λ _. stop ≤ start) [ inl e ↦ omega (arith, e) | inr e ↦ absurd (omega (arith, e.ahead, e.within)) ]
 
-    pub doubles_end : stop ≤ place → IsBracket may gives start stop s low stop t
+    pub doubles_end : stop ≤ place → IsBracket may gives reads start stop s low stop t
     doubles_end b = record {
       questions = n.questions;
       run = n.run;
@@ -113,77 +114,93 @@ module _ {S : Type 0} (may : S → ℕ → Type 0) (gives : S → ℕ → Orderi
     }
 
     module _ (b : place < stop) (m : may t place) (u : S) where
-      pub doubles_stop : (o : Ordering) → gives t place o u → o ≢ Less → IsBracket may gives start stop s low (place + 1) u
-      doubles_stop o g ne =
-          let qs : List (ℕ × Ordering) = n.questions ++ (place, o) ∷ [] in
-          let last = Contains-push n.questions (place, o) in
-          record {
-            questions = qs;
-            run = run_push may gives s n.questions t u place o n.run m g;
-            places = all_push _ n.questions (place, o) n.places (omega (arith, n.after, doubles_low b), b);
-            after = n.after;
-            order = omega (arith, doubles_low b);
-            within = omega arith;
-            nonempty = λ p. absurd (omega (arith, doubles_low b));
-            most = omega (arith, stopped_most b, length-append n.questions ((place, o) ∷ []));
-            low_end = elim low_known as (λ _. (low ≡ start) ⊎ Contains qs (low, Less)) [
-              | inl e ↦ inl e
-              | inr e ↦ inr (Contains-append_left n.questions ((place, o) ∷ []) (low, Less) e)
-            ];
-            high_end = inr (o, subst (λ (k : ℕ). Contains qs (k, o)) {x = place} {y = place + 1 - 1} (omega arith) last, ne);
-          }
+      module _ (a : A) (g : gives t place a u) where
+        abbrev asked : List (ℕ × A)
+        asked = n.questions ++ (place, a) ∷ []
 
-      pub doubles_on : (next : ℕ) → gives t place Less u → place < next → next + start ≤ 2 * place → next ≤ stop →
-          (next < stop → next + start ≡ 2 * place)
-          → Doubles may gives start stop s place next u
-      doubles_on next g p q r e = record {
-        questions = n.questions ++ (place, Less) ∷ [];
-        run = run_push may gives s n.questions t u place Less n.run m g;
-        places = all_push _ n.questions (place, Less) n.places (omega (arith, n.after, doubles_low b), b);
-        after = omega (arith, n.after, doubles_low b);
-        most = omega (arith, n.most, twice b, length-append n.questions ((place, Less) ∷ []));
-        low_end =
-            inr (record {
-              positive = omega (arith, n.after, doubles_low b);
-              ahead = p;
-              near = q;
-              within = r;
-              twice = e;
-              answered = Contains-push n.questions (place, Less);
-            });
-      }
+        run : IsRun may gives s asked u
+        run = run_push may gives s n.questions t u place a n.run m g
 
-  module _ (low high : ℕ) (t : S) (n : IsBracket may gives start stop s low high t) where
+        places : AllByRecursion (λ q. IsBetween start stop q.0) asked
+        places = all_push _ n.questions (place, a) n.places (omega (arith, n.after, doubles_low b), b)
+
+        answered : (o : Ordering) → o ≡ reads a → WasAnswered reads asked place o
+        answered o e = (a, Contains-push n.questions (place, a), sym e)
+
+        pub doubles_stop : (o : Ordering) → o ≡ reads a → o ≢ Less → IsBracket may gives reads start stop s low (place + 1) u
+        doubles_stop o e ne = record {
+          questions = asked;
+          run = run;
+          places = places;
+          after = n.after;
+          order = omega (arith, doubles_low b);
+          within = omega arith;
+          nonempty = λ p. absurd (omega (arith, doubles_low b));
+          most = omega (arith, stopped_most b, length-append n.questions ((place, a) ∷ []));
+          low_end = elim low_known as (λ _. (low ≡ start) ⊎ WasAnswered reads asked low Less) [
+            | inl e ↦ inl e
+            | inr e ↦ inr (answered_left reads n.questions ((place, a) ∷ []) low Less e)
+          ];
+          high_end = inr (o, subst (λ (k : ℕ). WasAnswered reads asked k o) {x = place} {y = place + 1 - 1} (omega arith) (answered o e), ne);
+        }
+
+        pub doubles_on : Less ≡ reads a → (next : ℕ) → place < next → next + start ≤ 2 * place → next ≤ stop
+            → (next < stop → next + start ≡ 2 * place) → Doubles may gives reads start stop s place next u
+        doubles_on is next p q r e = record {
+          questions = asked;
+          run = run;
+          places = places;
+          after = omega (arith, n.after, doubles_low b);
+          most = omega (arith, n.most, twice b, length-append n.questions ((place, a) ∷ []));
+          low_end =
+              inr (record {
+                positive = omega (arith, n.after, doubles_low b);
+                ahead = p;
+                near = q;
+                within = r;
+                twice = e;
+                answered = answered Less is;
+              });
+        }
+
+  module _ (low high : ℕ) (t : S) (n : IsBracket may gives reads start stop s low high t) where
     pub bracket_may : MayAskAll may gives (IsBetween start stop) s → MayAskAll may gives (IsBetween low high) t
     bracket_may h =
         may_after may gives (IsBetween start stop) (IsBetween low high)
         (λ q b. (omega (arith, b, n.after), omega (arith, b, n.within))) s n.questions t n.run n.places h
 
-    module _ (hs : List (ℕ × Ordering)) where
-      abbrev all : List (ℕ × Ordering)
+    module _ (hs : List (ℕ × A)) where
+      abbrev all : List (ℕ × A)
       all = n.questions ++ hs
 
-      contradicts : (i : ℕ) (a b : Ordering) → Contains n.questions (i, a) → Contains hs (i, b) → a ≢ b → Contradicts all i
-      contradicts i a b x y ne = (a, b, Contains-append_left n.questions hs (i, a) x, Contains-append_right n.questions hs (i, b) y, ne)
+      -- what the bracket's answers say, and the halving's, of all
+      first : (i : ℕ) (o : Ordering) → WasAnswered reads n.questions i o → WasAnswered reads all i o
+      first = answered_left reads n.questions hs
+
+      then : (i : ℕ) (o : Ordering) → WasAnswered reads hs i o → WasAnswered reads all i o
+      then = answered_right reads n.questions hs
 
       Less≢Greater : Less ≢ Greater
       Less≢Greater e = cc
 
-      before : (i : ℕ) → (low < i) × Contains hs (i - 1, Less) → IsLowEnd all start i
-      before i p = inr (omega (arith, n.after, p.0), Contains-append_right n.questions hs (i - 1, Less) p.1)
+      before : (i : ℕ) → (low < i) × WasAnswered reads hs (i - 1) Less → IsLowEnd (WasAnswered reads all) start i
+      before i p = inr (omega (arith, n.after, p.0), then (i - 1) Less p.1)
 
-      at : (i : ℕ) → (i < high) × Contains hs (i, Greater) → IsHighEnd all stop i
-      at i g = inr (omega (arith, n.within, g.0), Contains-append_right n.questions hs (i, Greater) g.1)
+      at : (i : ℕ) → (i < high) × WasAnswered reads hs i Greater → IsHighEnd (WasAnswered reads all) stop i
+      at i g = inr (omega (arith, n.within, g.0), then i Greater g.1)
 
       -- where halving ended at an end of the bracket, the answer that put it there stands against the halving's own
-      boundary : (i : ℕ) → low ≤ i → i ≤ high → (low ≡ start) ⊎ Contains n.questions (low, Less) → (high ≡ stop) ⊎
-          ((o : Ordering) × Contains n.questions (high - 1, o) × (o ≢ Less)) → IsLowEnd hs low i → IsHighEnd hs high i
-          → TellsBoundary all true start stop i
+      boundary : (i : ℕ) → low ≤ i → i ≤ high → (low ≡ start) ⊎ WasAnswered reads n.questions low Less → (high ≡ stop) ⊎
+          ((o : Ordering) × WasAnswered reads n.questions (high - 1) o × (o ≢ Less)) → IsLowEnd (WasAnswered reads hs) low i
+          → IsHighEnd (WasAnswered reads hs) high i → TellsBoundary (WasAnswered reads all) true start stop i
       boundary i a b x (inl y) (inr p) (inl f) =
           record { low_end = inl (before i p); high_end = inl (inl (omega arith)) }
       boundary i a b x (inr k) (inr p) (inl f) =
-          let here = subst (λ (j : ℕ). Contains n.questions (j - 1, k.0)) (sym f) k.1 in
-          record { low_end = inl (before i p); high_end = inr (refl, (omega (arith, p.0), contradicts (i - 1) k.0 Less here p.1 k.2)) }
+          let here = subst (λ (j : ℕ). WasAnswered reads n.questions (j - 1) k.0) (sym f) k.1 in
+          record {
+            low_end = inl (before i p);
+            high_end = inr (refl, (omega (arith, p.0), (k.0, Less, first (i - 1) k.0 here, then (i - 1) Less p.1, k.2)));
+          }
       boundary i a b x y (inr p) (inr g) =
           record { low_end = inl (before i p); high_end = inl (at i g) }
       boundary i a b x y (inl e) (inl f) =
@@ -192,8 +209,8 @@ module _ {S : Type 0} (may : S → ℕ → Type 0) (gives : S → ℕ → Orderi
       boundary i a b (inl z) y (inl e) (inr g) =
           record { low_end = inl (inl (omega arith)); high_end = inl (at i g) }
       boundary i a b (inr k) y (inl e) (inr g) =
-          let here = subst (λ (j : ℕ). Contains n.questions (j, Less)) (sym e) k in
-          record { low_end = inr (refl, contradicts i Less Greater here g.1 Less≢Greater); high_end = inl (at i g) }
+          let here = subst (λ (j : ℕ). WasAnswered reads n.questions j Less) (sym e) k in
+          record { low_end = inr (refl, (Less, Greater, first i Less here, then i Greater g.1, Less≢Greater)); high_end = inl (at i g) }
 
     module _ (u : S) where
       fits : (i m : ℕ) → low ≤ i → i ≤ stop → m ≤ digits (high - low + 1 - 1) → IsWithin exponential (stop - start + 1) (i - start + 1)
@@ -209,18 +226,18 @@ module _ {S : Type 0} (may : S → ℕ → Type 0) (gives : S → ℕ → Orderi
                 (omega (arith, n.after)),
           ))
 
-      fits_all : (i : ℕ) (hs : List (ℕ × Ordering)) → low ≤ i → i ≤ stop → length hs ≤ digits (high - low + 1 - 1) → IsWithin exponential
+      fits_all : (i : ℕ) (hs : List (ℕ × A)) → low ≤ i → i ≤ stop → length hs ≤ digits (high - low + 1 - 1) → IsWithin exponential
           (stop - start + 1) (i - start + 1) (length (n.questions ++ hs))
       fits_all i hs from upto few =
           subst (IsWithin exponential (stop - start + 1) (i - start + 1)) (sym (length-append n.questions hs)) (fits i (length hs) from upto few)
 
-      places_all : (hs : List (ℕ × Ordering)) → AllByRecursion (λ q. IsBetween low high q.0) hs
+      places_all : (hs : List (ℕ × A)) → AllByRecursion (λ q. IsBetween low high q.0) hs
           → AllByRecursion (λ q. IsBetween start stop q.0) (n.questions ++ hs)
       places_all hs h = all_append _ n.questions hs n.places (all_each _ _
           (λ q b. (omega (arith, b, n.after), omega (arith, b, n.within))) hs h)
 
-      pub gallop_ends : (r : Result ℕ ℕ) → IsPlaceSearch may gives binary low high t r u
-          → IsPlaceSearch may gives exponential start stop s r u
+      pub gallop_ends : (r : Result ℕ ℕ) → IsPlaceSearch may gives reads binary low high t r u
+          → IsPlaceSearch may gives reads exponential start stop s r u
       gallop_ends (Ok i) h =
           let b = h.tells.0 in
           let f = h.tells.1 in
@@ -233,8 +250,9 @@ module _ {S : Type 0} (may : S → ℕ → Type 0) (gives : S → ℕ → Orderi
               (omega (arith, b, n.after), omega (arith, b, n.within)),
               (
                 n.questions ++ f.0,
-                ap (λ (l : List (ℕ × Ordering)). n.questions ++ l) f.1 ∙ sym
-                    (append_assoc n.questions f.0 ((i, Equal) ∷ [])),
+                f.1,
+                ap (λ (l : List (ℕ × A)). n.questions ++ l) f.2 ∙ sym (append_assoc n.questions f.0 ((i, f.1) ∷ [])),
+                f.3,
               ),
             );
           }

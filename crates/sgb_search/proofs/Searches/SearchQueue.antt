@@ -1,8 +1,7 @@
 -- The laws of binary and exponential calls: a call ends at a local boundary; on a settled iterator it gives the outermost piece, and
 -- leaves it settled.
-use Rattle.std.specs.Prelude.{◌≡◌, ℕ, ◌+◌, ◌-◌, ◌<◌, ◌≤◌, Bool, true, false, List, [], ◌∷◌, ◌++◌, length, reverse, refl, Option, None, Some, slice_get}
+use Rattle.std.specs.Prelude.{◌≡◌, ℕ, ◌+◌, ◌-◌, ◌<◌, Bool, true, false, List, [], ◌∷◌, ◌++◌, length, reverse, refl, Option, None, Some, slice_get}
 use Rattle.std.proofs.Common.{sym, ap, subst, arith, ◌∙◌, inl, inr, get_or, length-append, append_assoc}
-use Rattle.std.specs.List.{AllByRecursion}
 use Rattle.std.proofs.lemmas.List.{append-nil}
 use Rattle.std.proofs.lemmas.Option.{slice_get-get_or, slice_get_within}
 use Rattle.sgb_search.specs.declared.judge.Judge.{Ghosts}
@@ -10,49 +9,71 @@ use Rattle.sgb_search.specs.Split.{on_pairs, from, put_at, last, without_last, I
 use Rattle.sgb_search.specs.declared.end.End.{End}
 use Rattle.sgb_search.specs.declared.end.End.TheVariants.{Front, Back}
 use Rattle.sgb_search.specs.Calls.{IsGroupAt, CallAt, Groups, ComputesBy, IsCallableBy}
-use Rattle.sgb_search.specs.Searching.{SearchCost, IsAskedAt, ContradictsAt, IsInner, IsBeyond, EndsBy, IsLocalEnd, IsSettledApart, SearchQuestions}
-use Rattle.sgb_search.proofs.Lists.AllByRecursion.{all_contains, all_each}
+use Rattle.sgb_search.specs.Searching.{SearchCost, IsWithin, IsBetween, IsLowEnd, IsHighEnd, as_ordering, outward, IsLocalEnd, IsSettledApart, SearchQuestions}
+use Rattle.sgb_search.specs.Search.{AnswersAt}
 use Rattle.sgb_search.proofs.Lists.Ends.{length-from, length-put_at}
-use Rattle.sgb_search.proofs.Lists.Apart.{outward_apart, get_reverse, apart_of_rest}
+use Rattle.sgb_search.proofs.Lists.Apart.{outward_len, outward_of, outward_apart, get_reverse, apart_of_rest}
 use Rattle.sgb_search.proofs.Lists.Pairs.{in_order}
 use Rattle.sgb_search.proofs.Splits.Grouped.{parts_of_grouped, grouped_part, get_after, get_before, last_is}
 use Rattle.sgb_search.proofs.Splits.Split.{takes_piece, takes_nothing}
-use Rattle.sgb_search.specs.Judges.{IsRunOf, AsksWithin}
+use Rattle.std.specs.declared.cmp.Ordering.{Ordering}
+use Rattle.std.specs.declared.cmp.Ordering.TheVariants.{Less, Greater}
+use Rattle.sgb_search.specs.Judges.{IsRunOf, AnswersBy, AsksWithin}
+use Rattle.sgb_search.proofs.Questions.AtPlaces.{AskedAt, asked_at, answered_by}
+use Rattle.sgb_search.proofs.Searches.Boundaries.{tells_more, one_answer, answers_once, side_before, side_after}
 use Rattle.sgb_search.proofs.Questions.Calls as calls
 use Rattle.sgb_search.proofs.Questions.Calls.{AsksAllowed, nothing_asked}
 
--- of a judge that answers what p says
-module _ {J T : Type 0} (judge : Ghosts J T) (p : T → T → Bool) (xs : List T) (qs : List ((T × T) × Bool))
-    (says : AllByRecursion (λ r. r.1 ≡ on_pairs p r.0) qs) where
-  asked_says : (i : ℕ) (b : Bool) → IsAskedAt xs qs i b → (x y : T) → slice_get xs 0 ≡ Some x → slice_get xs i ≡ Some y → p x y ≡ b
-  asked_says i b a x y ex ey =
-      let answer : b ≡ p a.outermost a.other = all_contains _ qs ((a.outermost, a.other), b) says a.asked in
-      let sx : a.outermost ≡ x = cc (a.outermost_at, ex) in
-      let sy : a.other ≡ y = cc (a.other_at, ey) in
-      sym (answer ∙ ap (λ (z : T). p z a.other) sx ∙ ap (p x) sy)
+module _ {T J : Type 0} (g : Ghosts J T) (cost : SearchCost) (e : End) (xs : List T) (n : ℕ) (j k : J)
+    (h : SearchQuestions g cost e xs n j k) where
+  -- the questions of a call are about two different places
+  pub asked_apart : AskedAt g.may_ask g.answers (outward (from e xs)) (AreApart xs) j h.questions k
+  asked_apart =
+      asked_at g.may_ask g.answers (outward (from e xs)) (IsBetween 1 (length (outward (from e xs)))) (AreApart xs)
+      (λ i q b. outward_apart e xs i q b.0) j h.questions k h.run h.places
 
-  never_both : (i : ℕ) → ContradictsAt xs qs i → ⊥
-  never_both i (a, b) =
-      let yes = asked_says i true a b.outermost b.other b.outermost_at b.other_at in
-      let wrong : true ≡ false = sym yes ∙ asked_says i false b b.outermost b.other b.outermost_at b.other_at in
-      cc wrong
+  -- and no more than it costs
+  pub asked_within : IsWithin cost (length xs) n (length h.questions)
+  asked_within =
+      let long : length (outward (from e xs)) ≡ length xs = outward_len (from e xs) ∙ length-from e xs in
+      subst (λ (m : ℕ). IsWithin cost m n (length h.questions)) {x = length (outward (from e xs)) - 1 + 1} {y = length xs}
+      (omega (arith, long, h.tells))
+      (subst (λ (m : ℕ). IsWithin cost (length (outward (from e xs)) - 1 + 1) m (length h.questions)) {x = n - 1 + 1} {y = n}
+      (omega (arith, h.tells)) h.most)
 
-  inner_says : (g : ℕ) → IsInner xs qs g → (x y : T) → 1 < g → slice_get xs 0 ≡ Some x → slice_get xs (g - 1) ≡ Some y → p x y ≡ true
-  inner_says g (inl e) x y l = absurd (omega arith)
-  inner_says g (inr a) x y l = asked_says (g - 1) true a x y
+  -- where the judge answers what p says, it ends at a local boundary
+  module _ (p : T → T → Bool) (by : AnswersBy g.may_ask g.answers (AreApart xs) (on_pairs p) j) where
+    abbrev ys : List T
+    ys = from e xs
 
-  beyond_says : (g : ℕ) → IsBeyond xs qs g → (x y : T) → slice_get xs 0 ≡ Some x → slice_get xs g ≡ Some y → p x y ≡ false
-  beyond_says g (inl e) x y ex ey = absurd (omega (arith, slice_get_within xs g y ey))
-  beyond_says g (inr a) x y ex ey = asked_says g false a x y ex ey
+    abbrev says : ℕ → Ordering → Type 0
+    says = AnswersAt (λ q. as_ordering (on_pairs p q)) (outward ys)
 
-  local_end : (again : Bool) (g : ℕ) → 0 < g → g ≤ length xs → EndsBy xs again qs g → IsLocalEnd xs p g
-  local_end again g some fits e = record { nonempty = some; within = fits; inner = inner_says g inner; beyond = beyond_says g beyond }
-    where
-      inner : IsInner xs qs g
-      inner = elim e.inner [ inl a ↦ a | inr b ↦ absurd (never_both g b.1) ]
+    ends : IsLowEnd says 1 n × IsHighEnd says (length (outward ys)) n
+    ends =
+        one_answer says (answers_once (λ q. as_ordering (on_pairs p q)) (outward ys)) _ 1 (length (outward ys)) n
+        (tells_more _ says (answered_by _ _ (outward ys) (IsBetween 1 (length (outward ys))) (AreApart xs)
+        (λ i q b. outward_apart e xs i q b.0) j h.questions k h.run h.places (on_pairs p) by as_ordering) _ 1 (length (outward ys)) n h.tells.2)
 
-      beyond : IsBeyond xs qs g
-      beyond = elim e.beyond [ inl a ↦ a | inr b ↦ absurd (never_both (g - 1) b.1.1) ]
+    at_pair : (i : ℕ) (o : Ordering) (x y : T) → says i o → slice_get ys 0 ≡ Some x → slice_get ys i ≡ Some y → as_ordering (p x y) ≡ o
+    at_pair i o x y a ex ey =
+        let same : a.0 ≡ (x, y) = cc (a.1, outward_of ys i x y ex ey) in ap (λ (q : T × T). as_ordering (p q.0 q.1)) (sym same) ∙ a.2
+
+    pub call_ends : IsLocalEnd ys p n
+    call_ends = record {
+      nonempty = h.tells.0;
+      within = omega (arith, h.tells, outward_len ys);
+      inner = inner ends.0;
+      beyond = beyond ends.1;
+    }
+      where
+        inner : IsLowEnd says 1 n → (x y : T) → 1 < n → slice_get ys 0 ≡ Some x → slice_get ys (n - 1) ≡ Some y → p x y ≡ true
+        inner (inl e) x y l ex ey = absurd (omega arith)
+        inner (inr a) x y l ex ey = side_before (p x y) (at_pair (n - 1) Less x y a.1 ex ey)
+
+        beyond : IsHighEnd says (length (outward ys)) n → (x y : T) → slice_get ys 0 ≡ Some x → slice_get ys n ≡ Some y → p x y ≡ false
+        beyond (inl f) x y ex ey = absurd (omega (arith, slice_get_within ys n y ey, outward_len ys))
+        beyond (inr a) x y ex ey = side_after (p x y) (at_pair n Greater x y a.1 ex ey)
 
 -- the local boundary of a grouped list is where the first piece ends
 module _ {T : Type 0} (p : T → T → Bool) where
@@ -172,12 +193,7 @@ module _ {T J : Type 0} (g : Ghosts J T) (cost : SearchCost) (p : T → T → Bo
   -- a call on a judge that answers by its arguments alone
   pub ends_locally : (e : End) (s : Groups T J) (group : List T) (t : Groups T J) → ComputesBy AreApart g s p
       → IsGroupAt (SearchQuestions g cost) e s group t → IsLocalEnd (from e s.remainder) p (length group)
-  ends_locally e s group t m h =
-      let xs = s.remainder in
-      let a = h.asked in
-      let fits : length group ≤ length (from e xs) = omega (arith, length-from e xs, ap length h.cut, length-put_at e group t.remainder) in
-      let says = m.at a.questions t.judge a.run (all_each _ _ (λ r. outward_apart e xs r.0) a.questions a.outward) in
-      local_end g p (from e xs) a.questions says cost.may_contradict (length group) h.nonempty fits a.ends
+  ends_locally e s group t m h = call_ends g cost e s.remainder (length group) s.judge t.judge h.asked p m
 
   taken : (e : End) (s : Groups T J) (group : List T) (t : Groups T J) → IsSettledApart g s p → IsGroupAt
       (SearchQuestions g cost) e s group t
@@ -198,7 +214,7 @@ module _ {T J : Type 0} (g : Ghosts J T) (cost : SearchCost) (p : T → T → Bo
 module _ {T J : Type 0} (g : Ghosts J T) (cost : SearchCost) where
   asks_apart : (e : End) (xs : List T) (n : ℕ) (j k : J) → SearchQuestions g cost e xs n j k → AsksAllowed g (AreApart xs) j k
   asks_apart e xs n j k h =
-      record { questions = h.questions; run = h.run; about = all_each _ _ (λ r. outward_apart e xs r.0) h.questions h.outward }
+      let a = asked_apart g cost e xs n j k h in record { questions = a.questions; run = a.run; about = a.about }
 
   pub keeps : (e : End) (s : Groups T J) (r : Option (List T)) (t : Groups T J) → CallAt (SearchQuestions g cost) e s r t
       → IsCallableBy AreApart g s → IsCallableBy AreApart g t
@@ -219,12 +235,12 @@ module _ {T J : Type 0} (g : Ghosts J T) (cost : SearchCost) where
       → AsksWithin (λ q r n. IsRunOf g.may_ask g.answers n q.judge r.judge) (λ q. cost.walk (length q.remainder)) false s t
   asks e s None t h = nothing_asked g (λ q. cost.walk (length q.remainder)) false s t h.1
   asks e s (Some x) t h =
-      let a = h.asked in
-      let n = length-from e s.remainder in
+      let a = asked_apart g cost e s.remainder (length x) s.judge t.judge h.asked in
+      let most = asked_within g cost e s.remainder (length x) s.judge t.judge h.asked in
       let cut : length s.remainder - length x ≡ length t.remainder = omega (arith, ap length h.cut, length-put_at e x t.remainder) in
       record {
-        number = length a.questions;
-        asks = (a.questions, a.run, refl);
-        most = omega (arith, a.most.walk, ap cost.walk n, ap (λ (m : ℕ). cost.walk (m - length x)) n, ap cost.walk cut);
+        number = length h.asked.questions;
+        asks = (a.questions, a.run, a.long);
+        most = omega (arith, most.walk, ap cost.walk cut);
         all = λ never. cc never;
       }

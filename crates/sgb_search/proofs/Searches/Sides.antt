@@ -1,40 +1,23 @@
--- Searches whose answers are two sides: they end at a place, which parts a list that is partitioned.
-use Rattle.std.specs.Prelude.{cond, ◌≡◌, ℕ, ◌≤◌, Bool, true, false, List, [], ◌∷◌, ◌++◌, length, Result, Ok, Err}
+-- Searches whose answers are two sides: the place that they give parts a list that is partitioned.
+use Rattle.std.specs.Prelude.{cond, ◌≡◌, ℕ, ◌≤◌, Bool, true, false, List, [], ◌++◌, length, Result, Ok, Err}
 use Rattle.std.proofs.Common.{refl, sym, ap, ◌∙◌, subst, arith}
-use Rattle.std.specs.Fn.{Mut, TakesAt}
-use Rattle.std.specs.Borrow.{Bor}
-use Rattle.std.specs.List.{AllByRecursion, Contains, count_by, filter, slice_index_or}
+use Rattle.std.specs.List.{AllByRecursion, count_by, filter, slice_index_or}
 use Rattle.std.specs.List.Sorted.{IsPartitionedBy, IsPartitionPoint}
 use Rattle.std.specs.Ordering.{ordering_index, is_lt, is_eq, is_gt}
 use Rattle.std.specs.declared.cmp.Ordering.{Ordering}
 use Rattle.std.specs.declared.cmp.Ordering.TheVariants.{Less, Equal, Greater}
 use Rattle.std.proofs.Math.Seq.{take-append_seam, drop-append_seam}
 use Rattle.std.proofs.lemmas.List.{append-nil}
-use Rattle.std.proofs.lemmas.List.Elements.{Contains-push, Contains-get_or, filter-append}
+use Rattle.std.proofs.lemmas.List.Elements.{Contains-get_or, filter-append}
 use Rattle.std.proofs.lemmas.List.Sorted.{IsNonDecreasingBy-drop}
-use Rattle.sgb_search.specs.Searching.{as_ordering, place_of, Tells}
-use Rattle.sgb_search.specs.Search.{IsLocalAnswer, IsLocalBoundary, IsLessEqualGreater, CalledAs, IsSearch}
+use Rattle.sgb_search.specs.Searching.{as_ordering, place_of}
+use Rattle.sgb_search.specs.Search.{IsLocalAnswer, IsLocalBoundary, IsLessEqualGreater}
 use Rattle.sgb_search.specs.Ranges.{IsRange, IsLocalRange}
 use Rattle.sgb_search.proofs.Lists.Filters.{keeps_all, keeps_none}
 use Rattle.sgb_search.proofs.Lists.AllByRecursion.{all_contains, all_each, all_when, all_of_rest}
 use Rattle.sgb_search.proofs.Searches.PartitionPoint.{taken, dropped, less_count}
-use Rattle.sgb_search.proofs.Searches.SearchRuns.{answers_read, region, never_equal}
-
--- no answer is Equal, so such a search gives `Err`
-module _ {F T K : Type 0} (g : Mut F (Bor T × Unit {0}) K) (passes : K → Bool) (xs : List T) where
-  pub ends_at : (f : F) (r : Result ℕ ℕ) (t : F) → IsSearch (TakesAt g) (CalledAs g (λ k. as_ordering (passes k))) xs f r t
-      → r ≡ Err (place_of r)
-  ends_at f (Err i) t h = refl
-  ends_at f (Ok i) t h =
-      let last = h.shows in
-      let asked : Contains h.questions (last.1, Equal) = subst (λ l. Contains l (last.1, Equal)) (sym last.3)
-      (Contains-push last.0 (last.1, Equal)) in
-      let k = all_contains _ h.questions (last.1, Equal) (answers_read g (λ k. as_ordering (passes k)) xs f h.questions t h.run) asked in
-      absurd (never_equal (passes k.0) (sym k.1))
-
-pub place_within : (qs : List (ℕ × Ordering)) (both : Bool) (low high : ℕ) (r : Result ℕ ℕ) → Tells qs both low high r → place_of r ≤ high
-place_within qs both low high (Ok i) t = omega (arith, t.0.1)
-place_within qs both low high (Err i) t = t.1
+use Rattle.sgb_search.proofs.Searches.Boundaries.{never_equal, side_before, side_after}
+use Rattle.sgb_search.proofs.Searches.SearchRuns.{region}
 
 pub boundary_of : {T : Type 0} (p : T → Bool) (xs : List T) (r : Result ℕ ℕ) → IsLocalAnswer (λ x. as_ordering (p x)) xs r
     → IsLocalBoundary (λ x. as_ordering (p x)) xs (place_of r)
@@ -54,19 +37,11 @@ module _ {T : Type 0} (p : T → Bool) (xs : List T) where
   pub partitioned_rises : IsPartitionedBy p xs → IsLessEqualGreater (λ x. as_ordering (p x)) xs
   partitioned_rises h i j d l k = rises (p (slice_index_or xs i d)) (p (slice_index_or xs j d)) (h i j d l k)
 
-  passing : (b : Bool) → as_ordering b ≡ Less → b ≡ true
-  passing true e = refl
-  passing false e = cc
-
-  failing : (b : Bool) → as_ordering b ≡ Greater → b ≡ false
-  failing true e = cc
-  failing false e = refl
-
   pub parts_at : (i : ℕ) → IsLocalBoundary (λ x. as_ordering (p x)) xs i → IsPartitionedBy p xs
       → IsPartitionPoint (λ x. p x ≡ true) (λ x. p x ≡ false) xs i
   parts_at i b h =
       let at = region (λ x. as_ordering (p x)) xs (Err i) b (partitioned_rises h) in
-      (λ k d l m. passing _ (at.0 k d l m), λ k d l m. failing _ (at.1 k d l m))
+      (λ k d l m. side_before _ (at.0 k d l m), λ k d l m. side_after _ (at.1 k d l m))
 
   side_is : (b : Bool) → is_lt (as_ordering b) ≡ b
   side_is true = refl

@@ -1,5 +1,5 @@
 -- Where the groups stand in the input that calls give.
-use Rattle.std.proofs.Common.{◌≡◌, ℕ, ◌+◌, ◌<◌, ◌^◌, List, [], ◌∷◌, length, Option, Some, map, refl, sym, ap, ◌∙◌, subst, arith, length-append}
+use Rattle.std.proofs.Common.{◌≡◌, ℕ, ◌+◌, ◌<◌, ◌^◌, List, [], ◌∷◌, length, Option, Some, map, refl, ap, ◌∙◌, subst, arith, length-append}
 use Rattle.std.specs.Iterator.{Yields, AlwaysYields}
 use Rattle.std.specs.List.{AllByRecursion}
 use Rattle.sgb_search.specs.Calls.{Place, StandsAt, place_after}

@@ -26,6 +26,7 @@ ghost use Rattle.slice_group_by.specs.Queue.{pops, after_pops};
 pub mod counts;
 pub mod families;
 pub mod judged;
+pub mod number_groups;
 pub mod pieces;
 pub mod plans;
 pub mod queue;

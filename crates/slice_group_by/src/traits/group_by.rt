@@ -8,15 +8,15 @@ ghost use Rattle.sgb_search.specs.Split.{IsGrouped, AreApart, AreNeighbours};
 ghost use Rattle.sgb_search.specs.Linear.{IsSettled};
 ghost use Rattle.sgb_search.specs.Searching.{IsSettledApart};
 ghost use Rattle.sgb_groups.specs.Gives.{groups_of, place_of};
+ghost use Rattle.sgb_number_group.specs.Gives as numbers;
 
 use crate::traits::holders::Elements;
 use sgb_binary_group::binary_group::{BinaryGroup, BinaryGroupBy, BinaryGroupByKey};
 use sgb_exponential_group::exponential_group::{
     ExponentialGroup, ExponentialGroupBy, ExponentialGroupByKey,
 };
-use sgb_linear_group::linear_group::{
-    LinearGroup, LinearGroupBy, LinearGroupByKey, LinearNumberGroup,
-};
+use sgb_linear_group::linear_group::{LinearGroup, LinearGroupBy, LinearGroupByKey};
+use sgb_number_group::groups::LinearNumberGroup;
 use sgb_numbers::lanes::Lanes;
 
 /// Groups of neighbouring elements, for reading.
@@ -83,10 +83,10 @@ pub trait GroupBy<T>: Elements<T> {
     fn linear_number_group(&self) -> LinearNumberGroup<'_, T>
     where
         T: Lanes,
-        ensures remainder { (groups_of result).remainder ≡ Self.items self.now }
-        ensures place { place_of result ≡ at_start (Self.items self.now) }
-        ensures callable { IsCallableBy AreNeighbours (by_number T.eq) (groups_of result) }
-        ensures settled { IsSettled (by_number T.eq) (groups_of result) T.eq }
+        ensures remainder { (numbers.groups_of result).remainder ≡ Self.items self.now }
+        ensures place { numbers.place_of result ≡ at_start (Self.items self.now) }
+        ensures callable { IsCallableBy AreNeighbours (by_number T.eq) (numbers.groups_of result) }
+        ensures settled { IsSettled (by_number T.eq) (numbers.groups_of result) T.eq }
     {
         LinearNumberGroup::new(self.as_slice())
     }

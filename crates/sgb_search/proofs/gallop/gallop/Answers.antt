@@ -4,7 +4,7 @@ use Rattle.sgb_search.proofs.gallop.gallop.Goals as goal
 pub halve-requires : goal.halve-requires
 halve-requires g c =
     let b = c.bracket-from.ensures in
-    record { order = b.order; callable = bracket_may _ _ _ _ _ c.requires.order _ _ _ b c.requires.callable }
+    record { order = b.order; callable = bracket_may _ _ _ _ _ _ c.requires.order _ _ _ b c.requires.callable }
 
 pub returns : goal.returns
-returns g c = gallop_ends _ _ _ _ _ c.requires.order _ _ _ c.bracket-from.ensures _ _ c.halve.ensures
+returns g c = gallop_ends _ _ _ _ _ _ c.requires.order _ _ _ c.bracket-from.ensures _ _ c.halve.ensures

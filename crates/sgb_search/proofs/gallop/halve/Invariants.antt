@@ -4,7 +4,8 @@ use Rattle.sgb_search.proofs.gallop.halve.Given as goal
 
 abbrev pub invariant-loop-from : goal.invariant-loop-from
 invariant-loop-from g l =
-    Narrows (λ s i. g.P.Places.may_compare s l.places i) (λ s i o t. g.P.Places.compares s l.places i o t)
+    Narrows (λ s i. g.P.Places.may_compare s l.places i) (λ s i a t. g.P.Places.compares s l.places i a t)
+    (λ a. g.P.Places.reads l.places a)
     l.low l.high l.fn.asker l.from l.upto l.size l.asker
 
 abbrev pub decreases-loop-from : goal.decreases-loop-from

@@ -6,7 +6,7 @@ use Rattle.sgb_search.specs.Searching.{as_ordering}
 use Rattle.sgb_search.specs.Search.{IsLocalBoundary}
 use Rattle.sgb_search.specs.Ranges.{AsksPartition}
 use Rattle.sgb_search.proofs.Questions.OnElements.{callable_on_fewer, computes_on_fewer}
-use Rattle.sgb_search.proofs.Searches.SearchRuns.{wide_may_go_on, wide_computes_go_on}
+use Rattle.sgb_search.proofs.Searches.SearchRuns.{may_go_on, answers_go_on}
 use Rattle.sgb_search.proofs.ranges.range.Goals as goal
 
 -- the two parts of a list that was split, joined
@@ -63,12 +63,12 @@ returns-clause-local g c answer by =
 
 pub returns-clause-callable : goal.returns-clause-callable
 returns-clause-callable g c =
-    wide_may_go_on g.F.FnMut (λ k. as_ordering (g.E.Side.passes c.args.equal.now k)) c.split_at.result.1.now (Contains c.args.slice.now)
-    (in_rest _ _ _ (joined _ _ _ _ c.split_at.ensures.front c.split_at.ensures.back)) _ _ _ c.count_before-len.ensures.questions
+    may_go_on g.F.FnMut c.split_at.result.1.now (λ k. as_ordering (g.E.Side.passes c.args.equal.now k)) _ _ _ c.count_before-len.ensures.questions
+    (Contains c.args.slice.now) (in_rest _ _ _ (joined _ _ _ _ c.split_at.ensures.front c.split_at.ensures.back))
     c.count_before-start.ensures.callable
 
 pub returns-clause-computes : goal.returns-clause-computes
 returns-clause-computes g c answer by =
-    wide_computes_go_on g.F.FnMut (λ k. as_ordering (g.E.Side.passes c.args.equal.now k)) c.split_at.result.1.now
-    (Contains c.args.slice.now) (in_rest _ _ _ (joined _ _ _ _ c.split_at.ensures.front c.split_at.ensures.back)) answer _ _ _
-    c.count_before-len.ensures.questions (c.count_before-start.ensures.computes answer by)
+    answers_go_on g.F.FnMut c.split_at.result.1.now (λ k. as_ordering (g.E.Side.passes c.args.equal.now k)) _ _ _
+    c.count_before-len.ensures.questions (Contains c.args.slice.now)
+    (in_rest _ _ _ (joined _ _ _ _ c.split_at.ensures.front c.split_at.ensures.back)) answer (c.count_before-start.ensures.computes answer by)

@@ -5,11 +5,11 @@ use Rattle.sgb_search.proofs.ranges.SidedPlaces.compare.Goals as goal
 
 pub returns : goal.returns
 returns g c = (
-  c.index-self-place.result,
-  slice_get_read _ _ c.args.place _ refl c.requires.0 c.index-self-place.is,
+  c.asker.result,
   (
-    c.asker.result,
+    c.index-self-place.result,
+    slice_get_read _ _ c.args.place _ refl c.requires.0 c.index-self-place.is,
     record { shown = _; shows = sym c.index-self-place.is; called = c.asker.ensures },
-    ap as_ordering (sym c.is_before.ensures) ∙ sym c.before_end.ensures,
   ),
+  c.before_end.ensures ∙ ap as_ordering c.is_before.ensures,
 )

@@ -4,7 +4,11 @@ use Rattle.sgb_search.proofs.search.KeyedPlaces.compare.Goals as goal
 
 pub returns : goal.returns
 returns g c = (
-  c.index-self-place.result,
-  slice_get_read _ _ c.args.place _ refl c.requires.0 c.index-self-place.is,
-  (c.asker.result, record { shown = _; shows = sym c.index-self-place.is; called = c.asker.ensures }, sym c.cmp.ensures),
+  c.asker.result,
+  (
+    c.index-self-place.result,
+    slice_get_read _ _ c.args.place _ refl c.requires.0 c.index-self-place.is,
+    record { shown = _; shows = sym c.index-self-place.is; called = c.asker.ensures },
+  ),
+  c.cmp.ensures,
 )

@@ -1,16 +1,16 @@
-use Rattle.std.proofs.Common.{◌≤◌, None, Some, length, refl, subst, ap, arith}
+use Rattle.std.proofs.Common.{None, Some, length, ap, arith}
 use Rattle.std.proofs.Math.Nat.{mul-le-mul_left}
-use Rattle.sgb_search.proofs.Lists.Ends.{length-from}
+use Rattle.sgb_search.proofs.Searches.SearchQueue.{asked_apart, asked_within}
 use Rattle.slice_group_by.proofs.Questions.Counting.{counts_most}
 use Rattle.slice_group_by.proofs.laws.counts.search_asks.Goals as goal
 
 pub returns-clause-asks : goal.returns-clause-asks
 returns-clause-asks g c e s t group h =
-    let run = (g.met.G.Judged.call e s (Some group) t h).asked in (
-      length run.questions,
-      (run.questions, run.run, refl),
-      subst (λ n. length run.questions ≤ g.S.GroupSearch.cost.call n (length (g.G.Judged.shows group)))
-          (length-from e (g.G.Judged.groups s).remainder) run.most.call,
+    let call = (g.met.G.Judged.call e s (Some group) t h).asked in
+    let run = asked_apart g.J.Judge g.S.GroupSearch.cost e _ _ _ _ call in (
+      length call.questions,
+      (run.questions, run.run, run.long),
+      (asked_within g.J.Judge g.S.GroupSearch.cost e _ _ _ _ call).call,
     )
 
 pub returns-clause-counts : goal.returns-clause-counts

@@ -1,0 +1,116 @@
+-- Four masks of sixteen pairs as one of sixty-four.
+use Rattle.std.proofs.Common.{◌≡◌, ℕ, suc, ◌+◌, ◌-◌, ◌*◌, ◌^◌, ◌<◌, ◌≤◌, Bool, List, [], ◌∷◌, ◌++◌, length, take, drop, append_assoc, sym, ap, ◌∙◌, subst, arith}
+use Rattle.std.specs.Prelude.{reverse}
+use Rattle.std.proofs.lemmas.List.{length-map, length-reverse, reverse-append, drop-drop}
+use Rattle.std.proofs.Math.Seq.{take-add}
+use Rattle.std.proofs.lemmas.Simd.{length-chunk, mask_l-lt}
+use Rattle.std.specs.Simd.Lanes.{chunk, mask_l}
+use Rattle.std.proofs.Math.Nat.{two-pow-succ, mul_assoc}
+use Rattle.sgb_search.proofs.Lists.Pairs.{length-neighbours}
+use Rattle.sgb_search.specs.Split.{neighbours}
+use Rattle.sgb_numbers.specs.Boundaries.{boundaries}
+
+pub chunk-add : {X : Type 0} (at m n : ℕ) (xs : List X) → chunk at (m + n) xs ≡ chunk at m xs ++ chunk (at + m) n xs
+chunk-add at m n xs =
+    take-add m n (drop at xs)
+    ∙ ap (λ ys. chunk at m xs ++ take n ys) (drop-drop m at xs)
+
+pub length-boundaries : {T : Type 0} (eq : T → T → Bool) (xs : List T) → length (boundaries eq xs) ≡ length xs - 1
+length-boundaries eq xs = length-map (neighbours xs) _ ∙ length-neighbours xs
+
+-- the lower sixteen bits, and those above
+abbrev pub joined : ℕ → ℕ → ℕ
+joined low high = low + 65536 * high
+
+mask_l-append : (xs ys : List Bool) → mask_l (xs ++ ys) ≡ mask_l xs + 2 ^ length xs * mask_l ys
+mask_l-append [] ys = omega arith
+mask_l-append (x ∷ xs) ys =
+    let more : 2 ^ suc (length xs) * mask_l ys ≡ 2 * (2 ^ length xs * mask_l ys) =
+    ap (λ (n : ℕ). n * mask_l ys) {x = 2 ^ suc (length xs)} {y = 2 * 2 ^ length xs} (omega (arith, two-pow-succ (length xs)))
+    ∙ mul_assoc 2 (2 ^ length xs) (mask_l ys) in
+    omega (arith, more, mask_l-append xs ys)
+
+pub mask_joined : (xs ys : List Bool) → length xs ≡ 16 → mask_l (xs ++ ys) ≡ joined (mask_l xs) (mask_l ys)
+mask_joined xs ys long = mask_l-append xs ys ∙ ap (λ (n : ℕ). mask_l xs + 2 ^ n * mask_l ys) long
+
+pub mask_small : (xs : List Bool) → length xs ≡ 16 → mask_l xs < 65536
+mask_small xs long = subst (λ (n : ℕ). mask_l xs < 2 ^ n) long (mask_l-lt xs)
+
+-- bs: the tests of a list; the masks of sixteen from `at` on, of the next sixteen and so on
+module _ (bs : List Bool) (at : ℕ) (room : at + 64 ≤ length bs) where
+  abbrev lanes : ℕ → List Bool
+  lanes from = chunk from 16 bs
+
+  long : (from : ℕ) → from + 16 ≤ length bs → length (lanes from) ≡ 16
+  long from l = length-chunk from 16 bs l
+
+  pub small : (from : ℕ) → from + 16 ≤ length bs → mask_l (lanes from) < 65536
+  small from l = mask_small (lanes from) (long from l)
+
+  pub small_back : (from : ℕ) → from + 16 ≤ length bs → mask_l (reverse (lanes from)) < 65536
+  small_back from l = mask_small (reverse (lanes from)) (length-reverse (lanes from) ∙ long from l)
+
+  place : (n i j : ℕ) → i ≡ j → chunk i n bs ≡ chunk j n bs
+  place n i j e = ap (λ (k : ℕ). chunk k n bs) e
+
+  parts : chunk at 64 bs ≡ lanes at ++ (lanes (at + 16) ++ (lanes (at + 32) ++ lanes (at + 48)))
+  parts =
+      chunk-add at 16 48 bs
+      ∙ ap (λ zs. lanes at ++ zs) (chunk-add (at + 16) 16 32 bs
+      ∙ ap (λ zs. lanes (at + 16) ++ zs) (place 32 (at + 16 + 16) (at + 32) (omega arith) ∙ chunk-add (at + 32) 16 16 bs
+      ∙ ap (λ zs. lanes (at + 32) ++ zs) (place 16 (at + 32 + 16) (at + 48) (omega arith))))
+
+  four : (a b c d : List Bool) → length a ≡ 16 → length b ≡ 16 → length c ≡ 16
+      → mask_l (a ++ (b ++ (c ++ d))) ≡ joined (mask_l a) (joined (mask_l b) (joined (mask_l c) (mask_l d)))
+  four a b c d la lb lc =
+      mask_joined a (b ++ (c ++ d)) la
+      ∙ ap (joined (mask_l a)) (mask_joined b (c ++ d) lb ∙ ap (joined (mask_l b)) (mask_joined c d lc))
+
+  pub block_mask : joined (mask_l (lanes at)) (joined (mask_l (lanes (at + 16))) (joined (mask_l (lanes (at + 32))) (mask_l (lanes (at + 48)))))
+      ≡ mask_l (chunk at 64 bs)
+  block_mask =
+      sym (ap mask_l parts ∙ four (lanes at) (lanes (at + 16)) (lanes (at + 32)) (lanes (at + 48))
+      (long at (omega arith)) (long (at + 16) (omega arith)) (long (at + 32) (omega arith)))
+
+  turned_parts : (a b c d : List Bool) → reverse (a ++ (b ++ (c ++ d))) ≡ reverse d ++ (reverse c ++ (reverse b ++ reverse a))
+  turned_parts a b c d =
+      reverse-append a (b ++ (c ++ d))
+      ∙ ap (λ zs. zs ++ reverse a) (reverse-append b (c ++ d) ∙ ap (λ zs. zs ++ reverse b) (reverse-append c d))
+      ∙ append_assoc (reverse d ++ reverse c) (reverse b) (reverse a)
+      ∙ append_assoc (reverse d) (reverse c) (reverse b ++ reverse a)
+
+  long_back : (from : ℕ) → from + 16 ≤ length bs → length (reverse (lanes from)) ≡ 16
+  long_back from l = length-reverse (lanes from) ∙ long from l
+
+  pub block_mask_back : joined (mask_l (reverse (lanes (at + 48)))) (joined (mask_l (reverse (lanes (at + 32))))
+      (joined (mask_l (reverse (lanes (at + 16)))) (mask_l (reverse (lanes at)))))
+      ≡ mask_l (reverse (chunk at 64 bs))
+  block_mask_back =
+      sym (ap (λ zs. mask_l (reverse zs)) parts ∙ ap mask_l (turned_parts (lanes at) (lanes (at + 16)) (lanes (at + 32)) (lanes (at + 48)))
+      ∙ four (reverse (lanes (at + 48))) (reverse (lanes (at + 32))) (reverse (lanes (at + 16))) (reverse (lanes at))
+      (long_back (at + 48) (omega arith)) (long_back (at + 32) (omega arith)) (long_back (at + 16) (omega arith)))
+
+-- the masks of the tests of the neighbouring pairs of xs
+module _ {T : Type 0} (eq : T → T → Bool) (xs : List T) where
+  pub few : (at m : ℕ) → at + 16 < length xs → m ≡ mask_l (chunk at 16 (boundaries eq xs)) → m < 65536
+  few at m room e =
+      let l = length-boundaries eq xs in
+      omega (arith, e, mask_small (chunk at 16 (boundaries eq xs)) (length-chunk at 16 (boundaries eq xs) (omega (arith, l))))
+
+  pub few_back : (at m : ℕ) → at + 16 < length xs → m ≡ mask_l (reverse (chunk at 16 (boundaries eq xs))) → m < 65536
+  few_back at m room e =
+      let l = length-boundaries eq xs in
+      let lanes = chunk at 16 (boundaries eq xs) in
+      omega (arith, e, mask_small (reverse lanes) (length-reverse lanes ∙ length-chunk at 16 (boundaries eq xs) (omega (arith, l))))
+
+  module _ (at a b c d : ℕ) (room : at + 64 < length xs) where
+    pub block_is : a ≡ mask_l (chunk at 16 (boundaries eq xs)) → b ≡ mask_l (chunk (at + 16) 16 (boundaries eq xs))
+        → c ≡ mask_l (chunk (at + 32) 16 (boundaries eq xs)) → d ≡ mask_l (chunk (at + 48) 16 (boundaries eq xs))
+        → a + 65536 * (b + 65536 * (c + 65536 * d)) ≡ mask_l (chunk at 64 (boundaries eq xs))
+    block_is e f g h = rw (e, f, g, h) (block_mask (boundaries eq xs) at (omega (arith, length-boundaries eq xs)))
+
+    pub block_back_is : a ≡ mask_l (reverse (chunk (at + 48) 16 (boundaries eq xs)))
+        → b ≡ mask_l (reverse (chunk (at + 32) 16 (boundaries eq xs))) → c ≡ mask_l (reverse (chunk (at + 16) 16 (boundaries eq xs)))
+        → d ≡ mask_l (reverse (chunk at 16 (boundaries eq xs)))
+        → a + 65536 * (b + 65536 * (c + 65536 * d)) ≡ mask_l (reverse (chunk at 64 (boundaries eq xs)))
+    block_back_is e f g h = rw (e, f, g, h) (block_mask_back (boundaries eq xs) at (omega (arith, length-boundaries eq xs)))

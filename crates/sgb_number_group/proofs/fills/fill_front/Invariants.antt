@@ -1,0 +1,13 @@
+use Rattle.std.proofs.Common.{◌-◌, ◌<◌, ◌≤◌}
+use Rattle.sgb_number_group.specs.Masks.{AreSame}
+use Rattle.sgb_number_group.proofs.fills.fill_front.Given as goal
+
+abbrev pub invariant-loop-at : goal.invariant-loop-at
+invariant-loop-at g l = record {
+  after : l.from ≤ l.at;
+  before : l.at < l.high;
+  same : AreSame g.T.PartialEq.eq l.slice l.from l.at;
+}
+
+abbrev pub decreases-loop-at : goal.decreases-loop-at
+decreases-loop-at g l = l.high - l.at

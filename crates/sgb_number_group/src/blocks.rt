@@ -1,0 +1,26 @@
+//! Sixty-four neighbouring pairs at a time.
+ghost use Rattle.std.specs.Prelude.{◌≡◌, ◌+◌, ◌<◌, length, reverse};
+ghost use Rattle.std.specs.Simd.Lanes.{mask_l, chunk};
+ghost use Rattle.sgb_numbers.specs.Boundaries.{boundaries};
+
+use sgb_numbers::lanes::Lanes;
+
+/// Which of 64 neighbouring pairs from the place `at` on differ.
+#[inline(always)]
+pub(crate) fn block<T: Lanes>(slice: &[T], at: usize) -> u64
+    requires { at + 64 < length slice.now }
+    ensures { result ≡ mask_l (chunk at 64 (boundaries T.eq slice.now)) }
+{
+    let upper = T::cuts(slice, at + 32) + 65536 * T::cuts(slice, at + 48);
+    T::cuts(slice, at) + 65536 * (T::cuts(slice, at + 16) + 65536 * upper)
+}
+
+/// The same pairs, the last one first.
+#[inline(always)]
+pub(crate) fn block_back<T: Lanes>(slice: &[T], at: usize) -> u64
+    requires { at + 64 < length slice.now }
+    ensures { result ≡ mask_l (reverse (chunk at 64 (boundaries T.eq slice.now))) }
+{
+    let lower = T::cuts_back(slice, at + 16) + 65536 * T::cuts_back(slice, at);
+    T::cuts_back(slice, at + 48) + 65536 * (T::cuts_back(slice, at + 32) + 65536 * lower)
+}

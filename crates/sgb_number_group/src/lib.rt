@@ -1,0 +1,7 @@
+//! Groups of equal numbers by masks: sixty-four neighbouring pairs are compared at a time, and what that told is kept for the
+//! calls to come.
+#![tactic(auto)]
+
+mod blocks;
+mod fills;
+pub mod groups;

@@ -1,0 +1,6 @@
+use Rattle.std.proofs.Common.{w8}
+use Rattle.sgb_numbers.proofs.SignedBits.{signed_cuts}
+use Rattle.sgb_numbers.proofs.lanes.I8Lanes.cuts.Goals as goal
+
+pub returns : goal.returns
+returns c = signed_cuts w8 c.args.slice.now c.args.at c.requires c.read_all.ensures
