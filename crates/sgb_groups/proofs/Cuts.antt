@@ -13,8 +13,8 @@ use Rattle.sgb_groups.specs.declared.groups.SliceGroups.{SliceGroups}
 use Rattle.sgb_groups.specs.Gives.{groups_of, Gives, lies_within}
 use Rattle.sgb_groups.proofs.Parts.{range_split}
 
-module _ {T J C : Type 0} (asks : End → List T → ℕ → J → J → Type 0) where
-  pub call : (e : End) (s : SliceGroups T J C) (o : Option (Bor (List T))) (t : SliceGroups T J C) → Gives asks e s o t
+module _ {T J W : Type 0} (asks : End → List T → ℕ → J → J → Type 0) where
+  pub call : (e : End) (s : SliceGroups T J W) (o : Option (Bor (List T))) (t : SliceGroups T J W) → Gives asks e s o t
       → CallAt asks e (groups_of s) (option_copied o) (groups_of t)
   call e s None t h = (h.0, ap groups_of h.1)
   call e s (Some x) t h = h.call

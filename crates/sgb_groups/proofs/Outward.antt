@@ -6,8 +6,8 @@ use Rattle.std.proofs.lemmas.Option.{slice_get-get_or}
 use Rattle.sgb_search.specs.declared.end.End.{End}
 use Rattle.sgb_search.specs.declared.judge.Judge.{Ghosts}
 use Rattle.sgb_search.specs.Split.{from, AreApart}
-use Rattle.sgb_search.specs.Judges.{MayAskAll}
-use Rattle.sgb_search.specs.Searching.{SearchCost, IsBetween, IsPlaceSearch, MayAskAt, AnsweredAt, outward, as_ordering, place_of, SearchQuestions}
+use Rattle.sgb_search.specs.Judges.{IsCallable}
+use Rattle.sgb_search.specs.Searching.{SearchCost, IsBetween, IsPlaceSearch, MayAskAt, AnsweredAt, outward, as_ordering, answer_place, SearchQuestions}
 use Rattle.sgb_search.proofs.Lists.Apart.{get_reverse, outward_len, outward_of, outward_apart}
 use Rattle.sgb_search.proofs.Lists.Ends.{length-from}
 use Rattle.sgb_search.proofs.Questions.AtPlaces.{may_places}
@@ -43,13 +43,13 @@ module _ {T J : Type 0} (g : Ghosts J T) (e : End) (part : List T) where
   len : length (outward (from e part)) ≡ length part
   len = outward_len (from e part) ∙ length-from e part
 
-  pub search_may : (j : J) → MayAskAll g.may_ask g.answers (AreApart part) j → MayAskAll may answers (IsBetween 1 (length part)) j
+  pub search_may : (j : J) → IsCallable g.may_ask g.answers (AreApart part) j → IsCallable may answers (IsBetween 1 (length part)) j
   search_may =
       may_places g.may_ask g.answers (outward (from e part)) (IsBetween 1 (length part)) (AreApart part)
       (λ i q b. outward_apart e part i q b.0) (λ i b. omega (arith, b, len))
 
   pub search_asks : (cost : SearchCost) (j : J) (r : Result ℕ ℕ) (k : J) → IsPlaceSearch may answers as_ordering cost 1 (length part) j r k
-      → SearchQuestions g cost e part (place_of r) j k
+      → SearchQuestions g cost e part (answer_place r) j k
   search_asks cost j r k h =
       let s = subst (λ (n : ℕ). IsPlaceSearch may answers as_ordering cost 1 n j r k) (sym len) h in
       subst (λ (q : Result ℕ ℕ). IsPlaceSearch may answers as_ordering cost 1 (length (outward (from e part))) j q k)

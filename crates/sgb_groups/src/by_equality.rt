@@ -5,12 +5,12 @@ ghost use Rattle.sgb_search.specs.Calls.{IsCallableBy, ComputesBy, at_start};
 ghost use Rattle.sgb_search.specs.Judges.{by_equality};
 ghost use Rattle.sgb_loans.specs.Loans.{NothingOut};
 
-use crate::group_end::GroupEnd;
+use crate::way::Way;
 use crate::groups::SliceGroups;
 use crate::groups_mut::SliceGroupsMut;
 use sgb_search::judge::EqualityJudge;
 
-impl<'a, T: PartialEq, C: GroupEnd> SliceGroups<'a, T, EqualityJudge, C> {
+impl<'a, T: PartialEq, W: Way> SliceGroups<'a, T, EqualityJudge, W> {
     ghost use Rattle.sgb_groups.specs.Gives.{groups_of, place_of};
 
     /// All groups of equal elements of the slice, which are still to come. Nothing is asked yet.
@@ -22,15 +22,15 @@ impl<'a, T: PartialEq, C: GroupEnd> SliceGroups<'a, T, EqualityJudge, C> {
         ensures remainder { (groups_of result).remainder ≡ slice.now }
         ensures place { place_of result ≡ at_start slice.now }
         ensures asked { result.judge.asked ≡ 0 }
-        ensures callable { IsCallableBy (C.allowed T) (by_equality T.eq) (groups_of result) }
-        ensures computes { ComputesBy (C.allowed T) (by_equality T.eq) (groups_of result) T.eq }
-        ensures settled { C.fits T T.eq slice.now → C.settled T EqualityJudge (by_equality T.eq) (groups_of result) T.eq }
+        ensures callable { IsCallableBy (W.allowed T) (by_equality T.eq) (groups_of result) }
+        ensures computes { ComputesBy (W.allowed T) (by_equality T.eq) (groups_of result) T.eq }
+        ensures settled { W.fits T T.eq slice.now → W.settled T EqualityJudge (by_equality T.eq) (groups_of result) T.eq }
     {
         SliceGroups::with_judge(slice, EqualityJudge::new())
     }
 }
 
-impl<'a, T: PartialEq, C: GroupEnd> SliceGroupsMut<'a, T, EqualityJudge, C> {
+impl<'a, T: PartialEq, W: Way> SliceGroupsMut<'a, T, EqualityJudge, W> {
     ghost use Rattle.sgb_groups.specs.Gives.{groups_of_mut};
 
     /// All groups of equal elements of the slice, which are still to come. Nothing is asked yet, and nothing is out.
@@ -41,9 +41,9 @@ impl<'a, T: PartialEq, C: GroupEnd> SliceGroupsMut<'a, T, EqualityJudge, C> {
     pub fn new(slice: &'a mut [T]) -> Self
         ensures remainder { result.remainder ≡ slice.old }
         ensures asked { result.judge.asked ≡ 0 }
-        ensures callable { IsCallableBy (C.allowed T) (by_equality T.eq) (groups_of_mut result) }
-        ensures computes { ComputesBy (C.allowed T) (by_equality T.eq) (groups_of_mut result) T.eq }
-        ensures settled { C.fits T T.eq slice.old → C.settled T EqualityJudge (by_equality T.eq) (groups_of_mut result) T.eq }
+        ensures callable { IsCallableBy (W.allowed T) (by_equality T.eq) (groups_of_mut result) }
+        ensures computes { ComputesBy (W.allowed T) (by_equality T.eq) (groups_of_mut result) T.eq }
+        ensures settled { W.fits T T.eq slice.old → W.settled T EqualityJudge (by_equality T.eq) (groups_of_mut result) T.eq }
         ensures loans { NothingOut slice.entry.ghost_name result.loans }
     {
         SliceGroupsMut::with_judge(slice, EqualityJudge::new())

@@ -6,14 +6,14 @@ ghost use Rattle.sgb_search.specs.Calls.{IsCallableBy, ComputesBy, at_start};
 ghost use Rattle.sgb_search.specs.Judges.{by_key, key_judge};
 ghost use Rattle.sgb_loans.specs.Loans.{NothingOut};
 
-use crate::group_end::GroupEnd;
+use crate::way::Way;
 use crate::groups::SliceGroups;
 use crate::groups_mut::SliceGroupsMut;
 use sgb_search::judge::KeyJudge;
 
-type ByKey<'a, T, F, K, C> = SliceGroups<'a, T, KeyJudge<F, K>, C>;
+type ByKey<'a, T, F, K, W> = SliceGroups<'a, T, KeyJudge<F, K>, W>;
 
-impl<'a, T, K: PartialEq + Drop, F: FnMut(&T) -> K, C: GroupEnd> ByKey<'a, T, F, K, C> {
+impl<'a, T, K: PartialEq + Drop, F: FnMut(&T) -> K, W: Way> ByKey<'a, T, F, K, W> {
     ghost use Rattle.sgb_groups.specs.Gives.{groups_of, place_of};
 
     /// All groups of the slice by the key, which are still to come. Nothing is asked yet.
@@ -30,25 +30,25 @@ impl<'a, T, K: PartialEq + Drop, F: FnMut(&T) -> K, C: GroupEnd> ByKey<'a, T, F,
     /// should be grouped for the key: equal keys should stand side by side, as where the slice ascends by the key.
     #[inline]
     pub fn new(slice: &'a [T], func: F) -> Self
-        requires { IsCallableBy (C.allowed T) (by_key F.FnMut K.eq)
+        requires { IsCallableBy (W.allowed T) (by_key F.FnMut K.eq)
             (record { remainder = slice.now; judge = key_judge func }) }
         ensures remainder { (groups_of result).remainder ≡ slice.now }
         ensures place { place_of result ≡ at_start slice.now }
         ensures judge { result.judge ≡ key_judge func }
-        ensures callable { IsCallableBy (C.allowed T) (by_key F.FnMut K.eq) (groups_of result) }
+        ensures callable { IsCallableBy (W.allowed T) (by_key F.FnMut K.eq) (groups_of result) }
         ensures computes { (key : T → K) → ComputesKey F.FnMut key func
-            → ComputesBy (C.allowed T) (by_key F.FnMut K.eq) (groups_of result) (λ x y. K.eq (key x) (key y)) }
+            → ComputesBy (W.allowed T) (by_key F.FnMut K.eq) (groups_of result) (λ x y. K.eq (key x) (key y)) }
         ensures settled { (key : T → K) → ComputesKey F.FnMut key func
-            → C.fits T (λ x y. K.eq (key x) (key y)) slice.now
-            → C.settled T (KeyJudge F K) (by_key F.FnMut K.eq) (groups_of result) (λ x y. K.eq (key x) (key y)) }
+            → W.fits T (λ x y. K.eq (key x) (key y)) slice.now
+            → W.settled T (KeyJudge F K) (by_key F.FnMut K.eq) (groups_of result) (λ x y. K.eq (key x) (key y)) }
     {
         SliceGroups::with_judge(slice, KeyJudge::new(func))
     }
 }
 
-type ByKeyMut<'a, T, F, K, C> = SliceGroupsMut<'a, T, KeyJudge<F, K>, C>;
+type ByKeyMut<'a, T, F, K, W> = SliceGroupsMut<'a, T, KeyJudge<F, K>, W>;
 
-impl<'a, T, K: PartialEq + Drop, F: FnMut(&T) -> K, C: GroupEnd> ByKeyMut<'a, T, F, K, C> {
+impl<'a, T, K: PartialEq + Drop, F: FnMut(&T) -> K, W: Way> ByKeyMut<'a, T, F, K, W> {
     ghost use Rattle.sgb_groups.specs.Gives.{groups_of_mut};
 
     /// All groups of the slice by the key, which are still to come. Nothing is asked yet, and nothing is out.
@@ -56,16 +56,16 @@ impl<'a, T, K: PartialEq + Drop, F: FnMut(&T) -> K, C: GroupEnd> ByKeyMut<'a, T,
     /// It requires of the key function what `new` for reading requires, of the elements as they are now.
     #[inline]
     pub fn new(slice: &'a mut [T], func: F) -> Self
-        requires { IsCallableBy (C.allowed T) (by_key F.FnMut K.eq)
+        requires { IsCallableBy (W.allowed T) (by_key F.FnMut K.eq)
             (record { remainder = slice.old; judge = key_judge func }) }
         ensures remainder { result.remainder ≡ slice.old }
         ensures judge { result.judge ≡ key_judge func }
-        ensures callable { IsCallableBy (C.allowed T) (by_key F.FnMut K.eq) (groups_of_mut result) }
+        ensures callable { IsCallableBy (W.allowed T) (by_key F.FnMut K.eq) (groups_of_mut result) }
         ensures computes { (key : T → K) → ComputesKey F.FnMut key func
-            → ComputesBy (C.allowed T) (by_key F.FnMut K.eq) (groups_of_mut result) (λ x y. K.eq (key x) (key y)) }
+            → ComputesBy (W.allowed T) (by_key F.FnMut K.eq) (groups_of_mut result) (λ x y. K.eq (key x) (key y)) }
         ensures settled { (key : T → K) → ComputesKey F.FnMut key func
-            → C.fits T (λ x y. K.eq (key x) (key y)) slice.old
-            → C.settled T (KeyJudge F K) (by_key F.FnMut K.eq) (groups_of_mut result) (λ x y. K.eq (key x) (key y)) }
+            → W.fits T (λ x y. K.eq (key x) (key y)) slice.old
+            → W.settled T (KeyJudge F K) (by_key F.FnMut K.eq) (groups_of_mut result) (λ x y. K.eq (key x) (key y)) }
         ensures loans { NothingOut slice.entry.ghost_name result.loans }
     {
         SliceGroupsMut::with_judge(slice, KeyJudge::new(func))

@@ -6,12 +6,12 @@ ghost use Rattle.sgb_search.specs.Calls.{IsCallableBy, ComputesBy, at_start};
 ghost use Rattle.sgb_search.specs.Judges.{by_predicate, predicate_judge};
 ghost use Rattle.sgb_loans.specs.Loans.{NothingOut};
 
-use crate::group_end::GroupEnd;
+use crate::way::Way;
 use crate::groups::SliceGroups;
 use crate::groups_mut::SliceGroupsMut;
 use sgb_search::judge::PredicateJudge;
 
-impl<'a, T, P: FnMut(&T, &T) -> bool, C: GroupEnd> SliceGroups<'a, T, PredicateJudge<P>, C> {
+impl<'a, T, P: FnMut(&T, &T) -> bool, W: Way> SliceGroups<'a, T, PredicateJudge<P>, W> {
     ghost use Rattle.sgb_groups.specs.Gives.{groups_of, place_of};
 
     /// All groups of the slice by the predicate, which are still to come. Nothing is asked yet.
@@ -27,22 +27,22 @@ impl<'a, T, P: FnMut(&T, &T) -> bool, C: GroupEnd> SliceGroups<'a, T, PredicateJ
     /// grouped for the test: any two different places should agree exactly if all neighbours between them do.
     #[inline]
     pub fn new(slice: &'a [T], predicate: P) -> Self
-        requires { IsCallableBy (C.allowed T) (by_predicate P.FnMut)
+        requires { IsCallableBy (W.allowed T) (by_predicate P.FnMut)
             (record { remainder = slice.now; judge = predicate_judge predicate }) }
         ensures remainder { (groups_of result).remainder ≡ slice.now }
         ensures place { place_of result ≡ at_start slice.now }
         ensures judge { result.judge ≡ predicate_judge predicate }
-        ensures callable { IsCallableBy (C.allowed T) (by_predicate P.FnMut) (groups_of result) }
+        ensures callable { IsCallableBy (W.allowed T) (by_predicate P.FnMut) (groups_of result) }
         ensures computes { (p : T → T → Bool) → ComputesOnPairs P.FnMut p predicate
-            → ComputesBy (C.allowed T) (by_predicate P.FnMut) (groups_of result) p }
-        ensures settled { (p : T → T → Bool) → ComputesOnPairs P.FnMut p predicate → C.fits T p slice.now
-            → C.settled T (PredicateJudge P) (by_predicate P.FnMut) (groups_of result) p }
+            → ComputesBy (W.allowed T) (by_predicate P.FnMut) (groups_of result) p }
+        ensures settled { (p : T → T → Bool) → ComputesOnPairs P.FnMut p predicate → W.fits T p slice.now
+            → W.settled T (PredicateJudge P) (by_predicate P.FnMut) (groups_of result) p }
     {
         SliceGroups::with_judge(slice, PredicateJudge { predicate })
     }
 }
 
-impl<'a, T, P: FnMut(&T, &T) -> bool, C: GroupEnd> SliceGroupsMut<'a, T, PredicateJudge<P>, C> {
+impl<'a, T, P: FnMut(&T, &T) -> bool, W: Way> SliceGroupsMut<'a, T, PredicateJudge<P>, W> {
     ghost use Rattle.sgb_groups.specs.Gives.{groups_of_mut};
 
     /// All groups of the slice by the predicate, which are still to come. Nothing is asked yet, and nothing is out.
@@ -50,15 +50,15 @@ impl<'a, T, P: FnMut(&T, &T) -> bool, C: GroupEnd> SliceGroupsMut<'a, T, Predica
     /// It requires of the predicate what `new` for reading requires, of the elements as they are now.
     #[inline]
     pub fn new(slice: &'a mut [T], predicate: P) -> Self
-        requires { IsCallableBy (C.allowed T) (by_predicate P.FnMut)
+        requires { IsCallableBy (W.allowed T) (by_predicate P.FnMut)
             (record { remainder = slice.old; judge = predicate_judge predicate }) }
         ensures remainder { result.remainder ≡ slice.old }
         ensures judge { result.judge ≡ predicate_judge predicate }
-        ensures callable { IsCallableBy (C.allowed T) (by_predicate P.FnMut) (groups_of_mut result) }
+        ensures callable { IsCallableBy (W.allowed T) (by_predicate P.FnMut) (groups_of_mut result) }
         ensures computes { (p : T → T → Bool) → ComputesOnPairs P.FnMut p predicate
-            → ComputesBy (C.allowed T) (by_predicate P.FnMut) (groups_of_mut result) p }
-        ensures settled { (p : T → T → Bool) → ComputesOnPairs P.FnMut p predicate → C.fits T p slice.old
-            → C.settled T (PredicateJudge P) (by_predicate P.FnMut) (groups_of_mut result) p }
+            → ComputesBy (W.allowed T) (by_predicate P.FnMut) (groups_of_mut result) p }
+        ensures settled { (p : T → T → Bool) → ComputesOnPairs P.FnMut p predicate → W.fits T p slice.old
+            → W.settled T (PredicateJudge P) (by_predicate P.FnMut) (groups_of_mut result) p }
         ensures loans { NothingOut slice.entry.ghost_name result.loans }
     {
         SliceGroupsMut::with_judge(slice, PredicateJudge { predicate })

@@ -17,16 +17,16 @@ impl<J, S: DebugNames<J>> DebugNames<J> for Search<S> {
     const NAMES: Names = S::NAMES;
 }
 
-impl<'a, T: fmt::Debug, J, C: DebugNames<J>> fmt::Debug for SliceGroups<'a, T, J, C> {
-    fn fmt<W: fmt::Write>(&self, f: &mut fmt::Formatter<W>) -> fmt::Result {
-        let (name, field, _) = C::NAMES;
+impl<'a, T: fmt::Debug, J, W: DebugNames<J>> fmt::Debug for SliceGroups<'a, T, J, W> {
+    fn fmt<O: fmt::Write>(&self, f: &mut fmt::Formatter<O>) -> fmt::Result {
+        let (name, field, _) = W::NAMES;
         write!(f, "{name} {{ {field}: {:?} }}", self.remainder())
     }
 }
 
-impl<'a, T: fmt::Debug, J, C: DebugNames<J>> fmt::Debug for SliceGroupsMut<'a, T, J, C> {
-    fn fmt<W: fmt::Write>(&self, f: &mut fmt::Formatter<W>) -> fmt::Result {
-        let (name, _, field) = C::NAMES;
+impl<'a, T: fmt::Debug, J, W: DebugNames<J>> fmt::Debug for SliceGroupsMut<'a, T, J, W> {
+    fn fmt<O: fmt::Write>(&self, f: &mut fmt::Formatter<O>) -> fmt::Result {
+        let (name, _, field) = W::NAMES;
         write!(f, "{name}Mut {{ {field}: {:?} }}", self.remainder())
     }
 }

@@ -5,26 +5,26 @@ ghost use Rattle.std.specs.Iterator.SizeHint.{IsWithinCount};
 ghost use Rattle.sgb_search.specs.declared.end.End.TheVariants.{Front, Back};
 ghost use Rattle.sgb_search.specs.Calls.{IsCallableBy, StandsAt, at_start, groups_to_come};
 
-use crate::group_end::GroupEnd;
+use crate::way::Way;
 use sgb_search::end::End;
 use sgb_search::judge::Judge;
 use std::iter::FusedIterator;
 use std::marker::PhantomData;
 
-/// An iterator over the groups of a slice, from both ends. `J` decides what belongs together, and `C` finds where a group ends.
+/// An iterator over the groups of a slice, from both ends. `J` decides what belongs together, and `W` finds where a group ends.
 ///
 /// Contracts see of it the elements that it has not handed out yet, its `remainder`, and its `judge`: both are in `groups_of` of it.
 #[derive(Drop)]
-pub struct SliceGroups<'a, T, J, C> {
+pub struct SliceGroups<'a, T, J, W> {
     slice: &'a [T],
     // The remainder lies from the place `low` up to the place `high`, and is empty where these do not lie in the slice in order.
     low: usize,
     high: usize,
     judge: J,
-    group_end: PhantomData<C>,
+    way: PhantomData<W>,
 }
 
-impl<'a, T, J, C> SliceGroups<'a, T, J, C> {
+impl<'a, T, J, W> SliceGroups<'a, T, J, W> {
     ghost use Rattle.sgb_groups.specs.Gives.{groups_of, place_of};
 
     // All groups of the slice are still to come.
@@ -39,7 +39,7 @@ impl<'a, T, J, C> SliceGroups<'a, T, J, C> {
             low: 0,
             high: slice.len(),
             judge,
-            group_end: PhantomData,
+            way: PhantomData,
         }
     }
 
@@ -104,14 +104,14 @@ impl<'a, T, J, C> SliceGroups<'a, T, J, C> {
     }
 }
 
-impl<'a, T, J: Judge<T> + Drop, C: GroupEnd> Iterator for SliceGroups<'a, T, J, C> {
+impl<'a, T, J: Judge<T> + Drop, W: Way> Iterator for SliceGroups<'a, T, J, W> {
     type Item = &'a [T];
 
     ghost use Rattle.sgb_groups.specs.Gives.{groups_of, Gives};
 
-    ghost can_next = { λ s. IsCallableBy (C.allowed T) J.Judge (groups_of s) };
+    ghost can_next = { λ s. IsCallableBy (W.allowed T) J.Judge (groups_of s) };
 
-    ghost next_gives = { Gives (C.asks T J J.Judge) Front };
+    ghost next_gives = { Gives (W.asks T J J.Judge) Front };
 
     ghost remaining = { λ s. groups_to_come (groups_of s) };
 
@@ -136,12 +136,12 @@ impl<'a, T, J: Judge<T> + Drop, C: GroupEnd> Iterator for SliceGroups<'a, T, J, 
     }
 }
 
-impl<'a, T, J: Judge<T> + Drop, C: GroupEnd> DoubleEndedIterator for SliceGroups<'a, T, J, C> {
+impl<'a, T, J: Judge<T> + Drop, W: Way> DoubleEndedIterator for SliceGroups<'a, T, J, W> {
     ghost use Rattle.sgb_groups.specs.Gives.{groups_of, Gives};
 
-    ghost can_next_back = { λ s. IsCallableBy (C.allowed T) J.Judge (groups_of s) };
+    ghost can_next_back = { λ s. IsCallableBy (W.allowed T) J.Judge (groups_of s) };
 
-    ghost next_back_gives = { Gives (C.asks T J J.Judge) Back };
+    ghost next_back_gives = { Gives (W.asks T J J.Judge) Back };
 
     /// The last group of the remainder, or `None` where nothing remains. It asks as many questions as `next` does for a group of
     /// that length.
@@ -151,9 +151,9 @@ impl<'a, T, J: Judge<T> + Drop, C: GroupEnd> DoubleEndedIterator for SliceGroups
     }
 }
 
-impl<'a, T, J: Judge<T> + Drop, C: GroupEnd> FusedIterator for SliceGroups<'a, T, J, C> {}
+impl<'a, T, J: Judge<T> + Drop, W: Way> FusedIterator for SliceGroups<'a, T, J, W> {}
 
-impl<'a, T, J: Judge<T> + Drop, C: GroupEnd> SliceGroups<'a, T, J, C> {
+impl<'a, T, J: Judge<T> + Drop, W: Way> SliceGroups<'a, T, J, W> {
     ghost use Rattle.sgb_groups.specs.Gives.{groups_of, Gives};
     ghost use Rattle.sgb_groups.specs.declared.groups.SliceGroups.{SliceGroups};
 
@@ -164,8 +164,8 @@ impl<'a, T, J: Judge<T> + Drop, C: GroupEnd> SliceGroups<'a, T, J, C> {
     /// is not grouped, binary and exponential groups may end with another there.
     #[inline]
     pub fn last(mut self) -> Option<&'a [T]>
-        requires { IsCallableBy (C.allowed T) J.Judge (groups_of self) }
-        ensures { (t : SliceGroups T J C) × Gives (C.asks T J J.Judge) Back self.entry result t }
+        requires { IsCallableBy (W.allowed T) J.Judge (groups_of self) }
+        ensures { (t : SliceGroups T J W) × Gives (W.asks T J J.Judge) Back self.entry result t }
     {
         self.next_back()
     }
@@ -173,13 +173,13 @@ impl<'a, T, J: Judge<T> + Drop, C: GroupEnd> SliceGroups<'a, T, J, C> {
     // The group at the end. Each caller names its end, and gets a copy for that end alone.
     #[inline(always)]
     fn next_at(&mut self, end: &End) -> Option<&'a [T]>
-        requires { IsCallableBy (C.allowed T) J.Judge (groups_of self.old) }
-        ensures gives { Gives (C.asks T J J.Judge) end.now self.old result self.new }
-        ensures callable { IsCallableBy (C.allowed T) J.Judge (groups_of self.new) }
+        requires { IsCallableBy (W.allowed T) J.Judge (groups_of self.old) }
+        ensures gives { Gives (W.asks T J J.Judge) end.now self.old result self.new }
+        ensures callable { IsCallableBy (W.allowed T) J.Judge (groups_of self.new) }
     {
         let (low, high) = self.places()?;
         let slice = self.slice;
-        let len = C::group_len(end, slice, low, high, &mut self.judge);
+        let len = W::group_len(end, slice, low, high, &mut self.judge);
         match end {
             End::Front => {
                 self.low = low + len;

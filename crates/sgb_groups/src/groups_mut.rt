@@ -6,7 +6,7 @@ ghost use Rattle.std.specs.Iterator.SizeHint.{IsWithinCount};
 ghost use Rattle.sgb_search.specs.declared.end.End.TheVariants.{Front, Back};
 ghost use Rattle.sgb_loans.specs.Loans.{NothingOut, groups_mut_to_come};
 
-use crate::group_end::GroupEnd;
+use crate::way::Way;
 use sgb_loans::loans::{Ended, Loans};
 use sgb_search::end::End;
 use sgb_search::judge::Judge;
@@ -21,14 +21,14 @@ use std::mem;
 /// input are out (`loans`): take note of each group in the order in which the groups came, by `note_front` and `note_back`,
 /// and then `finish` says what the whole input ends as. These calls ask nothing and run no code but moves.
 #[derive(Drop)]
-pub struct SliceGroupsMut<'a, T, J, C> {
+pub struct SliceGroupsMut<'a, T, J, W> {
     slice: &'a mut [T],
     judge: J,
     loans: Loans<T>,
-    group_end: PhantomData<C>,
+    way: PhantomData<W>,
 }
 
-impl<'a, T, J, C> Model for SliceGroupsMut<'a, T, J, C> {
+impl<'a, T, J, W> Model for SliceGroupsMut<'a, T, J, W> {
     ghost use Rattle.std.specs.Prelude.{◌≡◌};
     ghost use Rattle.sgb_loans.specs.Loans.{GroupsMut};
 
@@ -39,7 +39,7 @@ impl<'a, T, J, C> Model for SliceGroupsMut<'a, T, J, C> {
     ghost invariant = { λ s. s.loans.rest ≡ s.slice.ghost_name };
 }
 
-impl<'a, T, J, C> SliceGroupsMut<'a, T, J, C> {
+impl<'a, T, J, W> SliceGroupsMut<'a, T, J, W> {
     // All groups of the slice are still to come.
     #[inline]
     pub(crate) fn with_judge(slice: &'a mut [T], judge: J) -> Self
@@ -52,7 +52,7 @@ impl<'a, T, J, C> SliceGroupsMut<'a, T, J, C> {
             slice,
             judge,
             loans,
-            group_end: PhantomData,
+            way: PhantomData,
         }
     }
 
@@ -81,7 +81,7 @@ impl<'a, T, J, C> SliceGroupsMut<'a, T, J, C> {
     }
 }
 
-impl<'a, T, J: Drop, C> SliceGroupsMut<'a, T, J, C> {
+impl<'a, T, J: Drop, W> SliceGroupsMut<'a, T, J, W> {
     /// Takes note of how the oldest group that is out was left, which came off at the front.
     #[inline]
     pub fn note_front(&mut self, group: Ended<'_, T>)
@@ -143,14 +143,14 @@ impl<'a, T, J: Drop, C> SliceGroupsMut<'a, T, J, C> {
     }
 }
 
-impl<'a, T, J: Judge<T> + Drop, C: GroupEnd> Iterator for SliceGroupsMut<'a, T, J, C> {
+impl<'a, T, J: Judge<T> + Drop, W: Way> Iterator for SliceGroupsMut<'a, T, J, W> {
     type Item = &'a mut [T];
 
     ghost use Rattle.sgb_groups.specs.Gives.{GivesMut, groups_of_mut};
 
-    ghost can_next = { λ s. IsCallableBy (C.allowed T) J.Judge (groups_of_mut s) };
+    ghost can_next = { λ s. IsCallableBy (W.allowed T) J.Judge (groups_of_mut s) };
 
-    ghost next_gives = { GivesMut (C.asks T J J.Judge) Front };
+    ghost next_gives = { GivesMut (W.asks T J J.Judge) Front };
 
     ghost remaining = { groups_mut_to_come };
 
@@ -174,12 +174,12 @@ impl<'a, T, J: Judge<T> + Drop, C: GroupEnd> Iterator for SliceGroupsMut<'a, T, 
     }
 }
 
-impl<'a, T, J: Judge<T> + Drop, C: GroupEnd> DoubleEndedIterator for SliceGroupsMut<'a, T, J, C> {
+impl<'a, T, J: Judge<T> + Drop, W: Way> DoubleEndedIterator for SliceGroupsMut<'a, T, J, W> {
     ghost use Rattle.sgb_groups.specs.Gives.{GivesMut, groups_of_mut};
 
-    ghost can_next_back = { λ s. IsCallableBy (C.allowed T) J.Judge (groups_of_mut s) };
+    ghost can_next_back = { λ s. IsCallableBy (W.allowed T) J.Judge (groups_of_mut s) };
 
-    ghost next_back_gives = { GivesMut (C.asks T J J.Judge) Back };
+    ghost next_back_gives = { GivesMut (W.asks T J J.Judge) Back };
 
     /// The last group of the remainder, or `None` where nothing remains. It asks as many questions as `next` does for a group of
     /// that length.
@@ -189,9 +189,9 @@ impl<'a, T, J: Judge<T> + Drop, C: GroupEnd> DoubleEndedIterator for SliceGroups
     }
 }
 
-impl<'a, T, J: Judge<T> + Drop, C: GroupEnd> FusedIterator for SliceGroupsMut<'a, T, J, C> {}
+impl<'a, T, J: Judge<T> + Drop, W: Way> FusedIterator for SliceGroupsMut<'a, T, J, W> {}
 
-impl<'a, T, J: Judge<T> + Drop, C: GroupEnd> SliceGroupsMut<'a, T, J, C> {
+impl<'a, T, J: Judge<T> + Drop, W: Way> SliceGroupsMut<'a, T, J, W> {
     ghost use Rattle.sgb_loans.specs.Loans.{GroupsMut};
     ghost use Rattle.sgb_groups.specs.Gives.{GivesMut, groups_of_mut};
 
@@ -202,8 +202,8 @@ impl<'a, T, J: Judge<T> + Drop, C: GroupEnd> SliceGroupsMut<'a, T, J, C> {
     /// `next_back`, take note of the group, and `finish`.
     #[inline]
     pub fn last(mut self) -> Option<&'a mut [T]>
-        requires { IsCallableBy (C.allowed T) J.Judge (groups_of_mut self) }
-        ensures { (t : GroupsMut T J) × GivesMut (C.asks T J J.Judge) Back self.entry result t }
+        requires { IsCallableBy (W.allowed T) J.Judge (groups_of_mut self) }
+        ensures { (t : GroupsMut T J) × GivesMut (W.asks T J J.Judge) Back self.entry result t }
     {
         self.next_back()
     }
@@ -211,15 +211,15 @@ impl<'a, T, J: Judge<T> + Drop, C: GroupEnd> SliceGroupsMut<'a, T, J, C> {
     // The group at the end. Each caller names its end, and gets a copy for that end alone.
     #[inline(always)]
     fn next_at(&mut self, end: &End) -> Option<&'a mut [T]>
-        requires { IsCallableBy (C.allowed T) J.Judge (groups_of_mut self.old) }
-        ensures gives { GivesMut (C.asks T J J.Judge) end.now self.old result self.new }
-        ensures callable { IsCallableBy (C.allowed T) J.Judge (groups_of_mut self.new) }
+        requires { IsCallableBy (W.allowed T) J.Judge (groups_of_mut self.old) }
+        ensures gives { GivesMut (W.asks T J J.Judge) end.now self.old result self.new }
+        ensures callable { IsCallableBy (W.allowed T) J.Judge (groups_of_mut self.new) }
     {
         if self.slice.len() == 0 {
             return None;
         }
         let all = mem::take(&mut self.slice);
-        let len = C::group_len(end, all, 0, all.len(), &mut self.judge);
+        let len = W::group_len(end, all, 0, all.len(), &mut self.judge);
         let (group, rest) = self.loans.cut(end, all, len);
         self.slice = rest;
         Some(group)

@@ -1,5 +1,5 @@
 //! The engines: iterators over the groups of a slice, for reading and for writing, over any judge and any way to find where a
-//! group ends. A family of groups is such a way (`GroupEnd`), in a crate of its own.
+//! group ends. A family of groups is such a way (`Way`), in a crate of its own.
 #![tactic(auto)]
 
 pub mod by_equality;
@@ -7,7 +7,7 @@ pub mod by_key;
 pub mod by_number;
 pub mod by_predicate;
 pub mod debug;
-pub mod group_end;
+pub mod way;
 pub mod groups;
 pub mod groups_mut;
 pub mod searching;

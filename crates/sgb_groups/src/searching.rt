@@ -1,14 +1,14 @@
 //! The binary and the exponential way to find a group: a search among the places beside the outermost element, at either end of a
 //! slice.
 ghost use Rattle.std.specs.Prelude.{◌≤◌, length, reverse};
-ghost use Rattle.sgb_search.specs.Judges.{MayAskAll};
+ghost use Rattle.sgb_search.specs.Judges.{IsCallable};
 ghost use Rattle.sgb_search.specs.Searching.{SearchCost, IsPlaceSearch, MayAskAt, AnsweredAt, outward, as_ordering, IsBetween};
 
-use crate::group_end::GroupEnd;
+use crate::way::Way;
 use crate::groups::SliceGroups;
 use crate::groups_mut::SliceGroupsMut;
 use sgb_search::end::End;
-use sgb_search::gallop::{Places, before_end, place_of};
+use sgb_search::gallop::{Places, before_end, answer_place};
 use sgb_search::judge::Judge;
 use std::cmp::Ordering;
 use std::marker::PhantomData;
@@ -43,7 +43,7 @@ pub trait GroupSearch {
         high: usize,
     ) -> Result<usize, usize>
         requires order { low ≤ high }
-        requires callable { MayAskAll (λ s i. P.may_compare s places.now i)
+        requires callable { IsCallable (λ s i. P.may_compare s places.now i)
             (λ s i a t. P.compares s places.now i a t) (IsBetween low high) asker.old }
         ensures { IsPlaceSearch (λ s i. P.may_compare s places.now i) (λ s i a t. P.compares s places.now i a t)
             (λ a. P.reads places.now a) cost low high asker.old result asker.new };
@@ -55,7 +55,7 @@ pub struct Search<S> {
     search: PhantomData<S>,
 }
 
-impl<S: GroupSearch> GroupEnd for Search<S> {
+impl<S: GroupSearch> Way for Search<S> {
     ghost use Rattle.std.specs.Prelude.{false};
     ghost use Rattle.sgb_search.specs.Split.{AreApart, IsGrouped};
     ghost use Rattle.sgb_search.specs.Searching.{SearchQuestions, IsSettledApart};
@@ -90,7 +90,7 @@ impl<S: GroupSearch> GroupEnd for Search<S> {
         judge: &mut J,
     ) -> usize {
         let part = &slice[low..high];
-        place_of(match end {
+        answer_place(match end {
             End::Front => S::search(judge, &FromFront { part }, 1, part.len()),
             End::Back => S::search(judge, &FromBack { part }, 1, part.len()),
         })

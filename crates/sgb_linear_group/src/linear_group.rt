@@ -2,7 +2,7 @@
 ghost use Rattle.std.specs.Prelude.{length};
 
 use sgb_groups::debug::{DebugNames, Names};
-use sgb_groups::group_end::GroupEnd;
+use sgb_groups::way::Way;
 use sgb_groups::groups::SliceGroups;
 use sgb_groups::groups_mut::SliceGroupsMut;
 use sgb_numbers::number_judge::NumberJudge;
@@ -108,7 +108,7 @@ pub type LinearGroupsMut<'a, T, J> = SliceGroupsMut<'a, T, J, Linear>;
 #[derive(Drop)]
 pub struct Linear {}
 
-impl GroupEnd for Linear {
+impl Way for Linear {
     ghost use Rattle.std.specs.Prelude.{true, ⊤};
     ghost use Rattle.sgb_search.specs.Split.{AreNeighbours, neighbours};
     ghost use Rattle.sgb_search.specs.Linear.{LinearQuestions, IsSettled};

@@ -13,7 +13,7 @@ use Rattle.sgb_search.specs.Questions.{questions}
 use Rattle.sgb_search.proofs.Lists.Ranges.{length-range}
 use Rattle.sgb_numbers.specs.Numbers.{by_number}
 use Rattle.sgb_numbers.specs.declared.number_judge.NumberJudge.{NumberJudge}
-use Rattle.sgb_number_group.specs.declared.groups.NumberGroups.{NumberGroups}
+use Rattle.sgb_number_group.specs.declared.groups.LinearNumberGroup.{LinearNumberGroup}
 use Rattle.sgb_number_group.specs.Masks.{FrontMask, BackMask, IsFirstEnd, IsLastStart}
 use Rattle.sgb_number_group.proofs.Asked.{asked_front, asked_back}
 
@@ -65,9 +65,9 @@ module _ {T : Type 0} (eq : T → T → Bool) (xs : List T) (low high : ℕ) (no
       }
 
 -- what it keeps of itself is known in one way alone
-module _ {T : Type 0} {P : Ghosts T} (s : NumberGroups T P) where
+module _ {T : Type 0} {P : Ghosts T} (s : LinearNumberGroup T P) where
   abbrev again : s.low ≤ s.high → s.high ≤ length s.slice.now → FrontMask P.eq s.slice.now s.low s.front s.known
-      → BackMask P.eq s.slice.now s.high s.back s.base → NumberGroups T P
+      → BackMask P.eq s.slice.now s.high s.back s.base → LinearNumberGroup T P
   again o n f b = record {
     slice = s.slice;
     low = s.low;

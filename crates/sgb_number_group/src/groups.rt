@@ -10,21 +10,18 @@ use crate::fills::{far_back, far_front, first_end, last_start};
 use sgb_numbers::lanes::Lanes;
 use std::iter::FusedIterator;
 
-/// An iterator over the groups of equal numbers of a slice: the groups of `LinearGroup`, by masks, sixty-four pairs at a time. How
-/// many comparisons that are is not counted.
+/// An iterator over the groups of equal numbers of a slice, from both ends: the groups of `LinearGroup`.
+///
+/// It compares sixty-four neighbouring pairs at a time by vectors, and keeps for each end which of them differ, so that most
+/// calls read no element. No contract counts its comparisons.
 ///
 /// ```
 /// let mut groups = LinearNumberGroup::new(&[1, 1, 1, 3, 3, 2, 2, 2]);
 /// groups.next();      // Some([1, 1, 1])
 /// groups.next_back(); // Some([2, 2, 2])
 /// ```
-pub type LinearNumberGroup<'a, T> = NumberGroups<'a, T>;
-
-/// An iterator over the groups of equal numbers of a slice, from both ends.
-///
-/// It keeps, for each end, which of the next pairs differ, so that most calls read no element.
 #[derive(Drop)]
-pub struct NumberGroups<'a, T: Lanes> {
+pub struct LinearNumberGroup<'a, T: Lanes> {
     slice: &'a [T],
     // The remainder lies from the place `low` up to the place `high`.
     low: usize,
@@ -45,7 +42,7 @@ pub struct NumberGroups<'a, T: Lanes> {
     ghost back_mask: { BackMask T.eq slice.now high back base },
 }
 
-impl<'a, T: Lanes> NumberGroups<'a, T> {
+impl<'a, T: Lanes> LinearNumberGroup<'a, T> {
     ghost use Rattle.sgb_numbers.specs.Numbers.{by_number};
     ghost use Rattle.sgb_search.specs.Calls.{IsCallableBy, StandsAt, at_start};
     ghost use Rattle.sgb_search.specs.Linear.{IsSettled};
@@ -60,7 +57,7 @@ impl<'a, T: Lanes> NumberGroups<'a, T> {
         ensures callable { IsCallableBy AreNeighbours (by_number T.eq) (groups_of result) }
         ensures settled { IsSettled (by_number T.eq) (groups_of result) T.eq }
     {
-        NumberGroups {
+        LinearNumberGroup {
             slice,
             low: 0,
             high: slice.len(),
@@ -106,7 +103,7 @@ impl<'a, T: Lanes> NumberGroups<'a, T> {
     }
 }
 
-impl<'a, T: Lanes> Iterator for NumberGroups<'a, T> {
+impl<'a, T: Lanes> Iterator for LinearNumberGroup<'a, T> {
     type Item = &'a [T];
 
     ghost use Rattle.std.specs.Prelude.{⊤};
@@ -148,7 +145,7 @@ impl<'a, T: Lanes> Iterator for NumberGroups<'a, T> {
     }
 }
 
-impl<'a, T: Lanes> DoubleEndedIterator for NumberGroups<'a, T> {
+impl<'a, T: Lanes> DoubleEndedIterator for LinearNumberGroup<'a, T> {
     ghost use Rattle.std.specs.Prelude.{⊤};
     ghost use Rattle.sgb_number_group.specs.Gives.{groups_of, Gives};
 
@@ -173,11 +170,11 @@ impl<'a, T: Lanes> DoubleEndedIterator for NumberGroups<'a, T> {
     }
 }
 
-impl<'a, T: Lanes> FusedIterator for NumberGroups<'a, T> {}
+impl<'a, T: Lanes> FusedIterator for LinearNumberGroup<'a, T> {}
 
-impl<'a, T: Lanes> NumberGroups<'a, T> {
+impl<'a, T: Lanes> LinearNumberGroup<'a, T> {
     ghost use Rattle.sgb_number_group.specs.Gives.{Gives};
-    ghost use Rattle.sgb_number_group.specs.declared.groups.NumberGroups.{NumberGroups};
+    ghost use Rattle.sgb_number_group.specs.declared.groups.LinearNumberGroup.{LinearNumberGroup};
 
     // What `next` gives where the mask does not tell.
     #[inline(always)]
@@ -216,7 +213,7 @@ impl<'a, T: Lanes> NumberGroups<'a, T> {
     /// The last group of the remainder, or `None` where nothing remains: what `next_back` gives. The iterator is given up.
     #[inline]
     pub fn last(mut self) -> Option<&'a [T]>
-        ensures { (t : NumberGroups T T.PartialEq) × Gives Back self.entry result t }
+        ensures { (t : LinearNumberGroup T T.PartialEq) × Gives Back self.entry result t }
     {
         self.next_back()
     }

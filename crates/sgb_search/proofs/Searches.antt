@@ -4,7 +4,7 @@ pub mod Boundaries
 pub mod Halving
 pub mod Galloping
 pub mod SearchRuns
-pub mod Sides
+pub mod Partitions
 pub mod SearchQueue
 pub mod PartitionPoint
 pub mod Ascending

@@ -6,7 +6,7 @@ use Rattle.sgb_search.specs.declared.end.End.{End}
 use Rattle.sgb_search.specs.declared.end.End.TheVariants.{Front, Back}
 use Rattle.sgb_search.specs.declared.judge.Judge.{Ghosts}
 use Rattle.sgb_search.specs.Split.{put_at, on_pairs}
-use Rattle.sgb_search.specs.Judges.{MayAskAll, AnswersBy}
+use Rattle.sgb_search.specs.Judges.{IsCallable, Computes}
 
 -- the elements that it has not handed out yet, and its judge
 pub record Groups (T J : Type 0) : Type 0 where
@@ -57,8 +57,8 @@ module _ {T J : Type 0} where
   -- allowed xs are the pairs that a call may ask about where xs remains: the judge may be asked about each, now and after any such
   -- questions
   abbrev pub IsCallableBy : (List T → T × T → Type 0) → Ghosts J T → Groups T J → Type 0
-  IsCallableBy allowed g s = MayAskAll g.may_ask g.answers (allowed s.remainder) s.judge
+  IsCallableBy allowed g s = IsCallable g.may_ask g.answers (allowed s.remainder) s.judge
 
   -- each answer to allowed questions is what p says; whether they may be asked it leaves open
   abbrev pub ComputesBy : (List T → T × T → Type 0) → Ghosts J T → Groups T J → (T → T → Bool) → Type 0
-  ComputesBy allowed g s p = AnswersBy g.may_ask g.answers (allowed s.remainder) (on_pairs p) s.judge
+  ComputesBy allowed g s p = Computes g.may_ask g.answers (allowed s.remainder) (on_pairs p) s.judge

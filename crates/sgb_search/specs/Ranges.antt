@@ -26,8 +26,8 @@ pub record IsLocalRange {T : Type 0} (less equal : T → Bool) (xs equals : List
   pub before : List T
   pub after : List T
   pub whole : xs ≡ before ++ (equals ++ after)
-  pub from : IsLocalBoundary (λ x. as_ordering (less x)) xs (length before)
-  pub upto : IsLocalBoundary (λ x. as_ordering (equal x)) (equals ++ after) (length equals)
+  pub starts : IsLocalBoundary (λ x. as_ordering (less x)) xs (length before)
+  pub ends : IsLocalBoundary (λ x. as_ordering (equal x)) (equals ++ after) (length equals)
 
 module _ {F T K : Type 0} (g : Mut F (Bor T × Unit {0}) K) where
   -- a search that leads from the state f to t, for the place n up to which the answers pass the test
@@ -39,6 +39,6 @@ module _ {F T K : Type 0} (g : Mut F (Bor T × Unit {0}) K) where
     pub before : List T
     pub after : List T
     pub whole : xs ≡ before ++ (equals ++ after)
-    pub between : F
-    pub first : AsksPartition less xs f (length before) between
-    pub second : AsksPartition equal (equals ++ after) between (length equals) t
+    pub state_between : F
+    pub less_search : AsksPartition less xs f (length before) state_between
+    pub equal_search : AsksPartition equal (equals ++ after) state_between (length equals) t

@@ -17,9 +17,9 @@ module _ {S Q A : Type 0} (may : S → Q → Type 0) (gives : S → Q → A → 
   IsRunOf n s t = (rs : List (Q × A)) × IsRun s rs t × (length rs ≡ n)
 
   -- in every state that runs of allowed questions reach, each allowed question may be asked
-  abbrev pub MayAskAll : (Q → Type 0) → S → Type 0
-  MayAskAll allowed s = (rs : List (Q × A)) (t : S) → IsRun s rs t → AllByRecursion (λ r. allowed r.0) rs → (q : Q) → allowed q → may t q
+  abbrev pub IsCallable : (Q → Type 0) → S → Type 0
+  IsCallable allowed s = (rs : List (Q × A)) (t : S) → IsRun s rs t → AllByRecursion (λ r. allowed r.0) rs → (q : Q) → allowed q → may t q
 
   -- each allowed question has the one answer, in every state that runs of allowed questions reach
-  pub record AnswersBy (allowed : Q → Type 0) (answer : Q → A) (s : S) : Type 0 where
+  pub record Computes (allowed : Q → Type 0) (answer : Q → A) (s : S) : Type 0 where
     pub at : (rs : List (Q × A)) (t : S) → IsRun s rs t → AllByRecursion (λ r. allowed r.0) rs → AllByRecursion (λ r. r.1 ≡ answer r.0) rs

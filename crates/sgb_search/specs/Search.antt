@@ -12,7 +12,7 @@ use Rattle.std.specs.declared.cmp.Ordering.{Ordering}
 use Rattle.std.specs.declared.cmp.Ordering.TheVariants.{Less, Equal, Greater}
 use Rattle.sgb_search.specs.Searching.{exponential, IsLowEnd, IsHighEnd, Searches}
 use Rattle.sgb_search.specs.Split.{neighbours}
-use Rattle.sgb_search.specs.Judges.{MayAskAll, AnswersBy}
+use Rattle.sgb_search.specs.Judges.{IsCallable, Computes}
 
 module _ {T : Type 0} (ord : T → Ordering) (xs : List T) where
   -- the element at place i is answered o
@@ -35,7 +35,7 @@ module _ {T : Type 0} (ord : T → Ordering) (xs : List T) where
   -- none is Equal: those before i are Less and those from i on are Greater, and so i is the number of those that are Less
   pub record IsGap (i : ℕ) : Type 0 where
     pub none : (j : ℕ) → AnswersAt j Equal → ⊥
-    pub between : IsPartitionPoint (λ x. ord x ≡ Less) (λ x. ord x ≡ Greater) xs i
+    pub partition : IsPartitionPoint (λ x. ord x ≡ Less) (λ x. ord x ≡ Greater) xs i
     pub place : i ≡ count_by (λ x. is_lt (ord x)) xs
 
   -- a place that is answered Equal, or the one place where such an element could stand, if there is none
@@ -50,12 +50,12 @@ NeverDescends cmp xs = AllByRecursion (λ q. cmp q.0 q.1 ≢ Greater) (neighbour
 -- a function of elements: a comparator, or a key function
 module _ {F T K : Type 0} (g : Mut F (Bor T × Unit {0}) K) (xs : List T) where
   -- in every state that its answers can lead to, f may be called on each element
-  abbrev pub MayCall : F → Type 0
-  MayCall f = MayAskAll (TakesAt g) (CalledAt g) (Contains xs) f
+  abbrev pub IsCallableOn : F → Type 0
+  IsCallableOn f = IsCallable (TakesAt g) (CalledAt g) (Contains xs) f
 
   -- and there it answers what h gives
-  abbrev pub Computes : (T → K) → F → Type 0
-  Computes h f = AnswersBy (TakesAt g) (CalledAt g) (Contains xs) h f
+  abbrev pub ComputesOn : (T → K) → F → Type 0
+  ComputesOn h f = Computes (TakesAt g) (CalledAt g) (Contains xs) h f
 
   -- a search by its answers, read as orderings, that leads from the state f to t and gives r
   abbrev pub IsSearch : (K → Ordering) → F → Result ℕ ℕ → F → Type 0

@@ -51,9 +51,9 @@ abbrev pub IsBetween : ℕ → ℕ → ℕ → Type 0
 IsBetween low high i = (low ≤ i) × (i < high)
 
 -- the place of an answer
-abbrev pub place_of : Result ℕ ℕ → ℕ
-place_of (Ok i) = i
-place_of (Err i) = i
+abbrev pub answer_place : Result ℕ ℕ → ℕ
+answer_place (Ok i) = i
+answer_place (Err i) = i
 
 -- answered i o: place i is answered o
 module _ (answered : ℕ → Ordering → Type 0) where
@@ -93,7 +93,7 @@ module _ {S A : Type 0} (may : S → ℕ → Type 0) (gives : S → ℕ → A �
     pub questions : List (ℕ × A)
     pub run : IsRun may gives s questions t
     pub places : AllByRecursion (λ q. IsBetween low high q.0) questions
-    pub most : IsWithin cost (high - low + 1) (place_of r - low + 1) (length questions)
+    pub most : IsWithin cost (high - low + 1) (answer_place r - low + 1) (length questions)
     pub tells : Tells reads questions cost.may_contradict low high r
 
   -- the ends between which galloping over the places from start up to stop halves: low was answered Less, and the place before high was not

@@ -1,8 +1,8 @@
 //! Halving and galloping over places, in either direction.
 ghost use Rattle.std.specs.Prelude.{◌≡◌, ℕ, ◌≤◌};
-ghost use Rattle.sgb_search.specs.Judges.{MayAskAll};
+ghost use Rattle.sgb_search.specs.Judges.{IsCallable};
 ghost use Rattle.std.specs.declared.cmp.Ordering.{Ordering};
-ghost use Rattle.sgb_search.specs.Searching.{as_ordering, binary, exponential, place_of, IsPlaceSearch, IsBracket, IsBetween};
+ghost use Rattle.sgb_search.specs.Searching.{as_ordering, binary, exponential, answer_place, IsPlaceSearch, IsBracket, IsBetween};
 
 use std::cmp::Ordering;
 
@@ -40,8 +40,8 @@ pub fn before_end(belongs: bool) -> Ordering
 
 /// The place that a search gives, found or not.
 #[inline]
-pub fn place_of(found: Result<usize, usize>) -> usize
-    ensures { result ≡ place_of found }
+pub fn answer_place(found: Result<usize, usize>) -> usize
+    ensures { result ≡ answer_place found }
 {
     match found {
         Ok(place) | Err(place) => place,
@@ -60,7 +60,7 @@ pub fn halve<A, P: Places<A>>(
     high: usize,
 ) -> Result<usize, usize>
     requires order { low ≤ high }
-    requires callable { MayAskAll (λ s i. P.may_compare s places.now i)
+    requires callable { IsCallable (λ s i. P.may_compare s places.now i)
         (λ s i a t. P.compares s places.now i a t) (IsBetween low high) asker.old }
     ensures { IsPlaceSearch (λ s i. P.may_compare s places.now i) (λ s i a t. P.compares s places.now i a t)
         (λ a. P.reads places.now a) binary low high asker.old result asker.new }
@@ -91,7 +91,7 @@ pub fn halve<A, P: Places<A>>(
 #[inline]
 fn bracket<A, P: Places<A>>(asker: &mut A, places: &P, low: usize, high: usize) -> (usize, usize)
     requires order { low ≤ high }
-    requires callable { MayAskAll (λ s i. P.may_compare s places.now i)
+    requires callable { IsCallable (λ s i. P.may_compare s places.now i)
         (λ s i a t. P.compares s places.now i a t) (IsBetween low high) asker.old }
     ensures { IsBracket (λ s i. P.may_compare s places.now i) (λ s i a t. P.compares s places.now i a t)
         (λ a. P.reads places.now a) low high asker.old result.0 result.1 asker.new }
@@ -123,7 +123,7 @@ pub fn gallop<A, P: Places<A>>(
     high: usize,
 ) -> Result<usize, usize>
     requires order { low ≤ high }
-    requires callable { MayAskAll (λ s i. P.may_compare s places.now i)
+    requires callable { IsCallable (λ s i. P.may_compare s places.now i)
         (λ s i a t. P.compares s places.now i a t) (IsBetween low high) asker.old }
     ensures { IsPlaceSearch (λ s i. P.may_compare s places.now i) (λ s i a t. P.compares s places.now i a t)
         (λ a. P.reads places.now a) exponential low high asker.old result asker.new }

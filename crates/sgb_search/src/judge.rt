@@ -13,7 +13,7 @@ use std::marker::{Model, PhantomData};
 pub trait Judge<T> {
     ghost use Rattle.std.specs.Prelude.{◌<◌, ◌≤◌, length, slice_range};
     ghost use Rattle.sgb_search.specs.declared.end.End.TheVariants.{Front, Back};
-    ghost use Rattle.sgb_search.specs.Runs.{IsRun, MayAskAll};
+    ghost use Rattle.sgb_search.specs.Runs.{IsRun, IsCallable};
     ghost use Rattle.sgb_search.specs.Questions.{questions};
     ghost use Rattle.sgb_search.specs.Split.{AreNeighbours};
 
@@ -34,7 +34,7 @@ pub trait Judge<T> {
     fn first_len(&mut self, slice: &[T], low: usize, high: usize) -> usize
         requires nonempty { low < high }
         requires inside { high ≤ length slice.now }
-        requires callable { MayAskAll may_ask answers (AreNeighbours (slice_range slice.now low high)) self.old }
+        requires callable { IsCallable may_ask answers (AreNeighbours (slice_range slice.now low high)) self.old }
         ensures nonempty { 0 < result }
         ensures within { low + result ≤ high }
         ensures asked { IsRun may_ask answers self.old (questions Front (slice_range slice.now low high) result) self.new }
@@ -58,7 +58,7 @@ pub trait Judge<T> {
     fn last_len(&mut self, slice: &[T], low: usize, high: usize) -> usize
         requires nonempty { low < high }
         requires inside { high ≤ length slice.now }
-        requires callable { MayAskAll may_ask answers (AreNeighbours (slice_range slice.now low high)) self.old }
+        requires callable { IsCallable may_ask answers (AreNeighbours (slice_range slice.now low high)) self.old }
         ensures nonempty { 0 < result }
         ensures within { low + result ≤ high }
         ensures asked { IsRun may_ask answers self.old (questions Back (slice_range slice.now low high) result) self.new }

@@ -11,7 +11,7 @@ ghost use Rattle.sgb_search.specs.Searching.{digits};
 ghost use Rattle.sgb_search.specs.Ranges.{AsksRange, IsRange};
 ghost use Rattle.sgb_search.specs.Split.{AreApart, neighbours, AreNeighbours, IsGrouped, IsSplit, concat, first, last, without_last, split, refused_pairs};
 ghost use Rattle.sgb_search.specs.Seams.{is_accepted_across, lens_joined, seam};
-ghost use Rattle.sgb_search.specs.Search.{MayCall, Computes, IsGap, IsLessEqualGreater, NeverDescends};
+ghost use Rattle.sgb_search.specs.Search.{IsCallableOn, ComputesOn, IsGap, IsLessEqualGreater, NeverDescends};
 ghost use Rattle.sgb_search.specs.Linear.{questions};
 ghost use Rattle.sgb_search.specs.Judges.{IsRunOf, by_predicate, predicate_judge, CalledAtChar, by_key, key_judge, by_char_predicate, char_predicate_judge, by_char_key, char_key_judge, by_equality};
 ghost use Rattle.sgb_search.specs.declared.judge.EqualityJudge.{EqualityJudge};
@@ -75,31 +75,31 @@ pub fn always_callable_key_apart<T, F: FnMut(&T) -> K, K: PartialEq + Drop>()
 /// A key function that may be called on each element of a slice, which is what the searches ask of theirs, may be asked about
 /// its neighbouring pairs, and about every two different places, in both orders; and it may be called on each element of a part.
 pub fn callable_on_elements<T, F: FnMut(&T) -> K, K: PartialEq + Drop>()
-    ensures along { (xs : List T) (func : F) → MayCall F.FnMut xs func
+    ensures along { (xs : List T) (func : F) → IsCallableOn F.FnMut xs func
         → IsCallableBy AreNeighbours (by_key F.FnMut K.eq) (record { remainder = xs; judge = key_judge func }) }
-    ensures apart { (xs : List T) (func : F) → MayCall F.FnMut xs func
+    ensures apart { (xs : List T) (func : F) → IsCallableOn F.FnMut xs func
         → IsCallableBy AreApart (by_key F.FnMut K.eq) (record { remainder = xs; judge = key_judge func }) }
-    ensures part { (before part after : List T) (func : F) → MayCall F.FnMut (before ++ (part ++ after)) func
-        → MayCall F.FnMut part func }
+    ensures part { (before part after : List T) (func : F) → IsCallableOn F.FnMut (before ++ (part ++ after)) func
+        → IsCallableOn F.FnMut part func }
 {}
 
 /// A key function that computes a key of each element of a slice: the judge by key answers whether those keys are equal, of
 /// neighbouring pairs and of every two different places; and it computes the key of each element of a part.
 pub fn computes_on_elements<T, F: FnMut(&T) -> K, K: PartialEq + Drop>()
-    ensures along { (xs : List T) (key : T → K) (func : F) → Computes F.FnMut xs key func
+    ensures along { (xs : List T) (key : T → K) (func : F) → ComputesOn F.FnMut xs key func
         → ComputesBy AreNeighbours (by_key F.FnMut K.eq)
         (record { remainder = xs; judge = key_judge func }) (λ x y. K.eq (key x) (key y)) }
-    ensures apart { (xs : List T) (key : T → K) (func : F) → Computes F.FnMut xs key func
+    ensures apart { (xs : List T) (key : T → K) (func : F) → ComputesOn F.FnMut xs key func
         → ComputesBy AreApart (by_key F.FnMut K.eq)
         (record { remainder = xs; judge = key_judge func }) (λ x y. K.eq (key x) (key y)) }
     ensures part { (before part after : List T) (key : T → K) (func : F)
-        → Computes F.FnMut (before ++ (part ++ after)) key func → Computes F.FnMut part key func }
+        → ComputesOn F.FnMut (before ++ (part ++ after)) key func → ComputesOn F.FnMut part key func }
 {}
 
 /// An `Fn` stays as it is when it is called: where it may be called on each element now, it may be called so in every state
 /// that its answers can lead to. It takes a reference to one, which names its type.
 pub fn callable_now<T, F: Fn(&T) -> K, K>(_f: &F)
-    ensures { (xs : List T) (f : F) → ((x : T) → Contains xs x → TakesAt F.FnMut f x) → MayCall F.FnMut xs f }
+    ensures { (xs : List T) (f : F) → ((x : T) → Contains xs x → TakesAt F.FnMut f x) → IsCallableOn F.FnMut xs f }
 {}
 
 /// A predicate that is an `Fn` stays as it is when it is called: where it may be called now on each neighbouring pair, the left
@@ -184,13 +184,13 @@ pub fn equality_judges<T: PartialEq>()
 
 /// A comparator or a key function that may always be called may be called on the elements of every slice.
 pub fn always_callable_on_elements<T, F: FnMut(&T) -> K, K>()
-    ensures { (xs : List T) (f : F) → F.IsAlwaysCallable f → MayCall F.FnMut xs f }
+    ensures { (xs : List T) (f : F) → F.IsAlwaysCallable f → IsCallableOn F.FnMut xs f }
 {}
 
 /// A comparator or a key function that computes its answer from its argument alone does so on the elements of every slice. It
 /// takes a reference to one, which names its type: the law is over all of its states.
 pub fn always_computes<T, F: FnMut(&T) -> K, K>(_f: &F)
-    ensures { (xs : List T) (answer : T → K) (f : F) → ComputesKey F.FnMut answer f → Computes F.FnMut xs answer f }
+    ensures { (xs : List T) (answer : T → K) (f : F) → ComputesKey F.FnMut answer f → ComputesOn F.FnMut xs answer f }
 {}
 
 /// A list that ascends by a key is grouped for equality of that key, and one that ascends for equality of its elements.
@@ -248,7 +248,7 @@ pub fn gap_parts<T>()
 /// Of a slice of which a function's answers read as `Less`, then `Equal`, then `Greater`, the elements that a search for the range
 /// of the equal ones passes over are those that are `Less`.
 pub fn range_starts<T, K, F: FnMut(&T) -> K>(_f: &F)
-    ensures { (read : K → Ordering) (answer : T → K) (xs equals : List T) (f t : F) → Computes F.FnMut xs answer f
+    ensures { (read : K → Ordering) (answer : T → K) (xs equals : List T) (f t : F) → ComputesOn F.FnMut xs answer f
         → IsLessEqualGreater (λ x. read (answer x)) xs
         → (a : AsksRange F.FnMut (λ k. is_lt (read k)) (λ k. is_eq (read k)) xs f equals t)
         → length a.before ≡ count_by (λ x. is_lt (read (answer x))) xs }

@@ -7,18 +7,18 @@ ghost use Rattle.std.specs.Ordering.{is_lt, is_eq};
 ghost use Rattle.std.specs.Fn.{TakesAt, CalledAt};
 ghost use Rattle.std.specs.declared.cmp.Ordering.{Ordering};
 ghost use Rattle.sgb_search.specs.Searching.{as_ordering, MayAskAt, AnsweredAt};
-ghost use Rattle.sgb_search.specs.Search.{MayCall, Computes, IsLocalBoundary, IsLessEqualGreater, NeverDescends};
+ghost use Rattle.sgb_search.specs.Search.{IsCallableOn, ComputesOn, IsLocalBoundary, IsLessEqualGreater, NeverDescends};
 ghost use Rattle.sgb_search.specs.Ranges.{IsRange, IsLocalRange, AsksPartition, AsksRange};
 
-use crate::gallop::{Places, before_end, gallop, place_of};
+use crate::gallop::{Places, before_end, gallop, answer_place};
 use std::cmp::Ordering;
 
-// A side of a place in a slice, to which an element belongs by what a function answers of it.
-trait Side<K> {
+// A test of a place in a slice, to which an element belongs by what a function answers of it.
+trait Test<K> {
     // Whether an element that is answered so stands before the place.
     ghost passes: { Self → K → Bool };
 
-    fn is_before(&self, answer: K) -> bool
+    fn is_passed(&self, answer: K) -> bool
         ensures { result ≡ passes self.now answer };
 }
 
@@ -26,11 +26,11 @@ trait Side<K> {
 #[derive(Drop)]
 struct Passing {}
 
-impl Side<bool> for Passing {
+impl Test<bool> for Passing {
     ghost passes = { λ s b. b };
 
     #[inline]
-    fn is_before(&self, answer: bool) -> bool {
+    fn is_passed(&self, answer: bool) -> bool {
         answer
     }
 }
@@ -39,11 +39,11 @@ impl Side<bool> for Passing {
 #[derive(Drop)]
 struct Less {}
 
-impl Side<Ordering> for Less {
+impl Test<Ordering> for Less {
     ghost passes = { λ s o. is_lt o };
 
     #[inline]
-    fn is_before(&self, answer: Ordering) -> bool {
+    fn is_passed(&self, answer: Ordering) -> bool {
         answer.is_lt()
     }
 }
@@ -52,11 +52,11 @@ impl Side<Ordering> for Less {
 #[derive(Drop)]
 struct Equal {}
 
-impl Side<Ordering> for Equal {
+impl Test<Ordering> for Equal {
     ghost passes = { λ s o. is_eq o };
 
     #[inline]
-    fn is_before(&self, answer: Ordering) -> bool {
+    fn is_passed(&self, answer: Ordering) -> bool {
         answer.is_eq()
     }
 }
@@ -67,11 +67,11 @@ struct LessKey<'a, B> {
     key: &'a B,
 }
 
-impl<'a, B: Ord + Drop> Side<B> for LessKey<'a, B> {
+impl<'a, B: Ord + Drop> Test<B> for LessKey<'a, B> {
     ghost passes = { λ s k. is_lt (B.cmp k s.key.now) };
 
     #[inline]
-    fn is_before(&self, answer: B) -> bool {
+    fn is_passed(&self, answer: B) -> bool {
         answer.cmp(self.key).is_lt()
     }
 }
@@ -82,66 +82,66 @@ struct EqualKey<'a, B> {
     key: &'a B,
 }
 
-impl<'a, B: Ord + Drop> Side<B> for EqualKey<'a, B> {
+impl<'a, B: Ord + Drop> Test<B> for EqualKey<'a, B> {
     ghost passes = { λ s k. is_eq (B.cmp k s.key.now) };
 
     #[inline]
-    fn is_before(&self, answer: B) -> bool {
+    fn is_passed(&self, answer: B) -> bool {
         answer.cmp(self.key).is_eq()
     }
 }
 
-// The elements of a slice, each on its side of the place.
+// The elements of a slice, each on its test of the place.
 #[derive(Drop)]
-struct Sided<'a, T, S> {
+struct Tested<'a, T, S> {
     slice: &'a [T],
-    side: &'a S,
+    test: &'a S,
 }
 
-impl<'a, T, K, S: Side<K>, F: FnMut(&T) -> K> Places<F> for Sided<'a, T, S> {
+impl<'a, T, K, S: Test<K>, F: FnMut(&T) -> K> Places<F> for Tested<'a, T, S> {
     type Answer = K;
 
     ghost may_compare = { λ f p i. MayAskAt (TakesAt F.FnMut) (CalledAt F.FnMut) p.slice.now f i };
 
     ghost compares = { λ f p i k h. AnsweredAt (TakesAt F.FnMut) (CalledAt F.FnMut) p.slice.now f i k h };
 
-    ghost reads = { λ p k. as_ordering (S.passes p.side.now k) };
+    ghost reads = { λ p k. as_ordering (S.passes p.test.now k) };
 
     #[inline]
     fn compare(&self, asker: &mut F, place: usize) -> Ordering {
-        before_end(self.side.is_before(asker(&self.slice[place])))
+        before_end(self.test.is_passed(asker(&self.slice[place])))
     }
 }
 
 // How many elements stand before the place that parts a slice, from the first on.
 #[inline]
-fn count_before<T, K, S: Side<K>, F: FnMut(&T) -> K>(slice: &[T], side: &S, f: &mut F) -> usize
-    requires { MayCall F.FnMut slice.now f.old }
+fn count_before<T, K, S: Test<K>, F: FnMut(&T) -> K>(slice: &[T], test: &S, f: &mut F) -> usize
+    requires { IsCallableOn F.FnMut slice.now f.old }
     ensures within { result ≤ length slice.now }
-    ensures questions { AsksPartition F.FnMut (λ k. S.passes side.now k) slice.now f.old result f.new }
-    ensures boundary { (answer : T → K) → Computes F.FnMut slice.now answer f.old
-        → IsLocalBoundary (λ x. as_ordering (S.passes side.now (answer x))) slice.now result }
-    ensures callable { MayCall F.FnMut slice.now f.new }
-    ensures computes { (answer : T → K) → Computes F.FnMut slice.now answer f.old → Computes F.FnMut slice.now answer f.new }
+    ensures questions { AsksPartition F.FnMut (λ k. S.passes test.now k) slice.now f.old result f.new }
+    ensures boundary { (answer : T → K) → ComputesOn F.FnMut slice.now answer f.old
+        → IsLocalBoundary (λ x. as_ordering (S.passes test.now (answer x))) slice.now result }
+    ensures callable { IsCallableOn F.FnMut slice.now f.new }
+    ensures computes { (answer : T → K) → ComputesOn F.FnMut slice.now answer f.old → ComputesOn F.FnMut slice.now answer f.new }
 {
-    place_of(gallop(f, &Sided { slice, side }, 0, slice.len()))
+    answer_place(gallop(f, &Tested { slice, test }, 0, slice.len()))
 }
 
-// The elements between the place up to which they stand on the one side, and the place from there up to which they stand on the
+// The elements between the place up to which they stand on the one test, and the place from there up to which they stand on the
 // other.
 #[inline]
-fn range<'a, T, K, L: Side<K>, E: Side<K>, F: FnMut(&T) -> K>(
+fn range<'a, T, K, L: Test<K>, E: Test<K>, F: FnMut(&T) -> K>(
     slice: &'a [T],
     less: &L,
     equal: &E,
     f: &mut F,
 ) -> &'a [T]
-    requires { MayCall F.FnMut slice.now f.old }
+    requires { IsCallableOn F.FnMut slice.now f.old }
     ensures questions { AsksRange F.FnMut (λ k. L.passes less.now k) (λ k. E.passes equal.now k) slice.now f.old result.now f.new }
-    ensures local { (answer : T → K) → Computes F.FnMut slice.now answer f.old
+    ensures local { (answer : T → K) → ComputesOn F.FnMut slice.now answer f.old
         → IsLocalRange (λ x. L.passes less.now (answer x)) (λ x. E.passes equal.now (answer x)) slice.now result.now }
-    ensures callable { MayCall F.FnMut slice.now f.new }
-    ensures computes { (answer : T → K) → Computes F.FnMut slice.now answer f.old → Computes F.FnMut slice.now answer f.new }
+    ensures callable { IsCallableOn F.FnMut slice.now f.new }
+    ensures computes { (answer : T → K) → ComputesOn F.FnMut slice.now answer f.old → ComputesOn F.FnMut slice.now answer f.new }
 {
     let start = count_before(slice, less, f);
     let (_, rest) = slice.split_at(start);
@@ -164,14 +164,14 @@ fn range<'a, T, K, L: Side<K>, E: Side<K>, F: FnMut(&T) -> K>(
 pub fn exponential_partition_point<T, P>(slice: &[T], mut pred: P) -> usize
 where
     P: FnMut(&T) -> bool,
-    requires { MayCall P.FnMut slice.now pred }
+    requires { IsCallableOn P.FnMut slice.now pred }
     ensures bound { result ≤ length slice.now }
     ensures questions { (t : P) × AsksPartition P.FnMut (λ b. b) slice.now pred result t }
-    ensures boundary { (passes : T → Bool) → Computes P.FnMut slice.now passes pred
+    ensures boundary { (passes : T → Bool) → ComputesOn P.FnMut slice.now passes pred
         → IsLocalBoundary (λ x. as_ordering (passes x)) slice.now result }
-    ensures partitioned { (passes : T → Bool) → Computes P.FnMut slice.now passes pred → IsPartitionedBy passes slice.now
+    ensures partitioned { (passes : T → Bool) → ComputesOn P.FnMut slice.now passes pred → IsPartitionedBy passes slice.now
         → IsPartitionPoint (λ x. passes x ≡ true) (λ x. passes x ≡ false) slice.now result }
-    ensures count { (passes : T → Bool) → Computes P.FnMut slice.now passes pred → IsPartitionedBy passes slice.now
+    ensures count { (passes : T → Bool) → ComputesOn P.FnMut slice.now passes pred → IsPartitionedBy passes slice.now
         → result ≡ count_by passes slice.now }
 {
     exponential_partition_point_ref(slice, &mut pred)
@@ -192,18 +192,18 @@ where
 pub fn exponential_partition_point_ref<T, P>(slice: &[T], pred: &mut P) -> usize
 where
     P: FnMut(&T) -> bool,
-    requires { MayCall P.FnMut slice.now pred.old }
+    requires { IsCallableOn P.FnMut slice.now pred.old }
     ensures bound { result ≤ length slice.now }
     ensures questions { AsksPartition P.FnMut (λ b. b) slice.now pred.old result pred.new }
-    ensures boundary { (passes : T → Bool) → Computes P.FnMut slice.now passes pred.old
+    ensures boundary { (passes : T → Bool) → ComputesOn P.FnMut slice.now passes pred.old
         → IsLocalBoundary (λ x. as_ordering (passes x)) slice.now result }
-    ensures partitioned { (passes : T → Bool) → Computes P.FnMut slice.now passes pred.old → IsPartitionedBy passes slice.now
+    ensures partitioned { (passes : T → Bool) → ComputesOn P.FnMut slice.now passes pred.old → IsPartitionedBy passes slice.now
         → IsPartitionPoint (λ x. passes x ≡ true) (λ x. passes x ≡ false) slice.now result }
-    ensures count { (passes : T → Bool) → Computes P.FnMut slice.now passes pred.old → IsPartitionedBy passes slice.now
+    ensures count { (passes : T → Bool) → ComputesOn P.FnMut slice.now passes pred.old → IsPartitionedBy passes slice.now
         → result ≡ count_by passes slice.now }
-    ensures callable { MayCall P.FnMut slice.now pred.new }
-    ensures computes { (passes : T → Bool) → Computes P.FnMut slice.now passes pred.old
-        → Computes P.FnMut slice.now passes pred.new }
+    ensures callable { IsCallableOn P.FnMut slice.now pred.new }
+    ensures computes { (passes : T → Bool) → ComputesOn P.FnMut slice.now passes pred.old
+        → ComputesOn P.FnMut slice.now passes pred.new }
 {
     count_before(slice, &Passing {}, pred)
 }
@@ -227,13 +227,13 @@ where
 pub fn exponential_equal_range_by<T, F>(slice: &[T], mut f: F) -> &[T]
 where
     F: FnMut(&T) -> Ordering,
-    requires { MayCall F.FnMut slice.now f }
+    requires { IsCallableOn F.FnMut slice.now f }
     ensures questions { (t : F) × AsksRange F.FnMut is_lt is_eq slice.now f result.now t }
-    ensures local { (ord : T → Ordering) → Computes F.FnMut slice.now ord f
+    ensures local { (ord : T → Ordering) → ComputesOn F.FnMut slice.now ord f
         → IsLocalRange (λ x. is_lt (ord x)) (λ x. is_eq (ord x)) slice.now result.now }
-    ensures range { (ord : T → Ordering) → Computes F.FnMut slice.now ord f → IsLessEqualGreater ord slice.now
+    ensures range { (ord : T → Ordering) → ComputesOn F.FnMut slice.now ord f → IsLessEqualGreater ord slice.now
         → IsRange ord slice.now result.now }
-    ensures filter { (ord : T → Ordering) → Computes F.FnMut slice.now ord f → IsLessEqualGreater ord slice.now
+    ensures filter { (ord : T → Ordering) → ComputesOn F.FnMut slice.now ord f → IsLessEqualGreater ord slice.now
         → result.now ≡ filter (λ x. is_eq (ord x)) slice.now }
 {
     exponential_equal_range_by_ref(slice, &mut f)
@@ -254,16 +254,16 @@ where
 pub fn exponential_equal_range_by_ref<'a, T, F>(slice: &'a [T], f: &mut F) -> &'a [T]
 where
     F: FnMut(&T) -> Ordering,
-    requires { MayCall F.FnMut slice.now f.old }
+    requires { IsCallableOn F.FnMut slice.now f.old }
     ensures questions { AsksRange F.FnMut is_lt is_eq slice.now f.old result.now f.new }
-    ensures local { (ord : T → Ordering) → Computes F.FnMut slice.now ord f.old
+    ensures local { (ord : T → Ordering) → ComputesOn F.FnMut slice.now ord f.old
         → IsLocalRange (λ x. is_lt (ord x)) (λ x. is_eq (ord x)) slice.now result.now }
-    ensures range { (ord : T → Ordering) → Computes F.FnMut slice.now ord f.old → IsLessEqualGreater ord slice.now
+    ensures range { (ord : T → Ordering) → ComputesOn F.FnMut slice.now ord f.old → IsLessEqualGreater ord slice.now
         → IsRange ord slice.now result.now }
-    ensures filter { (ord : T → Ordering) → Computes F.FnMut slice.now ord f.old → IsLessEqualGreater ord slice.now
+    ensures filter { (ord : T → Ordering) → ComputesOn F.FnMut slice.now ord f.old → IsLessEqualGreater ord slice.now
         → result.now ≡ filter (λ x. is_eq (ord x)) slice.now }
-    ensures callable { MayCall F.FnMut slice.now f.new }
-    ensures computes { (ord : T → Ordering) → Computes F.FnMut slice.now ord f.old → Computes F.FnMut slice.now ord f.new }
+    ensures callable { IsCallableOn F.FnMut slice.now f.new }
+    ensures computes { (ord : T → Ordering) → ComputesOn F.FnMut slice.now ord f.old → ComputesOn F.FnMut slice.now ord f.new }
 {
     range(slice, &Less {}, &Equal {}, f)
 }
@@ -299,17 +299,17 @@ pub fn exponential_equal_range_by_key<'a, T, B, F>(slice: &'a [T], b: &B, mut f:
 where
     F: FnMut(&T) -> B,
     B: Ord + Drop,
-    requires { MayCall F.FnMut slice.now f }
+    requires { IsCallableOn F.FnMut slice.now f }
     ensures questions { (t : F)
         × AsksRange F.FnMut (λ k. is_lt (B.cmp k b.now)) (λ k. is_eq (B.cmp k b.now)) slice.now f result.now t }
-    ensures local { (key : T → B) → Computes F.FnMut slice.now key f
+    ensures local { (key : T → B) → ComputesOn F.FnMut slice.now key f
         → IsLocalRange (λ x. is_lt (B.cmp (key x) b.now)) (λ x. is_eq (B.cmp (key x) b.now)) slice.now result.now }
-    ensures range { (key : T → B) → Computes F.FnMut slice.now key f
+    ensures range { (key : T → B) → ComputesOn F.FnMut slice.now key f
         → IsLessEqualGreater (λ x. B.cmp (key x) b.now) slice.now
         → IsRange (λ x. B.cmp (key x) b.now) slice.now result.now }
-    ensures sorted { (key : T → B) → Computes F.FnMut slice.now key f → NeverDescends B.cmp (map key slice.now)
+    ensures sorted { (key : T → B) → ComputesOn F.FnMut slice.now key f → NeverDescends B.cmp (map key slice.now)
         → IsRange (λ x. B.cmp (key x) b.now) slice.now result.now }
-    ensures filter { (key : T → B) → Computes F.FnMut slice.now key f → NeverDescends B.cmp (map key slice.now)
+    ensures filter { (key : T → B) → ComputesOn F.FnMut slice.now key f → NeverDescends B.cmp (map key slice.now)
         → result.now ≡ filter (λ x. is_eq (B.cmp (key x) b.now)) slice.now }
 {
     exponential_equal_range_by_key_ref(slice, b, &mut f)
@@ -331,20 +331,20 @@ pub fn exponential_equal_range_by_key_ref<'a, T, B, F>(slice: &'a [T], b: &B, f:
 where
     F: FnMut(&T) -> B,
     B: Ord + Drop,
-    requires { MayCall F.FnMut slice.now f.old }
+    requires { IsCallableOn F.FnMut slice.now f.old }
     ensures questions { AsksRange F.FnMut (λ k. is_lt (B.cmp k b.now)) (λ k. is_eq (B.cmp k b.now))
         slice.now f.old result.now f.new }
-    ensures local { (key : T → B) → Computes F.FnMut slice.now key f.old
+    ensures local { (key : T → B) → ComputesOn F.FnMut slice.now key f.old
         → IsLocalRange (λ x. is_lt (B.cmp (key x) b.now)) (λ x. is_eq (B.cmp (key x) b.now)) slice.now result.now }
-    ensures range { (key : T → B) → Computes F.FnMut slice.now key f.old
+    ensures range { (key : T → B) → ComputesOn F.FnMut slice.now key f.old
         → IsLessEqualGreater (λ x. B.cmp (key x) b.now) slice.now
         → IsRange (λ x. B.cmp (key x) b.now) slice.now result.now }
-    ensures sorted { (key : T → B) → Computes F.FnMut slice.now key f.old → NeverDescends B.cmp (map key slice.now)
+    ensures sorted { (key : T → B) → ComputesOn F.FnMut slice.now key f.old → NeverDescends B.cmp (map key slice.now)
         → IsRange (λ x. B.cmp (key x) b.now) slice.now result.now }
-    ensures filter { (key : T → B) → Computes F.FnMut slice.now key f.old → NeverDescends B.cmp (map key slice.now)
+    ensures filter { (key : T → B) → ComputesOn F.FnMut slice.now key f.old → NeverDescends B.cmp (map key slice.now)
         → result.now ≡ filter (λ x. is_eq (B.cmp (key x) b.now)) slice.now }
-    ensures callable { MayCall F.FnMut slice.now f.new }
-    ensures computes { (key : T → B) → Computes F.FnMut slice.now key f.old → Computes F.FnMut slice.now key f.new }
+    ensures callable { IsCallableOn F.FnMut slice.now f.new }
+    ensures computes { (key : T → B) → ComputesOn F.FnMut slice.now key f.old → ComputesOn F.FnMut slice.now key f.new }
 {
     range(slice, &LessKey { key: b }, &EqualKey { key: b }, f)
 }

@@ -4,7 +4,7 @@ ghost use Rattle.std.specs.List.Sorted.{IsSearchInRange};
 ghost use Rattle.std.specs.Fn.{TakesAt, CalledAt};
 ghost use Rattle.std.specs.declared.cmp.Ordering.{Ordering};
 ghost use Rattle.sgb_search.specs.Searching.{MayAskAt, AnsweredAt};
-ghost use Rattle.sgb_search.specs.Search.{MayCall, Computes, IsSearch, IsLocalAnswer, IsLessEqualGreater, FindsIn, NeverDescends};
+ghost use Rattle.sgb_search.specs.Search.{IsCallableOn, ComputesOn, IsSearch, IsLocalAnswer, IsLessEqualGreater, FindsIn, NeverDescends};
 
 use crate::gallop::{Places, gallop};
 use std::cmp::Ordering;
@@ -74,11 +74,11 @@ impl<'a, T, B: Ord + Drop, F: FnMut(&T) -> B> Places<F> for Keyed<'a, T, B> {
 pub fn exponential_search_by<T, F>(slice: &[T], mut f: F) -> Result<usize, usize>
 where
     F: FnMut(&T) -> Ordering,
-    requires { MayCall F.FnMut slice.now f }
+    requires { IsCallableOn F.FnMut slice.now f }
     ensures bound { IsSearchInRange result (length slice.now) }
     ensures questions { (t : F) × IsSearch F.FnMut slice.now (λ o. o) f result t }
-    ensures boundary { (ord : T → Ordering) → Computes F.FnMut slice.now ord f → IsLocalAnswer ord slice.now result }
-    ensures found { (ord : T → Ordering) → Computes F.FnMut slice.now ord f → IsLessEqualGreater ord slice.now
+    ensures boundary { (ord : T → Ordering) → ComputesOn F.FnMut slice.now ord f → IsLocalAnswer ord slice.now result }
+    ensures found { (ord : T → Ordering) → ComputesOn F.FnMut slice.now ord f → IsLessEqualGreater ord slice.now
         → FindsIn ord slice.now result }
 {
     exponential_search_by_ref(slice, &mut f)
@@ -102,14 +102,14 @@ where
 pub fn exponential_search_by_ref<T, F>(slice: &[T], f: &mut F) -> Result<usize, usize>
 where
     F: FnMut(&T) -> Ordering,
-    requires { MayCall F.FnMut slice.now f.old }
+    requires { IsCallableOn F.FnMut slice.now f.old }
     ensures bound { IsSearchInRange result (length slice.now) }
     ensures questions { IsSearch F.FnMut slice.now (λ o. o) f.old result f.new }
-    ensures boundary { (ord : T → Ordering) → Computes F.FnMut slice.now ord f.old → IsLocalAnswer ord slice.now result }
-    ensures found { (ord : T → Ordering) → Computes F.FnMut slice.now ord f.old → IsLessEqualGreater ord slice.now
+    ensures boundary { (ord : T → Ordering) → ComputesOn F.FnMut slice.now ord f.old → IsLocalAnswer ord slice.now result }
+    ensures found { (ord : T → Ordering) → ComputesOn F.FnMut slice.now ord f.old → IsLessEqualGreater ord slice.now
         → FindsIn ord slice.now result }
-    ensures callable { MayCall F.FnMut slice.now f.new }
-    ensures computes { (ord : T → Ordering) → Computes F.FnMut slice.now ord f.old → Computes F.FnMut slice.now ord f.new }
+    ensures callable { IsCallableOn F.FnMut slice.now f.new }
+    ensures computes { (ord : T → Ordering) → ComputesOn F.FnMut slice.now ord f.old → ComputesOn F.FnMut slice.now ord f.new }
 {
     gallop(f, &slice, 0, slice.len())
 }
@@ -153,15 +153,15 @@ pub fn exponential_search_by_key<T, B, F>(slice: &[T], b: &B, mut f: F) -> Resul
 where
     F: FnMut(&T) -> B,
     B: Ord + Drop,
-    requires { MayCall F.FnMut slice.now f }
+    requires { IsCallableOn F.FnMut slice.now f }
     ensures bound { IsSearchInRange result (length slice.now) }
     ensures questions { (t : F) × IsSearch F.FnMut slice.now (λ k. B.cmp k b.now) f result t }
-    ensures boundary { (key : T → B) → Computes F.FnMut slice.now key f
+    ensures boundary { (key : T → B) → ComputesOn F.FnMut slice.now key f
         → IsLocalAnswer (λ x. B.cmp (key x) b.now) slice.now result }
-    ensures found { (key : T → B) → Computes F.FnMut slice.now key f
+    ensures found { (key : T → B) → ComputesOn F.FnMut slice.now key f
         → IsLessEqualGreater (λ x. B.cmp (key x) b.now) slice.now
         → FindsIn (λ x. B.cmp (key x) b.now) slice.now result }
-    ensures sorted { (key : T → B) → Computes F.FnMut slice.now key f
+    ensures sorted { (key : T → B) → ComputesOn F.FnMut slice.now key f
         → NeverDescends B.cmp (map key slice.now)
         → FindsIn (λ x. B.cmp (key x) b.now) slice.now result }
 {
@@ -184,18 +184,18 @@ pub fn exponential_search_by_key_ref<T, B, F>(slice: &[T], b: &B, f: &mut F) -> 
 where
     F: FnMut(&T) -> B,
     B: Ord + Drop,
-    requires { MayCall F.FnMut slice.now f.old }
+    requires { IsCallableOn F.FnMut slice.now f.old }
     ensures bound { IsSearchInRange result (length slice.now) }
     ensures questions { IsSearch F.FnMut slice.now (λ k. B.cmp k b.now) f.old result f.new }
-    ensures boundary { (key : T → B) → Computes F.FnMut slice.now key f.old
+    ensures boundary { (key : T → B) → ComputesOn F.FnMut slice.now key f.old
         → IsLocalAnswer (λ x. B.cmp (key x) b.now) slice.now result }
-    ensures found { (key : T → B) → Computes F.FnMut slice.now key f.old
+    ensures found { (key : T → B) → ComputesOn F.FnMut slice.now key f.old
         → IsLessEqualGreater (λ x. B.cmp (key x) b.now) slice.now
         → FindsIn (λ x. B.cmp (key x) b.now) slice.now result }
-    ensures sorted { (key : T → B) → Computes F.FnMut slice.now key f.old → NeverDescends B.cmp (map key slice.now)
+    ensures sorted { (key : T → B) → ComputesOn F.FnMut slice.now key f.old → NeverDescends B.cmp (map key slice.now)
         → FindsIn (λ x. B.cmp (key x) b.now) slice.now result }
-    ensures callable { MayCall F.FnMut slice.now f.new }
-    ensures computes { (key : T → B) → Computes F.FnMut slice.now key f.old → Computes F.FnMut slice.now key f.new }
+    ensures callable { IsCallableOn F.FnMut slice.now f.new }
+    ensures computes { (key : T → B) → ComputesOn F.FnMut slice.now key f.old → ComputesOn F.FnMut slice.now key f.new }
 {
     gallop(f, &Keyed { slice, key: b }, 0, slice.len())
 }

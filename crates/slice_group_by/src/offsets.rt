@@ -11,7 +11,7 @@ ghost use Rattle.sgb_search.specs.declared.end.End.TheVariants.{Front, Back};
 ghost use Rattle.slice_group_by.specs.Offsets.{TakesUnits, GivesWithOffset, groups_under, offsets_to_come, with_offsets};
 
 use crate::laws::queue::GroupQueue;
-use sgb_groups::group_end::GroupEnd;
+use sgb_groups::way::Way;
 use sgb_groups::groups::SliceGroups;
 use sgb_linear_str_group::groups::LinearStrGroups;
 use sgb_linear_str_group::text_judge::TextJudge;
@@ -134,7 +134,7 @@ impl<Q: Offsets + Drop> DoubleEndedIterator for WithOffsets<Q> {
     }
 }
 
-impl<'a, T, J: Judge<T> + Drop, C: GroupEnd> Offsets for SliceGroups<'a, T, J, C> {
+impl<'a, T, J: Judge<T> + Drop, W: Way> Offsets for SliceGroups<'a, T, J, W> {
     type Unit = T;
 
     ghost use Rattle.sgb_groups.specs.Gives.{groups_of, place_of};

@@ -1,6 +1,6 @@
 //! Joins, and their parts.
-ghost use Rattle.slice_group_by.specs.Search.{MayCall};
-ghost use Rattle.slice_group_by.specs.Asking.{MayCompare};
+ghost use Rattle.slice_group_by.specs.Search.{IsCallableOn};
+ghost use Rattle.slice_group_by.specs.Asking.{IsCallableAcross};
 
 use slice_group_by::{EitherOrBoth, MergeJoin, MergeJoinBy};
 use std::cmp::Ordering;
@@ -13,8 +13,8 @@ pub fn by_key<'a, A, B, FA: Fn(&A) -> K, FB: Fn(&B) -> K, K: Ord + Drop>(
     right: &'a [B],
     right_key: FB,
 ) -> MergeJoin<'a, A, B, FA, FB, K>
-    requires left { MayCall FA.FnMut left.now left_key }
-    requires right { MayCall FB.FnMut right.now right_key }
+    requires left { IsCallableOn FA.FnMut left.now left_key }
+    requires right { IsCallableOn FB.FnMut right.now right_key }
 {
     MergeJoin::new(left, left_key, right, right_key)
 }
@@ -24,7 +24,7 @@ pub fn by<'a, A, B, F: FnMut(&A, &B) -> Ordering>(
     right: &'a [B],
     compare: F,
 ) -> MergeJoinBy<'a, A, B, F>
-    requires { MayCompare F.FnMut left.now right.now compare }
+    requires { IsCallableAcross F.FnMut left.now right.now compare }
 {
     MergeJoinBy::new(left, right, compare)
 }

@@ -104,11 +104,11 @@ pub fn of_characters<P: FnMut(char, char) -> bool, F: FnMut(char) -> K, K: Parti
     computes_on_chars::<F, K>();
 }
 
-pub fn of_searches<T, C: FnMut(&T) -> Ordering, F: FnMut(&T) -> K, K: Ord>(
-    comparator: &C,
+pub fn of_searches<T, W: FnMut(&T) -> Ordering, F: FnMut(&T) -> K, K: Ord>(
+    comparator: &W,
     key: &F,
 ) {
-    comparisons_count::<T, C>(comparator);
+    comparisons_count::<T, W>(comparator);
     key_calls_count::<T, K, F>(key);
 }
 

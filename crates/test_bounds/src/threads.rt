@@ -71,11 +71,11 @@ pub fn of_texts<
 pub fn of_joins<
     A: Send + Sync + 'static,
     B: Send + Sync + 'static,
-    C: FnMut(&A, &B) -> Ordering + Send + Sync,
+    W: FnMut(&A, &B) -> Ordering + Send + Sync,
     FA: Fn(&A) -> K + Send + Sync,
     FB: Fn(&B) -> K + Send + Sync,
     K: Ord + Drop + Send + Sync,
 >() {
-    crosses_threads::<MergeJoinBy<'static, A, B, C>>();
+    crosses_threads::<MergeJoinBy<'static, A, B, W>>();
     crosses_threads::<MergeJoin<'static, A, B, FA, FB, K>>();
 }

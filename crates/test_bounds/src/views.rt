@@ -39,7 +39,7 @@ pub fn remainder<'a, T, F: Drop, K>(groups: LinearGroupByKeyMut<'a, T, F, K>) ->
 }
 
 // What is shown asks of the elements alone that they can be.
-fn are_shown<A: Debug, B: Debug, C: Debug>(_linear: &A, _binary: &B, _exponential: &C) {}
+fn are_shown<A: Debug, B: Debug, W: Debug>(_linear: &A, _binary: &B, _exponential: &W) {}
 
 pub fn shown_by_predicate<T: Debug, P>(
     linear: &LinearGroupBy<'_, T, P>,
@@ -88,11 +88,11 @@ pub fn shorter_lived<'a, 'b: 'a>(
 }
 
 // Parts of joins ask of both sides what is asked of the part.
-fn is_cloned<C: Clone>(_part: &C) {}
+fn is_cloned<W: Clone>(_part: &W) {}
 
-fn is_compared<C: PartialEq>(_part: &C) {}
+fn is_compared<W: PartialEq>(_part: &W) {}
 
-fn is_shown<C: Debug>(_part: &C) {}
+fn is_shown<W: Debug>(_part: &W) {}
 
 pub fn parts_cloned<L: Clone, R: Clone>(part: &EitherOrBoth<L, R>) {
     is_cloned(part);

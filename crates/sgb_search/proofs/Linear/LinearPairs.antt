@@ -12,7 +12,7 @@ use Rattle.sgb_search.specs.Linear.{all_answered, questions_along, questions, Li
 use Rattle.sgb_search.specs.Calls.{CallAt, Groups}
 use Rattle.sgb_search.proofs.Questions.Runs.{run_append}
 use Rattle.sgb_search.proofs.Lists.Ends.{length-from, from_permutes}
-use Rattle.sgb_search.proofs.Lists.Pairs.{across, between, neighbours-put_at, length-neighbours}
+use Rattle.sgb_search.proofs.Lists.Pairs.{across, pair_across, neighbours-put_at, length-neighbours}
 
 module _ {A : Type 0} where
   -- what was asked about
@@ -54,28 +54,28 @@ module _ {A : Type 0} where
   across-nil (x ∷ []) = refl
   across-nil (x ∷ z ∷ zs) = across-nil (z ∷ zs)
 
-  between-nil : (e : End) (group : List A) → between e group [] ≡ []
-  between-nil Front group = across-nil group
-  between-nil Back group = refl
+  pair_across-nil : (e : End) (group : List A) → pair_across e group [] ≡ []
+  pair_across-nil Front group = across-nil group
+  pair_across-nil Back group = refl
 
-  length-between : (e : End) (group : List A) (x : A) (xs : List A) → 0 < length group → length (between e group (x ∷ xs)) ≡ 1
-  length-between Front [] x xs h = absurd (omega arith)
-  length-between Front (y ∷ ys) x xs h = length-across ys y (x ∷ xs) (omega arith)
-  length-between Back group x xs h = length-across xs x group h
+  length-pair_across : (e : End) (group : List A) (x : A) (xs : List A) → 0 < length group → length (pair_across e group (x ∷ xs)) ≡ 1
+  length-pair_across Front [] x xs h = absurd (omega arith)
+  length-pair_across Front (y ∷ ys) x xs h = length-across ys y (x ∷ xs) (omega arith)
+  length-pair_across Back group x xs h = length-across xs x group h
 
   taken_pairs : (e : End) (group rest : List A) → 0 < length group
-      → take (length group) (from e (neighbours group) ++ (between e group rest ++ from e (neighbours rest)))
-      ≡ from e (neighbours group) ++ between e group rest
+      → take (length group) (from e (neighbours group) ++ (pair_across e group rest ++ from e (neighbours rest)))
+      ≡ from e (neighbours group) ++ pair_across e group rest
   taken_pairs e group [] h =
       let qs = from e (neighbours group) in
-      let all : qs ++ (between e group [] ++ from e (neighbours [])) ≡ qs ++ between e group [] = ap (λ l. qs ++ l)
-      (ap (λ l. between e group [] ++ l) (from-nil e) ∙ append-nil (between e group [])) in
+      let all : qs ++ (pair_across e group [] ++ from e (neighbours [])) ≡ qs ++ pair_across e group [] = ap (λ l. qs ++ l)
+      (ap (λ l. pair_across e group [] ++ l) (from-nil e) ∙ append-nil (pair_across e group [])) in
       ap (take (length group)) all
-      ∙ take_all (length group) (qs ++ between e group [])
+      ∙ take_all (length group) (qs ++ pair_across e group [])
       (omega (
         arith,
-        length-append qs (between e group []),
-        ap length (between-nil e group),
+        length-append qs (pair_across e group []),
+        ap length (pair_across-nil e group),
         length-from e (neighbours group),
         length-neighbours group,
       ))
@@ -84,16 +84,16 @@ module _ {A : Type 0} where
       from-nil Front = refl
       from-nil Back = refl
   taken_pairs e group (x ∷ xs) h =
-      let qs = from e (neighbours group) ++ between e group (x ∷ xs) in
+      let qs = from e (neighbours group) ++ pair_across e group (x ∷ xs) in
       let rest = from e (neighbours (x ∷ xs)) in
       let n : length group ≡ length qs = omega (
         arith,
-        length-append (from e (neighbours group)) (between e group (x ∷ xs)),
-        length-between e group x xs h,
+        length-append (from e (neighbours group)) (pair_across e group (x ∷ xs)),
+        length-pair_across e group x xs h,
         length-from e (neighbours group),
         length-neighbours group,
       ) in
-      ap (take (length group)) (sym (append_assoc (from e (neighbours group)) (between e group (x ∷ xs)) rest))
+      ap (take (length group)) (sym (append_assoc (from e (neighbours group)) (pair_across e group (x ∷ xs)) rest))
       ∙ ap (λ (k : ℕ). take k (qs ++ rest)) n ∙ take-append_seam qs rest
 
   -- the pairs of the questions, and those of the rest, are those of the whole
@@ -101,9 +101,9 @@ module _ {A : Type 0} where
       → IsPermutation (asked_pairs (questions e (put_at e group rest) (length group)) ++ neighbours rest) (neighbours (put_at e group rest))
   pairs_asked e group rest h =
       let whole = neighbours (put_at e group rest) in
-      let qs = from e (neighbours group) ++ between e group rest in
+      let qs = from e (neighbours group) ++ pair_across e group rest in
       let cut : from e whole ≡ qs ++ from e (neighbours rest) =
-      neighbours-put_at e group rest ∙ sym (append_assoc (from e (neighbours group)) (between e group rest) (from e (neighbours rest))) in
+      neighbours-put_at e group rest ∙ sym (append_assoc (from e (neighbours group)) (pair_across e group rest) (from e (neighbours rest))) in
       let asked : asked_pairs (questions e (put_at e group rest) (length group)) ≡ qs =
       pairs-along (from e whole) (length group) h ∙ ap (take (length group)) (neighbours-put_at e group rest)
       ∙ taken_pairs e group rest h in

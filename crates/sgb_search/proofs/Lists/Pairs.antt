@@ -85,8 +85,8 @@ module _ {A : Type 0} where
   in_order Front part rest = (part, rest)
   in_order Back part rest = (rest, part)
 
-  abbrev pub between : End → List A → List A → List (A × A)
-  between e part rest = across (in_order e part rest).0 (in_order e part rest).1
+  abbrev pub pair_across : End → List A → List A → List (A × A)
+  pair_across e part rest = across (in_order e part rest).0 (in_order e part rest).1
 
   reverse-across : (xs ys : List A) → reverse (across xs ys) ≡ across xs ys
   reverse-across [] ys = refl
@@ -96,7 +96,7 @@ module _ {A : Type 0} where
 
   -- from the end on: the pairs of the part, the one between, and those of the rest
   pub neighbours-put_at : (e : End) (part rest : List A)
-      → from e (neighbours (put_at e part rest)) ≡ from e (neighbours part) ++ (between e part rest ++ from e (neighbours rest))
+      → from e (neighbours (put_at e part rest)) ≡ from e (neighbours part) ++ (pair_across e part rest ++ from e (neighbours rest))
   neighbours-put_at Front part rest = neighbours-append part rest
   neighbours-put_at Back part rest =
       ap reverse (neighbours-append rest part) ∙ reverse-append (neighbours rest) (across rest part ++ neighbours part)
@@ -168,7 +168,7 @@ module _ {A : Type 0} where
         → IsAccepted p group × IsRefusedAcross p (in_order e group rest)
     says e group rest l h =
         let n = length-from e (neighbours group) in
-        let k = along_says (from e (neighbours group)) (between e group rest ++ from e (neighbours rest)) (length group)
+        let k = along_says (from e (neighbours group)) (pair_across e group rest ++ from e (neighbours rest)) (length group)
         (omega (arith, n, length-neighbours group)) (rw (neighbours-put_at e group rest) at h) in (
           all_of_from _ e (neighbours group) k.0,
           refused_across (in_order e group rest).0 (in_order e group rest).1 (from e (neighbours rest)) k.1,

@@ -5,10 +5,10 @@ use Rattle.std.proofs.Common.{refl, ap, ◌∙◌}
 use Rattle.std.specs.Borrow.{Bor}
 use Rattle.std.specs.Fn.{Mut, Takes, TakesAt, Called, CalledAt, CalledAtTwo, ComputesOnPairs, ComputesKey}
 use denote.Param.Always.{always_mut, mut_next}
-use Rattle.sgb_search.specs.Judges.{MayAskAll, AnswersBy, by_predicate, predicate_judge, by_key, key_judge, MayCompareKeys, ComparesKeys, by_char_predicate, char_predicate_judge, by_char_key, char_key_judge, CalledAtChar, ComputesOnChars, ComputesCharKey}
+use Rattle.sgb_search.specs.Judges.{IsCallable, Computes, by_predicate, predicate_judge, by_key, key_judge, MayCompareKeys, ComparesKeys, by_char_predicate, char_predicate_judge, by_char_key, char_key_judge, CalledAtChar, ComputesOnChars, ComputesCharKey}
 use Rattle.std.specs.List.{Contains}
 use Rattle.sgb_search.specs.Split.{AreNeighbours, on_pairs}
-use Rattle.sgb_search.specs.Search.{MayCall, Computes}
+use Rattle.sgb_search.specs.Search.{IsCallableOn, ComputesOn}
 use Rattle.sgb_search.proofs.Questions.Runs.{may_ask_by, answers_by}
 
 -- a closure that may always be called may be called now, and may always be called after that
@@ -40,7 +40,7 @@ module _ {F T K : Type 0} (takes : F → T → Type 0) (calls : F → T → K �
 module _ {P T : Type 0} (g : Mut P (Bor T × (Bor T × Unit {0})) Bool) where
   -- a predicate that may always be called
   pub predicate_callable : (allowed : T × T → Type 0) (f : P) → always_mut g f
-      → MayAskAll (by_predicate g).may_ask (by_predicate g).answers allowed (predicate_judge f)
+      → IsCallable (by_predicate g).may_ask (by_predicate g).answers allowed (predicate_judge f)
   predicate_callable allowed f h =
       may_ask_by _ _ allowed (λ j. always_mut g j.predicate)
       (λ j q i ok v w e d. taken g j.predicate (v, (w, tt)) i)
@@ -57,7 +57,7 @@ module _ {P T : Type 0} (g : Mut P (Bor T × (Bor T × Unit {0})) Bool) where
     )
 
     pub predicate_settled : (allowed : T × T → Type 0) (f : P) → ComputesOnPairs g p f
-        → AnswersBy (by_predicate g).may_ask (by_predicate g).answers allowed (on_pairs p) (predicate_judge f)
+        → Computes (by_predicate g).may_ask (by_predicate g).answers allowed (on_pairs p) (predicate_judge f)
     predicate_settled allowed f h =
         answers_by _ _ allowed (on_pairs p) (λ j. ComputesOnPairs g p j.predicate)
         (λ j q b k i c. computes_next j.predicate q.0 q.1 b k.predicate i c) (predicate_judge f) h
@@ -68,7 +68,7 @@ module _ {F T K : Type 0} (g : Mut F (Bor T × Unit {0}) K) (eq : K → K → Bo
 
   -- a key function that may always be called
   pub key_callable : (allowed : T × T → Type 0) (f : F) → always_mut g f
-      → MayAskAll (by_key g eq).may_ask (by_key g eq).answers allowed (key_judge f)
+      → IsCallable (by_key g eq).may_ask (by_key g eq).answers allowed (key_judge f)
   key_callable allowed f h =
       may_ask_by _ _ allowed (λ j. always_mut g j.func)
       (λ j q i ok. may_compare (TakesAt g) (CalledAt g) (always_mut g) key_called (λ f x i v e. taken g f (v, tt) i) j.func q i)
@@ -82,7 +82,7 @@ module _ {F T K : Type 0} (g : Mut F (Bor T × Unit {0}) K) (eq : K → K → Bo
         ((h.at ((c.shown, tt) ∷ []) k f' c.called).0 ∙ ap key c.shows, record { at = λ xs. (h.at ((c.shown, tt) ∷ xs) k f' c.called).1 })
 
     pub key_settled : (allowed : T × T → Type 0) (f : F) → ComputesKey g key f
-        → AnswersBy (by_key g eq).may_ask (by_key g eq).answers allowed (on_pairs (λ x y. eq (key x) (key y))) (key_judge f)
+        → Computes (by_key g eq).may_ask (by_key g eq).answers allowed (on_pairs (λ x y. eq (key x) (key y))) (key_judge f)
     key_settled allowed f h =
         answers_by _ _ allowed (on_pairs (λ x y. eq (key x) (key y))) (λ j. ComputesKey g key j.func)
         (λ j q b k i c. keys_next (TakesAt g) (CalledAt g) key (ComputesKey g key) key_next eq j.func q.0 q.1 b k.func i c)
@@ -90,13 +90,13 @@ module _ {F T K : Type 0} (g : Mut F (Bor T × Unit {0}) K) (eq : K → K → Bo
 
 -- functions that are asked about the elements of a list: comparators and key functions of searches
 module _ {F T K : Type 0} (g : Mut F (Bor T × Unit {0}) K) where
-  pub callable_on_elements : (xs : List T) (f : F) → always_mut g f → MayCall g xs f
+  pub callable_on_elements : (xs : List T) (f : F) → always_mut g f → IsCallableOn g xs f
   callable_on_elements xs f h =
       may_ask_by _ _ (Contains xs) (always_mut g) (λ f x i ok v e. taken g f (v, tt) i)
       (λ f x k f' i ok c. always_next g f (c.shown, tt) k f' c.called i)
       f h
 
-  pub computes_on_elements : (xs : List T) (answer : T → K) (f : F) → ComputesKey g answer f → Computes g xs answer f
+  pub computes_on_elements : (xs : List T) (answer : T → K) (f : F) → ComputesKey g answer f → ComputesOn g xs answer f
   computes_on_elements xs answer f h =
       answers_by _ _ (Contains xs) answer (ComputesKey g answer)
       (λ f x k f' i c.

@@ -1,7 +1,7 @@
 -- Runs of questions, and what holds along them.
 use Rattle.std.proofs.Common.{◌≡◌, ℕ, ◌+◌, List, [], ◌∷◌, ◌++◌, length-append, refl, subst, sym}
 use Rattle.std.specs.List.{AllByRecursion}
-use Rattle.sgb_search.specs.Judges.{IsRun, IsRunOf, MayAskAll, AnswersBy}
+use Rattle.sgb_search.specs.Judges.{IsRun, IsRunOf, IsCallable, Computes}
 use Rattle.sgb_search.proofs.Lists.AllByRecursion.{all_append, all_of_rest, all_each}
 
 module _ {S Q A : Type 0} (may : S → Q → Type 0) (gives : S → Q → A → S → Type 0) where
@@ -24,13 +24,13 @@ module _ {S Q A : Type 0} (may : S → Q → Type 0) (gives : S → Q → A → 
 
   -- of fewer allowed questions, after a run of allowed ones: each may still be asked
   pub may_after : (wide narrow : Q → Type 0) → ((q : Q) → narrow q → wide q) → (s : S) (rs : List (Q × A)) (t : S) → IsRun may gives s rs t
-      → AllByRecursion (λ r. wide r.0) rs → MayAskAll may gives wide s → MayAskAll may gives narrow t
+      → AllByRecursion (λ r. wide r.0) rs → IsCallable may gives wide s → IsCallable may gives narrow t
   may_after wide narrow sub s rs t run all may_all qs u more these q ok =
       may_all (rs ++ qs) u (run_append s rs t qs u run more) (all_append _ rs qs all (all_each _ _ (λ r. sub r.0) qs these)) q (sub q ok)
 
   -- and each still has its one answer
   pub answers_after : (wide narrow : Q → Type 0) → ((q : Q) → narrow q → wide q) → (answer : Q → A) → (s : S) (rs : List (Q × A)) (t : S)
-      → IsRun may gives s rs t → AllByRecursion (λ r. wide r.0) rs → AnswersBy may gives wide answer s → AnswersBy may gives narrow answer t
+      → IsRun may gives s rs t → AllByRecursion (λ r. wide r.0) rs → Computes may gives wide answer s → Computes may gives narrow answer t
   answers_after wide narrow sub answer s rs t run all by =
       record {
         at =
@@ -39,23 +39,23 @@ module _ {S Q A : Type 0} (may : S → Q → Type 0) (gives : S → Q → A → 
       }
 
   -- one question
-  pub may_now : (allowed : Q → Type 0) (s : S) (q : Q) → MayAskAll may gives allowed s → allowed q → may s q
+  pub may_now : (allowed : Q → Type 0) (s : S) (q : Q) → IsCallable may gives allowed s → allowed q → may s q
   may_now allowed s q h ok = h [] s refl tt q ok
 
-  pub may_next : (allowed : Q → Type 0) (s : S) (q : Q) (a : A) (t : S) → MayAskAll may gives allowed s → allowed q → gives s q a t
-      → MayAskAll may gives allowed t
+  pub may_next : (allowed : Q → Type 0) (s : S) (q : Q) (a : A) (t : S) → IsCallable may gives allowed s → allowed q → gives s q a t
+      → IsCallable may gives allowed t
   may_next allowed s q a t h ok e =
       may_after allowed allowed (λ q n. n) s ((q, a) ∷ []) t (may_now allowed s q h ok, (t, e, refl)) (ok, tt) h
 
   -- what one question asks for and keeps, every run does
   pub may_ask_by : (allowed : Q → Type 0) (I : S → Type 0) → ((s : S) (q : Q) → I s → allowed q → may s q)
-      → ((s : S) (q : Q) (a : A) (t : S) → I s → allowed q → gives s q a t → I t) → (s : S) → I s → MayAskAll may gives allowed s
+      → ((s : S) (q : Q) (a : A) (t : S) → I s → allowed q → gives s q a t → I t) → (s : S) → I s → IsCallable may gives allowed s
   may_ask_by allowed I asks keeps s i [] t run all q ok = asks t q (subst I (sym run) i) ok
   may_ask_by allowed I asks keeps s i (r ∷ rs) t run all q ok =
       may_ask_by allowed I asks keeps run.1.0 (keeps s r.0 r.1 run.1.0 i all.0 run.1.1) rs t run.1.2 all.1 q ok
 
-  pub answers_next : (allowed : Q → Type 0) (answer : Q → A) (s : S) (q : Q) (a : A) (t : S) → AnswersBy may gives allowed answer s
-      → allowed q → may s q → gives s q a t → (a ≡ answer q) × AnswersBy may gives allowed answer t
+  pub answers_next : (allowed : Q → Type 0) (answer : Q → A) (s : S) (q : Q) (a : A) (t : S) → Computes may gives allowed answer s
+      → allowed q → may s q → gives s q a t → (a ≡ answer q) × Computes may gives allowed answer t
   answers_next allowed answer s q a t by ok m e =
       let run : IsRun may gives s ((q, a) ∷ []) t = (m, (t, e, refl)) in
       ((by.at ((q, a) ∷ []) t run (ok, tt)).0, answers_after allowed allowed (λ q n. n) answer s ((q, a) ∷ []) t run (ok, tt) by)
@@ -63,7 +63,7 @@ module _ {S Q A : Type 0} (may : S → Q → Type 0) (gives : S → Q → A → 
   -- what one allowed question answers and keeps, every run does
   pub answers_allowed_by : (allowed : Q → Type 0) (answer : Q → A) (I : S → Type 0)
       → ((s : S) (q : Q) (a : A) (t : S) → I s → allowed q → may s q → gives s q a t → (a ≡ answer q) × I t) → (s : S) → I s
-      → AnswersBy may gives allowed answer s
+      → Computes may gives allowed answer s
   answers_allowed_by allowed answer I step s i = record { at = along s i }
     where
       along : (s : S) → I s → (rs : List (Q × A)) (t : S) → IsRun may gives s rs t → AllByRecursion (λ r. allowed r.0) rs
@@ -76,11 +76,11 @@ module _ {S Q A : Type 0} (may : S → Q → Type 0) (gives : S → Q → A → 
   -- the same of one that answers so and keeps it, allowed or not
   pub answers_by : (allowed : Q → Type 0) (answer : Q → A) (I : S → Type 0)
       → ((s : S) (q : Q) (a : A) (t : S) → I s → gives s q a t → (a ≡ answer q) × I t) → (s : S) → I s
-      → AnswersBy may gives allowed answer s
+      → Computes may gives allowed answer s
   answers_by allowed answer I step = answers_allowed_by allowed answer I (λ s q a t i ok m. step s q a t i)
 
   -- the same where a question leaves the state as it is
   pub answers_same : (allowed : Q → Type 0) (answer : Q → A) (s : S) → ((q : Q) (a : A) (t : S) → gives s q a t → (a ≡ answer q) × (t ≡ s))
-      → AnswersBy may gives allowed answer s
+      → Computes may gives allowed answer s
   answers_same allowed answer s step =
       answers_by allowed answer (λ u. u ≡ s) (λ u q a t e k. step q a t (subst (λ (v : S). gives v q a t) e k)) s refl

@@ -5,7 +5,7 @@ use Rattle.std.specs.List.{Contains}
 use Rattle.std.proofs.lemmas.List.Elements.{Contains-append_left, Contains-append_right, Contains-push}
 use Rattle.std.specs.declared.cmp.Ordering.{Ordering}
 use Rattle.std.specs.declared.cmp.Ordering.TheVariants.{Less, Equal, Greater}
-use Rattle.sgb_search.specs.Searching.{IsLowEnd, IsHighEnd, Contradicts, TellsBoundary, WasAnswered, Tells, place_of, as_ordering}
+use Rattle.sgb_search.specs.Searching.{IsLowEnd, IsHighEnd, Contradicts, TellsBoundary, WasAnswered, Tells, answer_place, as_ordering}
 use Rattle.sgb_search.specs.Search.{AnswersAt, IsLocalAnswer}
 
 -- where more is known
@@ -85,16 +85,16 @@ module _ {A : Type 0} (reads : A → Ordering) where
 
   module _ (qs : List (ℕ × A)) (both : Bool) (low high : ℕ) where
     -- a search ends between its ends
-    pub place_after : (r : Result ℕ ℕ) → Tells reads qs both low high r → low ≤ place_of r
+    pub place_after : (r : Result ℕ ℕ) → Tells reads qs both low high r → low ≤ answer_place r
     place_after (Ok i) t = t.0.0
     place_after (Err i) t = t.0
 
-    pub place_within : (r : Result ℕ ℕ) → Tells reads qs both low high r → place_of r ≤ high
+    pub place_within : (r : Result ℕ ℕ) → Tells reads qs both low high r → answer_place r ≤ high
     place_within (Ok i) t = omega (arith, t.0.1)
     place_within (Err i) t = t.1
 
     -- and gives `Err` where no answer is Equal
-    pub ends_at : ((a : A) → reads a ≡ Equal → ⊥) → (r : Result ℕ ℕ) → Tells reads qs both low high r → r ≡ Err (place_of r)
+    pub ends_at : ((a : A) → reads a ≡ Equal → ⊥) → (r : Result ℕ ℕ) → Tells reads qs both low high r → r ≡ Err (answer_place r)
     ends_at never (Ok i) t = absurd (never t.1.1 t.1.3)
     ends_at never (Err i) t = refl
 

@@ -7,7 +7,7 @@ use Rattle.std.specs.declared.cmp.Ordering.{Ordering}
 use Rattle.std.specs.declared.cmp.Ordering.TheVariants.{Less, Equal, Greater}
 use Rattle.sgb_search.specs.Searching.{digits, binary, exponential, IsWithin, IsBetween, WasAnswered, IsLowEnd, IsHighEnd, TellsBoundary, IsPlaceSearch, IsBracket}
 use Rattle.sgb_search.proofs.Searches.Digits.{digits_half, digits_zero, digits_mono, digits_le_self, within_galloping}
-use Rattle.sgb_search.specs.Judges.{IsRun, MayAskAll}
+use Rattle.sgb_search.specs.Judges.{IsRun, IsCallable}
 use Rattle.sgb_search.proofs.Questions.Runs.{run_push, run_append, may_after}
 use Rattle.sgb_search.proofs.Lists.AllByRecursion.{all_push, all_append, all_each}
 use Rattle.sgb_search.proofs.Searches.Boundaries.{answered_left, answered_right}
@@ -54,7 +54,7 @@ module _ {S A : Type 0} (may : S → ℕ → Type 0) (gives : S → ℕ → A �
     pub doubles_low : place < stop → low < place
     doubles_low b = elim n.low_end as (λ _. low < place) [ inl e ↦ omega (arith, e) | inr e ↦ e.ahead ]
 
-    pub doubles_may : MayAskAll may gives (IsBetween start stop) s → place < stop → may t place
+    pub doubles_may : IsCallable may gives (IsBetween start stop) s → place < stop → may t place
     doubles_may h b = h n.questions t n.run n.places place (omega (arith, n.after, doubles_low b), b)
 
     twice : place < stop → digits (low - start) + 1 ≤ digits (place - start)
@@ -164,7 +164,7 @@ module _ {S A : Type 0} (may : S → ℕ → Type 0) (gives : S → ℕ → A �
         }
 
   module _ (low high : ℕ) (t : S) (n : IsBracket may gives reads start stop s low high t) where
-    pub bracket_may : MayAskAll may gives (IsBetween start stop) s → MayAskAll may gives (IsBetween low high) t
+    pub bracket_may : IsCallable may gives (IsBetween start stop) s → IsCallable may gives (IsBetween low high) t
     bracket_may h =
         may_after may gives (IsBetween start stop) (IsBetween low high)
         (λ q b. (omega (arith, b, n.after), omega (arith, b, n.within))) s n.questions t n.run n.places h

@@ -7,7 +7,7 @@ use Rattle.std.specs.declared.cmp.Ordering.{Ordering}
 use Rattle.std.specs.declared.cmp.Ordering.TheVariants.{Less, Equal, Greater}
 use Rattle.sgb_search.proofs.Searches.Digits.{digits_half, digits_mono, within_halving}
 use Rattle.sgb_search.specs.Searching.{digits, binary, IsWithin, IsBetween, WasAnswered, IsLowEnd, IsHighEnd, IsPlaceSearch}
-use Rattle.sgb_search.specs.Judges.{IsRun, MayAskAll}
+use Rattle.sgb_search.specs.Judges.{IsRun, IsCallable}
 use Rattle.sgb_search.proofs.Questions.Runs.{run_push}
 use Rattle.sgb_search.proofs.Lists.AllByRecursion.{all_push}
 use Rattle.sgb_search.proofs.Searches.Boundaries.{low_more, high_more, answered_left}
@@ -26,7 +26,7 @@ module _ {S A : Type 0} (may : S → ℕ → Type 0) (gives : S → ℕ → A �
     pub high_end : IsHighEnd (WasAnswered reads questions) high upto
 
   module _ (low high : ℕ) (s : S) (from upto size : ℕ) (t : S) (n : Narrows low high s from upto size t) where
-    pub narrows_may : MayAskAll may gives (IsBetween low high) s → (middle : ℕ) → from ≤ middle → middle < upto → may t middle
+    pub narrows_may : IsCallable may gives (IsBetween low high) s → (middle : ℕ) → from ≤ middle → middle < upto → may t middle
     narrows_may h middle a b = h n.questions t n.run n.places middle (omega (arith, n.order), omega (arith, n.order))
 
     fits : (g m : ℕ) → 0 < g → g ≤ high - low + 1 → m ≤ digits (high - low) → IsWithin binary (high - low + 1) g m

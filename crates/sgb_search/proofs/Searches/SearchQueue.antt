@@ -18,7 +18,7 @@ use Rattle.sgb_search.proofs.Splits.Grouped.{parts_of_grouped, grouped_part, get
 use Rattle.sgb_search.proofs.Splits.Split.{takes_piece, takes_nothing}
 use Rattle.std.specs.declared.cmp.Ordering.{Ordering}
 use Rattle.std.specs.declared.cmp.Ordering.TheVariants.{Less, Greater}
-use Rattle.sgb_search.specs.Judges.{IsRunOf, AnswersBy, AsksWithin}
+use Rattle.sgb_search.specs.Judges.{IsRunOf, Computes, AsksWithin}
 use Rattle.sgb_search.proofs.Questions.AtPlaces.{AskedAt, asked_at, answered_by}
 use Rattle.sgb_search.proofs.Searches.Boundaries.{tells_more, one_answer, answers_once, side_before, side_after}
 use Rattle.sgb_search.proofs.Questions.Calls as calls
@@ -42,7 +42,7 @@ module _ {T J : Type 0} (g : Ghosts J T) (cost : SearchCost) (e : End) (xs : Lis
       (omega (arith, h.tells)) h.most)
 
   -- where the judge answers what p says, it ends at a local boundary
-  module _ (p : T → T → Bool) (by : AnswersBy g.may_ask g.answers (AreApart xs) (on_pairs p) j) where
+  module _ (p : T → T → Bool) (by : Computes g.may_ask g.answers (AreApart xs) (on_pairs p) j) where
     abbrev ys : List T
     ys = from e xs
 

@@ -9,9 +9,9 @@ use Rattle.std.specs.Fn.{Mut, TakesAt, CalledAt}
 use Rattle.std.specs.Borrow.{Bor}
 use Rattle.std.specs.declared.cmp.Ordering.{Ordering}
 use Rattle.std.specs.declared.cmp.Ordering.TheVariants.{Less, Equal, Greater}
-use Rattle.sgb_search.specs.Judges.{MayAskAll, AnswersBy}
+use Rattle.sgb_search.specs.Judges.{IsCallable, Computes}
 use Rattle.sgb_search.specs.Searching.{IsBetween, MayAskAt, AnsweredAt}
-use Rattle.sgb_search.specs.Search.{AnswersAt, IsLocalAnswer, FindsIn, IsLessEqualGreater, MayCall, Computes, IsSearch}
+use Rattle.sgb_search.specs.Search.{AnswersAt, IsLocalAnswer, FindsIn, IsLessEqualGreater, IsCallableOn, ComputesOn, IsSearch}
 use Rattle.sgb_search.proofs.Questions.AtPlaces as places
 use Rattle.sgb_search.proofs.Searches.Boundaries.{tells_local}
 use Rattle.sgb_search.proofs.Searches.PartitionPoint.{less_count}
@@ -74,18 +74,18 @@ module _ {T : Type 0} (ord : T → Ordering) (xs : List T) where
       let p = region (Err i) b up in
       record {
         none = λ j a. equal_nowhere i j a p (Rattle.std.proofs.lemmas.Bool.cases_lt j i);
-        between = p;
+        partition = p;
         place = less_count ord xs i (no_later i b) p;
       }
 
 module _ {F T K : Type 0} (g : Mut F (Bor T × Unit {0}) K) (xs : List T) where
-  pub may_places : (f : F) → MayCall g xs f
-      → MayAskAll (MayAskAt (TakesAt g) (CalledAt g) xs) (AnsweredAt (TakesAt g) (CalledAt g) xs) (IsBetween 0 (length xs)) f
+  pub may_places : (f : F) → IsCallableOn g xs f
+      → IsCallable (MayAskAt (TakesAt g) (CalledAt g) xs) (AnsweredAt (TakesAt g) (CalledAt g) xs) (IsBetween 0 (length xs)) f
   may_places = places.may_places _ _ xs (IsBetween 0 (length xs)) (Contains xs) (λ i x b. contains_at xs i x) (λ i b. b.1)
 
   -- after a search
   module _ (reads : K → Ordering) (f : F) (r : Result ℕ ℕ) (t : F) (h : IsSearch g xs reads f r t) where
-    pub search_boundary : (answer : T → K) → Computes g xs answer f → IsLocalAnswer (λ x. reads (answer x)) xs r
+    pub search_boundary : (answer : T → K) → ComputesOn g xs answer f → IsLocalAnswer (λ x. reads (answer x)) xs r
     search_boundary answer by =
         tells_local reads (λ x. reads (answer x)) xs h.questions _
         (places.answered_by _ _ xs (IsBetween 0 (length xs)) (Contains xs) (λ i x b. contains_at xs i x) f h.questions t h.run h.places answer
@@ -93,10 +93,10 @@ module _ {F T K : Type 0} (g : Mut F (Bor T × Unit {0}) K) (xs : List T) where
 
     -- of a list with these elements, what might be asked before may be asked, and is answered the same
     module _ (wide : T → Type 0) (sub : (x : T) → Contains xs x → wide x) where
-      pub may_go_on : MayAskAll (TakesAt g) (CalledAt g) wide f → MayAskAll (TakesAt g) (CalledAt g) wide t
+      pub may_go_on : IsCallable (TakesAt g) (CalledAt g) wide f → IsCallable (TakesAt g) (CalledAt g) wide t
       may_go_on =
           places.may_go_on _ _ xs (IsBetween 0 (length xs)) wide (λ i x b e. sub x (contains_at xs i x e)) f h.questions t h.run h.places
 
-      pub answers_go_on : (answer : T → K) → AnswersBy (TakesAt g) (CalledAt g) wide answer f → AnswersBy (TakesAt g) (CalledAt g) wide answer t
+      pub answers_go_on : (answer : T → K) → Computes (TakesAt g) (CalledAt g) wide answer f → Computes (TakesAt g) (CalledAt g) wide answer t
       answers_go_on =
           places.answers_go_on _ _ xs (IsBetween 0 (length xs)) wide (λ i x b e. sub x (contains_at xs i x e)) f h.questions t h.run h.places

@@ -26,8 +26,8 @@ level Greater h k = cc h
 module _ {K : Type 0} (cmp : K → K → Ordering) (o : IsTotalOrder cmp) (eq : K → K → Bool)
     (ties : (x y : K) → eq x y ≡ is_eq (cmp x y)) where
   -- z lies between x and y, which are equal
-  between : (x y z : K) → cmp x y ≡ Equal → is_gt (cmp x z) ≡ false → is_gt (cmp z y) ≡ false → cmp z y ≡ Equal
-  between x y z e p q = level (cmp z y) q (ap is_gt (sym (o.antisymm y z) ∙ sym (o.congr x y z e)) ∙ p)
+  ties_between : (x y z : K) → cmp x y ≡ Equal → is_gt (cmp x z) ≡ false → is_gt (cmp z y) ≡ false → cmp z y ≡ Equal
+  ties_between x y z e p q = level (cmp z y) q (ap is_gt (sym (o.antisymm y z) ∙ sym (o.congr x y z e)) ∙ p)
 
   module _ {T : Type 0} (key : T → K) where
     abbrev equal_keys : T → T → Bool
@@ -47,7 +47,7 @@ module _ {K : Type 0} (cmp : K → K → Ordering) (o : IsTotalOrder cmp) (eq : 
         → IsAccepted equal_keys (x ∷ xs)
     accepted x [] y h e t = tt
     accepted x (z ∷ zs) y h e t =
-        let b = between (key x) (key y) (key z) (tied_if_equal cmp eq ties (key x) (key y) t) (not_greater _ h.0)
+        let b = ties_between (key x) (key y) (key z) (tied_if_equal cmp eq ties (key x) (key y) t) (not_greater _ h.0)
         (first_upto z zs y h.1 e) in (
           equal_if_tied cmp eq ties (key x) (key z)
               (o.congr (key x) (key y) (key z) (tied_if_equal cmp eq ties (key x) (key y) t) ∙ turned_around cmp o (key z) (key y) Equal b),

@@ -155,11 +155,11 @@ module _ {K : Type 0} (cmp : K → K → Ordering) (o : IsTotalOrder cmp) (eq : 
       alike g (all_contains (IsUniform cmp o eq ties key) (split same xs) g (split_uniform cmp o eq ties key xs) c) x y
 
   -- each element of the one piece has a lesser key than each of the other
-  abbrev pub IsBelow : List T → List T → Type 0
-  IsBelow g h = (x y : T) → Contains g x → Contains h y → cmp (key x) (key y) ≡ Less
+  abbrev pub KeysBelow : List T → List T → Type 0
+  KeysBelow g h = (x y : T) → Contains g x → Contains h y → cmp (key x) (key y) ≡ Less
 
   below : (x : T) (xs : List T) (gs : List (List T)) → IsUniform cmp o eq ties key (x ∷ xs) → AllByRecursion (IsAbove cmp key (key x)) gs
-      → AllByRecursion (IsUniform cmp o eq ties key) gs → AllByRecursion (IsBelow (x ∷ xs)) gs
+      → AllByRecursion (IsUniform cmp o eq ties key) gs → AllByRecursion (KeysBelow (x ∷ xs)) gs
   below x xs [] u a v = tt
   below x xs ([] ∷ gs) u a v = absurd a.0
   below x xs ((y ∷ ys) ∷ gs) u a v = (
@@ -167,12 +167,12 @@ module _ {K : Type 0} (cmp : K → K → Ordering) (o : IsTotalOrder cmp) (eq : 
     below x xs gs u a.1 v.1,
   )
 
-  climb : (gs : List (List T)) → AllByRecursion (IsUniform cmp o eq ties key) gs → Ascends cmp key gs → EachLater IsBelow gs
+  climb : (gs : List (List T)) → AllByRecursion (IsUniform cmp o eq ties key) gs → Ascends cmp key gs → EachLater KeysBelow gs
   climb [] u a = tt
   climb ([] ∷ gs) u a = absurd a
   climb ((x ∷ xs) ∷ gs) u a = (below x xs gs u.0 a.0 u.1, climb gs u.1 a.1)
 
-  pub pieces_climb : (xs : List T) → NeverDescends cmp (map key xs) → EachLater IsBelow (split same xs)
+  pub pieces_climb : (xs : List T) → NeverDescends cmp (map key xs) → EachLater KeysBelow (split same xs)
   pieces_climb xs h = climb (split same xs) (split_uniform cmp o eq ties key xs) (split_ascends cmp key o eq ties xs h)
 
   -- the keys of the first elements ascend as the pieces do

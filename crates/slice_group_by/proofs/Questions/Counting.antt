@@ -12,7 +12,7 @@ use Rattle.std.specs.Fn.{TakesAt, CalledAt}
 use Rattle.std.specs.Prelude.{Result}
 use Rattle.std.specs.declared.cmp.Ordering.{Ordering}
 use Rattle.sgb_search.specs.Search.{IsSearch}
-use Rattle.sgb_search.specs.Searching.{digits, place_of, MayAskAt, AnsweredAt}
+use Rattle.sgb_search.specs.Searching.{digits, answer_place, MayAskAt, AnsweredAt}
 use Rattle.sgb_search.specs.Split.{neighbours}
 use Rattle.sgb_search.proofs.Lists.Pairs.{length-neighbours}
 use Rattle.sgb_search.specs.Judges.{IsRun, IsRunOf, AsksWithin}
@@ -57,12 +57,12 @@ module _ {S Q A : Type 0} (may : S → Q → Type 0) (gives : S → Q → A → 
 pub search_raises : {F T K : Type 0} (g : Mut F (Bor T × Unit {0}) K) (count name : F → ℕ) (each : ℕ)
     → ((s u : F) (x : T) (k : K) → CalledAt g s x k u → (name u ≡ name s) × (count u ≤ count s + each)) → (reads : K → Ordering) (xs : List T)
     (f t : F) (r : Result ℕ ℕ) → IsSearch g xs reads f r t
-    → (name t ≡ name f) × (count t ≤ count f + each * (2 * digits (place_of r + 1) + 1))
+    → (name t ≡ name f) × (count t ≤ count f + each * (2 * digits (answer_place r + 1) + 1))
 search_raises g count name each step reads xs f t r h =
     let k = counts_most (MayAskAt (TakesAt g) (CalledAt g) xs) (AnsweredAt (TakesAt g) (CalledAt g) xs) count name each
     (λ s u i a called. step s u called.0 a called.2) (length h.questions) f t (h.questions, h.run, refl) in
-    let same : digits (place_of r - 0 + 1) ≡ digits (place_of r + 1) = ap digits {x = place_of r - 0 + 1} {y = place_of r + 1} (omega arith) in
-    let most : length h.questions ≤ 2 * digits (place_of r + 1) + 1 = omega (arith, h.most.call, same) in
+    let same : digits (answer_place r - 0 + 1) ≡ digits (answer_place r + 1) = ap digits {x = answer_place r - 0 + 1} {y = answer_place r + 1} (omega arith) in
+    let most : length h.questions ≤ 2 * digits (answer_place r + 1) + 1 = omega (arith, h.most.call, same) in
     (k.0, omega (arith, k.1, mul-le-mul_left each most))
 
 -- a number that each question raises by just so much, below the limit

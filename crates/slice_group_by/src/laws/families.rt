@@ -43,10 +43,10 @@ pub fn numbers_agree<
     N: Judged<T, NumberJudge, Linear>,
     G: Judged<T, EqualityJudge, Linear>,
 >(_numbers: &N, _elements: &G)
-    ensures { (q q' : N) (r r' : G) (ends : List End) (out : List (Option N.Group)) (other : List (Option G.Group))
+    ensures { (q q' : N) (r r' : G) (ends : List End) (out : List (Option N.Item)) (other : List (Option G.Item))
         → (N.groups q).remainder ≡ (G.groups r).remainder
-        → IsChain N.gives q ends out q' → IsChain G.gives r ends other r'
-        → map (option_map N.shows) out ≡ map (option_map G.shows) other }
+        → IsChain N.GroupQueue.gives q ends out q' → IsChain G.GroupQueue.gives r ends other r'
+        → map (option_map N.GroupQueue.shows) out ≡ map (option_map G.GroupQueue.shows) other }
 {}
 
 /// The standard library agrees: by its own contract, `chunk_by` with a predicate that computes a test gives the pieces of the one
@@ -68,9 +68,9 @@ pub fn chunk_by_agrees<T, F: FnMut(&T, &T) -> bool, Q: GroupQueue<Element = T>>(
 /// On any slice, grouped or not: a call of binary or exponential groups, whose judge answers by its arguments alone, gives a
 /// group that ends at a local boundary, where the remainder reads from the call's end, and leaves such a judge.
 pub fn groups_end_locally<T, J: Judge<T>, S: GroupSearch, G: Judged<T, J, Search<S>>>(_groups: &G)
-    ensures ends { (p : T → T → Bool) (e : End) (s t : G) (group : G.Group) → ComputesBy AreApart J.Judge (G.groups s) p
-        → G.gives e s (Some group) t → IsLocalEnd (from e (G.groups s).remainder) p (length (G.shows group)) }
-    ensures computes { (p : T → T → Bool) (e : End) (s t : G) (group : G.Group)
-        → ComputesBy AreApart J.Judge (G.groups s) p → G.gives e s (Some group) t
+    ensures ends { (p : T → T → Bool) (e : End) (s t : G) (group : G.Item) → ComputesBy AreApart J.Judge (G.groups s) p
+        → G.GroupQueue.gives e s (Some group) t → IsLocalEnd (from e (G.groups s).remainder) p (length (G.GroupQueue.shows group)) }
+    ensures computes { (p : T → T → Bool) (e : End) (s t : G) (group : G.Item)
+        → ComputesBy AreApart J.Judge (G.groups s) p → G.GroupQueue.gives e s (Some group) t
         → ComputesBy AreApart J.Judge (G.groups t) p }
 {}

@@ -26,14 +26,12 @@ ghost use Rattle.slice_group_by.specs.Queue.{pops, after_pops};
 pub mod counts;
 pub mod families;
 pub mod judged;
-pub mod number_groups;
 pub mod pieces;
 pub mod plans;
 pub mod queue;
+pub mod queues;
 pub mod ranks;
-pub mod slices;
 pub mod sorted;
-pub mod texts;
 
 pub use crate::join::{
     joins_may_go_on, merges_agree, pairs_ascend, pairs_count, pairs_match, partners_are_unique,
@@ -173,9 +171,9 @@ pub fn groups_still_come<Q: GroupQueue>(_queue: &Q)
 /// A list of calls of linear groups, of a slice or a text, asks about each neighbouring pair that goes once, however the ends are
 /// mixed, and about no other: so until nothing remains of n > 0 elements or characters it asks exactly n - 1 questions.
 pub fn each_pair_asked_once<T, J: Judge<T>, S: Judged<T, J, Linear>>(_groups: &S)
-    ensures pairs { (s t : S) (ends : List End) (out : List (Option S.Group)) → IsChain S.gives s ends out t
+    ensures pairs { (s t : S) (ends : List End) (out : List (Option S.Item)) → IsChain S.GroupQueue.gives s ends out t
         → AsksEachOnce J.Judge (S.groups s) (S.groups t) }
-    ensures whole { (s t : S) (ends : List End) (out : List (Option S.Group)) → IsChain S.gives s ends out t
+    ensures whole { (s t : S) (ends : List End) (out : List (Option S.Item)) → IsChain S.GroupQueue.gives s ends out t
         → (S.groups t).remainder ≡ []
         → IsRunOf J.may_ask J.answers (length (S.groups s).remainder - 1) (S.groups s).judge (S.groups t).judge }
 {}
@@ -184,17 +182,17 @@ pub fn each_pair_asked_once<T, J: Judge<T>, S: Judged<T, J, Linear>>(_groups: &S
 /// remains or not. What `groups_join` and `walk` say of characters, this says of bytes. Each group of a list of calls is UTF-8 when it
 /// is handed out, and its bytes are the encodings of its characters, and so of the piece that it is.
 pub fn texts_join<S: OfText>(_groups: &S)
-    ensures utf8 { (s t : S) (ends : List End) (out : List (Option S.Group)) → IsChain S.gives s ends out t
-        → AllByRecursion (λ group. IfSome group (λ x. IsUtf8 (S.shows x))) out }
-    ensures encodings { (s t : S) (ends : List End) (out : List (Option S.Group)) → IsChain S.gives s ends out t
-        → map (option_map S.shows) out
-        ≡ map (option_map encodes) (map (option_map (λ group. chars (S.shows group))) out) }
-    ensures calls { (s t : S) (ends : List End) (out : List (Option S.Group)) → IsChain S.gives s ends out t
-        → Partition ends (map (option_map S.shows) out) (S.text t) (S.text s) }
-    ensures part { (e : End) (s t : S) (groups : List S.Group) → Yields (S.gives e) s groups t
-        → put_at e (concat (from e (map S.shows groups))) (S.text t) ≡ S.text s }
-    ensures whole { (e : End) (s : S) (groups : List S.Group) → Drains (S.gives e) s groups
-        → concat (from e (map S.shows groups)) ≡ S.text s }
+    ensures utf8 { (s t : S) (ends : List End) (out : List (Option S.Item)) → IsChain S.GroupQueue.gives s ends out t
+        → AllByRecursion (λ group. IfSome group (λ x. IsUtf8 (S.bytes x))) out }
+    ensures encodings { (s t : S) (ends : List End) (out : List (Option S.Item)) → IsChain S.GroupQueue.gives s ends out t
+        → map (option_map S.bytes) out
+        ≡ map (option_map encodes) (map (option_map (λ group. chars (S.bytes group))) out) }
+    ensures calls { (s t : S) (ends : List End) (out : List (Option S.Item)) → IsChain S.GroupQueue.gives s ends out t
+        → Partition ends (map (option_map S.bytes) out) (S.text t) (S.text s) }
+    ensures part { (e : End) (s t : S) (groups : List S.Item) → Yields (S.GroupQueue.gives e) s groups t
+        → put_at e (concat (from e (map S.bytes groups))) (S.text t) ≡ S.text s }
+    ensures whole { (e : End) (s : S) (groups : List S.Item) → Drains (S.GroupQueue.gives e) s groups
+        → concat (from e (map S.bytes groups)) ≡ S.text s }
 {}
 
 /// A text has no more characters than bytes, so that a count of them fits where one of the bytes does.
@@ -205,8 +203,8 @@ pub fn characters_fit()
 /// What a list of calls on groups for writing, as those of `walk`, has handed out: each group that a call gave stands at the end
 /// of `cuts`, in the order of the calls, with its end; and nothing else of what the input ends as has changed. So once these are
 /// noted, `finish` says what the input ends as.
-pub fn chains_hand_out<T, S: Lends<T>>(_groups: &S)
-    ensures { (s t : S) (ends : List End) (out : List (Option (MutBor (List T)))) → IsChain S.gives s ends out t
+pub fn chains_hand_out<'a, T: 'a, S: Lends<'a, T>>(_groups: &S)
+    ensures { (s t : S) (ends : List End) (out : List (Option (MutBor (List T)))) → IsChain S.GroupQueue.gives s ends out t
         → HandsOutAll (S.loans s) (handed_out ends out) (S.loans t) }
 {}
 

@@ -1,4 +1,4 @@
-use Rattle.sgb_search.proofs.Searches.Sides.{range_filters, range_whole}
+use Rattle.sgb_search.proofs.Searches.Partitions.{range_filters, range_whole}
 use Rattle.sgb_search.proofs.laws.range_parts.Goals as goal
 
 pub returns-clause-whole : goal.returns-clause-whole

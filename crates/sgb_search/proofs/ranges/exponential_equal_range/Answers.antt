@@ -1,7 +1,7 @@
 use Rattle.std.proofs.Common.{rules}
 use Rattle.sgb_search.proofs.Questions.Runs.{answers_same}
 use Rattle.sgb_search.proofs.Searches.Ascending.{ascends_itself}
-use Rattle.sgb_search.proofs.Searches.Sides.{range_filters}
+use Rattle.sgb_search.proofs.Searches.Partitions.{range_filters}
 use Rattle.sgb_search.proofs.ranges.exponential_equal_range.Goals as goal
 
 pub returns-clause-local : goal.returns-clause-local

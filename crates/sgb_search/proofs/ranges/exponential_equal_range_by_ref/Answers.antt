@@ -1,4 +1,4 @@
-use Rattle.sgb_search.proofs.Searches.Sides.{range_is, range_filters}
+use Rattle.sgb_search.proofs.Searches.Partitions.{range_is, range_filters}
 use Rattle.sgb_search.proofs.ranges.exponential_equal_range_by_ref.Goals as goal
 
 pub returns-clause-range : goal.returns-clause-range

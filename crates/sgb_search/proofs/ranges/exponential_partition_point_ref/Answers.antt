@@ -1,4 +1,4 @@
-use Rattle.sgb_search.proofs.Searches.Sides.{parts_at, passing_count}
+use Rattle.sgb_search.proofs.Searches.Partitions.{parts_at, passing_count}
 use Rattle.sgb_search.proofs.ranges.exponential_partition_point_ref.Goals as goal
 
 pub returns-clause-partitioned : goal.returns-clause-partitioned

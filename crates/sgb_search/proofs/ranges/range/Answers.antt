@@ -30,14 +30,14 @@ returns-clause-questions g c =
       before = c.split_at.result.0.now;
       after = c.split_at-2.result.1.now;
       whole = whole ∙ ap (λ l. c.split_at.result.0.now ++ l) rest;
-      between = c.count_before-start.new.f;
-      first =
-          subst (λ n. AsksPartition g.F.FnMut (g.L.Side.passes c.args.less.now) c.args.slice.now c.args.f.now n c.count_before-start.new.f)
+      state_between = c.count_before-start.new.f;
+      less_search =
+          subst (λ n. AsksPartition g.F.FnMut (g.L.Test.passes c.args.less.now) c.args.slice.now c.args.f.now n c.count_before-start.new.f)
           (sym c.split_at.ensures.front_len) c.count_before-start.ensures.questions;
-      second =
-          subst (λ l. AsksPartition g.F.FnMut (g.E.Side.passes c.args.equal.now) l c.count_before-start.new.f
+      equal_search =
+          subst (λ l. AsksPartition g.F.FnMut (g.E.Test.passes c.args.equal.now) l c.count_before-start.new.f
           (length c.split_at-2.result.0.now) c.count_before-len.new.f) rest
-          (subst (λ n. AsksPartition g.F.FnMut (g.E.Side.passes c.args.equal.now) c.split_at.result.1.now c.count_before-start.new.f n
+          (subst (λ n. AsksPartition g.F.FnMut (g.E.Test.passes c.args.equal.now) c.split_at.result.1.now c.count_before-start.new.f n
           c.count_before-len.new.f) (sym c.split_at-2.ensures.front_len) c.count_before-len.ensures.questions);
     }
 
@@ -51,24 +51,24 @@ returns-clause-local g c answer by =
       before = c.split_at.result.0.now;
       after = c.split_at-2.result.1.now;
       whole = whole ∙ ap (λ l. c.split_at.result.0.now ++ l) rest;
-      from =
-          subst (IsLocalBoundary (λ x. as_ordering (g.L.Side.passes c.args.less.now (answer x))) c.args.slice.now)
+      starts =
+          subst (IsLocalBoundary (λ x. as_ordering (g.L.Test.passes c.args.less.now (answer x))) c.args.slice.now)
           (sym c.split_at.ensures.front_len) (c.count_before-start.ensures.boundary answer by);
-      upto =
-          subst (λ l. IsLocalBoundary (λ x. as_ordering (g.E.Side.passes c.args.equal.now (answer x))) l
+      ends =
+          subst (λ l. IsLocalBoundary (λ x. as_ordering (g.E.Test.passes c.args.equal.now (answer x))) l
           (length c.split_at-2.result.0.now)) rest
-          (subst (IsLocalBoundary (λ x. as_ordering (g.E.Side.passes c.args.equal.now (answer x))) c.split_at.result.1.now)
+          (subst (IsLocalBoundary (λ x. as_ordering (g.E.Test.passes c.args.equal.now (answer x))) c.split_at.result.1.now)
           (sym c.split_at-2.ensures.front_len) (c.count_before-len.ensures.boundary answer later));
     }
 
 pub returns-clause-callable : goal.returns-clause-callable
 returns-clause-callable g c =
-    may_go_on g.F.FnMut c.split_at.result.1.now (λ k. as_ordering (g.E.Side.passes c.args.equal.now k)) _ _ _ c.count_before-len.ensures.questions
+    may_go_on g.F.FnMut c.split_at.result.1.now (λ k. as_ordering (g.E.Test.passes c.args.equal.now k)) _ _ _ c.count_before-len.ensures.questions
     (Contains c.args.slice.now) (in_rest _ _ _ (joined _ _ _ _ c.split_at.ensures.front c.split_at.ensures.back))
     c.count_before-start.ensures.callable
 
 pub returns-clause-computes : goal.returns-clause-computes
 returns-clause-computes g c answer by =
-    answers_go_on g.F.FnMut c.split_at.result.1.now (λ k. as_ordering (g.E.Side.passes c.args.equal.now k)) _ _ _
+    answers_go_on g.F.FnMut c.split_at.result.1.now (λ k. as_ordering (g.E.Test.passes c.args.equal.now k)) _ _ _
     c.count_before-len.ensures.questions (Contains c.args.slice.now)
     (in_rest _ _ _ (joined _ _ _ _ c.split_at.ensures.front c.split_at.ensures.back)) answer (c.count_before-start.ensures.computes answer by)

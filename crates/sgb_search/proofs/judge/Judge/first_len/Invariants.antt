@@ -1,5 +1,5 @@
 use Rattle.std.proofs.Common.{◌-◌, ◌<◌, ◌≤◌}
-use Rattle.sgb_search.specs.Runs.{MayAskAll}
+use Rattle.sgb_search.specs.Runs.{IsCallable}
 use Rattle.std.specs.Prelude.{slice_range}
 use Rattle.sgb_search.specs.Split.{neighbours, AreNeighbours}
 use Rattle.sgb_search.proofs.Linear.Scanning.{Accepted}
@@ -9,7 +9,7 @@ abbrev pub invariant-loop-len : goal.invariant-loop-len
 invariant-loop-len g l = record {
   after : 0 < l.len;
   upto : l.len ≤ l.high - l.low;
-  callable : MayAskAll g.Self.Judge.may_ask g.Self.Judge.answers (AreNeighbours (slice_range l.slice l.low l.high)) l.self;
+  callable : IsCallable g.Self.Judge.may_ask g.Self.Judge.answers (AreNeighbours (slice_range l.slice l.low l.high)) l.self;
   accepted : Accepted g.Self.Judge.may_ask g.Self.Judge.answers (neighbours (slice_range l.slice l.low l.high)) l.initial.self
       (l.len - 1) l.self;
 }

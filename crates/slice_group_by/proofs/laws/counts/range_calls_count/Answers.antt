@@ -10,6 +10,6 @@ returns-clause-partition g c count name each step passes xs f t n =
 
 pub returns-clause-range : goal.returns-clause-range
 returns-clause-range g c count name each step less equal xs equals f t a =
-    let one = returns-clause-partition g c count name each step less xs f a.between (length a.before) a.first in
-    let two = returns-clause-partition g c count name each step equal _ a.between t (length equals) a.second in
+    let one = returns-clause-partition g c count name each step less xs f a.state_between (length a.before) a.less_search in
+    let two = returns-clause-partition g c count name each step equal _ a.state_between t (length equals) a.equal_search in
     (two.0 ∙ one.0, omega (arith, one.1, two.1))

@@ -21,4 +21,4 @@ returns-clause-counts g c count name each step e s t (Some group) h most few =
     let a = returns-clause-asks g c e s t group h in
     let k = counts_most g.J.Judge.may_ask g.J.Judge.answers count name each step a.0 (g.G.Judged.groups s).judge
     (g.G.Judged.groups t).judge a.1 in
-    (k.0, omega (arith, k.1, mul-le-mul_left each a.2, few (length (g.G.Judged.shows group))))
+    (k.0, omega (arith, k.1, mul-le-mul_left each a.2, few (length (g.G.GroupQueue.shows group))))

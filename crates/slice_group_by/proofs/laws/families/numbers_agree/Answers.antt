@@ -11,7 +11,7 @@ returns g c q q' r r' =
     let eq = g.T.PartialEq.eq in
     let numbers = g.N.Judged in
     let elements = g.G.Judged in
-    linear_groups_agree eq (by_number eq) numbers.gives numbers.groups numbers.shows g.met.N.Judged.call
-    (by_equality eq) elements.gives elements.groups elements.shows g.met.G.Judged.call q q' r r'
+    linear_groups_agree eq (by_number eq) g.N.GroupQueue.gives numbers.groups g.N.GroupQueue.shows g.met.N.Judged.call
+    (by_equality eq) g.G.GroupQueue.gives elements.groups g.G.GroupQueue.shows g.met.G.Judged.call q q' r r'
     (number_settled eq (AreNeighbours (numbers.groups q).remainder) (numbers.groups q).judge)
     (equality_settled eq (AreNeighbours (elements.groups r).remainder) (elements.groups r).judge)

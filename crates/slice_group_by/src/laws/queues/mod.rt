@@ -1,0 +1,4 @@
+//! The types of this library as queues of groups.
+pub mod numbers;
+pub mod slices;
+pub mod texts;

@@ -1,0 +1,111 @@
+//! The groups of equal numbers as a queue, as calls of linear groups, and with offsets.
+ghost use Rattle.std.specs.Prelude.{refl};
+
+use crate::laws::judged::Judged;
+use crate::laws::queue::{GroupQueue, SliceQueue};
+use crate::offsets::Offsets;
+use sgb_linear_group::linear_group::Linear;
+use sgb_number_group::groups::LinearNumberGroup;
+use sgb_numbers::lanes::Lanes;
+use sgb_numbers::number_judge::NumberJudge;
+
+impl<'a, T: Lanes> GroupQueue for LinearNumberGroup<'a, T> {
+    type Item = &'a [T];
+
+    ghost use Rattle.std.specs.Prelude.{true, length, option_copied};
+    ghost use Rattle.sgb_number_group.proofs.Queue.{call};
+    ghost use Rattle.sgb_number_group.specs.Gives.{groups_of, Gives};
+    ghost use Rattle.sgb_numbers.specs.Numbers.{by_number};
+    ghost use Rattle.sgb_search.specs.Judges.{IsRunOf};
+    ghost use Rattle.sgb_search.specs.Linear.{IsSettled, LinearQuestions};
+    ghost use Rattle.sgb_search.specs.Split.{neighbours};
+    ghost use Rattle.sgb_search.proofs.Linear.LinearQueue as laws;
+    ghost use Rattle.sgb_search.proofs.Questions.Calls.{part, asks_seen};
+    ghost use Rattle.sgb_search.proofs.Questions.Runs.{run_of_none, run_of_more};
+
+    type Element = T;
+
+    ghost remainder = { λ q. (groups_of q).remainder };
+
+    ghost shows = { λ group. group.now };
+
+    ghost is_settled = { λ q. IsSettled (by_number T.eq) (groups_of q) };
+
+    ghost gives = { Gives };
+
+    ghost asked = { λ q r n. IsRunOf (by_number T.eq).may_ask (by_number T.eq).answers n (groups_of q).judge (groups_of r).judge };
+
+    ghost due = { λ q. length (neighbours (groups_of q).remainder) };
+
+    ghost exact = { true };
+
+    #[inline]
+    fn pop_front(&mut self) -> Option<&'a [T]> {
+        self.next()
+    }
+
+    #[inline]
+    fn pop_back(&mut self) -> Option<&'a [T]> {
+        self.next_back()
+    }
+
+    ghost part = { λ e s group t h. part (LinearQuestions (by_number T.eq)) e (groups_of s) (option_copied group) (groups_of t)
+        (call e s group t h) };
+
+    ghost none = { λ _ _ _ h. h.1 };
+
+    ghost piece = { λ e s group t p h. laws.piece (by_number T.eq) e (groups_of s) (option_copied group) (groups_of t) p
+        (call e s group t h) };
+
+    ghost keeps = { λ _ _ _ _ _ _. tt };
+
+    ghost asked_none = { λ q. run_of_none (by_number T.eq).may_ask (by_number T.eq).answers (groups_of q).judge };
+
+    ghost asked_more = { λ q r t. run_of_more (by_number T.eq).may_ask (by_number T.eq).answers (groups_of q).judge (groups_of r).judge
+        (groups_of t).judge };
+
+    ghost asks_due = { λ e s group t h. asks_seen _ _ _ groups_of s t
+        (laws.asks (by_number T.eq) e (groups_of s) (option_copied group) (groups_of t) (call e s group t h)) };
+}
+
+impl<'a, T: Lanes + 'a> SliceQueue<'a, T> for LinearNumberGroup<'a, T> {
+    ghost shows_now = { λ _. refl };
+}
+
+impl<'a, T: Lanes> Judged<T, NumberJudge, Linear> for LinearNumberGroup<'a, T> {
+    ghost use Rattle.sgb_number_group.proofs.Queue.{call};
+    ghost use Rattle.sgb_number_group.specs.Gives.{groups_of};
+
+    ghost groups = { groups_of };
+
+    ghost call = { call };
+}
+
+impl<'a, T: Lanes> Offsets for LinearNumberGroup<'a, T> {
+    type Unit = T;
+
+    ghost use Rattle.sgb_number_group.specs.Gives.{groups_of, place_of};
+
+    ghost place = { place_of };
+
+    ghost left = { λ q. (groups_of q).remainder };
+
+    ghost units = { λ group. group.now };
+
+    #[inline]
+    fn offset(&self) -> usize {
+        LinearNumberGroup::offset(self)
+    }
+
+    #[inline]
+    fn remainder_len(&self) -> usize {
+        LinearNumberGroup::remainder_len(self)
+    }
+
+    #[inline]
+    fn group_len(group: &Self::Item) -> usize {
+        group.len()
+    }
+
+    ghost takes = { λ e q group t h. record { nonempty = h.call.nonempty; part = h.call.cut; moves = h.place } };
+}
