@@ -5,4 +5,5 @@ mod Marks
 mod Known
 mod Asked
 mod Taken
+mod Scanned
 pub mod Queue

@@ -5,6 +5,11 @@ ghost use Rattle.sgb_number_group.specs.Masks.{AreSame, FrontMask, BackMask, IsF
 
 use crate::blocks::{block, block_back};
 use sgb_numbers::lanes::Lanes;
+use sgb_numbers::scans::{like_back_by_vectors, like_by_vectors};
+
+// So many pairs are compared with each other first. In a group that goes on, numbers are compared with one of them: that loads a
+// vector where pairs load two.
+const NEAR: usize = 128;
 
 /// Where the first group from the place `low` on ends, where the mask has a boundary.
 #[inline(always)]
@@ -86,6 +91,9 @@ fn fill_front<T: Lanes>(slice: &[T], from: usize, high: usize) -> (u64, usize)
     }
     let mut at = from;
     while 65 <= high - at {
+        if NEAR <= at - from {
+            return scan_front(slice, at, high);
+        }
         let mask = block(slice, at);
         at += 64;
         if mask != 0 {
@@ -93,6 +101,19 @@ fn fill_front<T: Lanes>(slice: &[T], from: usize, high: usize) -> (u64, usize)
         }
     }
     fill_rest(slice, at, high)
+}
+
+/// A mask of the pairs from the place `from` on, up to the first that differs.
+#[inline]
+fn scan_front<T: Lanes>(slice: &[T], from: usize, high: usize) -> (u64, usize)
+    requires order { from < high }
+    requires inside { high ≤ length slice.now }
+    ensures mask { FrontMask T.eq slice.now from result.0 result.1 }
+    ensures within { result.1 < high }
+    ensures all { result.0 ≡ 0 → result.1 + 1 ≡ high }
+{
+    let end = like_by_vectors(&slice[from], slice, from + 1, high);
+    if end < high { (1 << 63, end) } else { (0, high - 1) }
 }
 
 /// A mask of the pairs from the place `from` on, where 63 are left at most.
@@ -135,6 +156,9 @@ fn fill_back<T: Lanes>(slice: &[T], low: usize, upto: usize) -> (u64, usize)
     }
     let mut at = upto;
     while 64 <= at - low {
+        if NEAR <= upto - at {
+            return scan_back(slice, low, at);
+        }
         at -= 64;
         let mask = block_back(slice, at);
         if mask != 0 {
@@ -142,6 +166,19 @@ fn fill_back<T: Lanes>(slice: &[T], low: usize, upto: usize) -> (u64, usize)
         }
     }
     fill_back_rest(slice, low, at)
+}
+
+/// A mask of the pairs before the place `upto`, down to the first that differs, or to `low`.
+#[inline]
+fn scan_back<T: Lanes>(slice: &[T], low: usize, upto: usize) -> (u64, usize)
+    requires order { low ≤ upto }
+    requires inside { upto < length slice.now }
+    ensures mask { BackMask T.eq slice.now (upto + 1) result.0 result.1 }
+    ensures within { low ≤ result.1 }
+    ensures all { result.0 ≡ 0 → result.1 ≡ low }
+{
+    let start = like_back_by_vectors(&slice[upto], slice, low, upto);
+    if low < start { (1 << 63, start - 1) } else { (0, low) }
 }
 
 /// A mask of the pairs before the place `upto`, from `low` on, where 63 are left at most.

@@ -48,7 +48,7 @@ fn like_from<T: PartialEq>(number: &T, slice: &[T], low: usize, len: usize, most
 /// The first place from `low` on whose element is not equal to the number, or `high`: by vectors, and one by one where less
 /// than a vector is left.
 #[inline]
-fn like_by_vectors<T: Lanes>(number: &T, slice: &[T], low: usize, high: usize) -> usize
+pub fn like_by_vectors<T: Lanes>(number: &T, slice: &[T], low: usize, high: usize) -> usize
     requires order { low ≤ high }
     requires inside { high ≤ length slice.now }
     ensures low { low ≤ result }
@@ -106,7 +106,7 @@ fn like_upto<T: PartialEq>(number: &T, slice: &[T], high: usize, len: usize, mos
 /// The place behind the last element before `high` that is not equal to the number, or `low`: by vectors, and one by one
 /// where less than a vector is left.
 #[inline]
-fn like_back_by_vectors<T: Lanes>(number: &T, slice: &[T], low: usize, high: usize) -> usize
+pub fn like_back_by_vectors<T: Lanes>(number: &T, slice: &[T], low: usize, high: usize) -> usize
     requires order { low ≤ high }
     requires inside { high ≤ length slice.now }
     ensures low { low ≤ result }

@@ -119,6 +119,14 @@ module _ {S Q A : Type 0} (may : S → Q → Type 0) (gives : S → Q → A → 
   abbrev pub AnsweredAt : S → ℕ → A → S → Type 0
   AnsweredAt s i a t = (q : Q) × (slice_get zs i ≡ Some q) × gives s q a t
 
+  -- the questions about the places of rs, in the order in which they were asked: each is allowed, and was answered as its place was
+  pub record QuestionsAt (allowed : Q → Type 0) (s : S) (rs : List (ℕ × A)) (t : S) : Type 0 where
+    pub questions : List (Q × A)
+    pub run : IsRun may gives s questions t
+    pub long : length questions ≡ length rs
+    pub about : AllByRecursion (λ q. allowed q.0) questions
+    pub beside : AllByRecursion (λ r. (q : Q) × (slice_get zs r.0 ≡ Some q) × Contains questions (q, r.1)) rs
+
   -- a search of the places from low on
   abbrev pub Searches : (A → Ordering) → SearchCost → ℕ → S → Result ℕ ℕ → S → Type 0
   Searches reads cost low s r t = IsPlaceSearch MayAskAt AnsweredAt reads cost low (length zs) s r t

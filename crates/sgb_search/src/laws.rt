@@ -1,17 +1,17 @@
 //! Laws of the definitions. Each is a function that does nothing: its contract is the law, and a caller cites it.
-ghost use Rattle.std.specs.Prelude.{cond, ◌≡◌, ℕ, ◌+◌, ◌-◌, ◌^◌, ◌<◌, ◌≤◌, ◌++◌, Bool, List, Some, length, map, take, drop, nat_lt};
+ghost use Rattle.std.specs.Prelude.{cond, ◌≡◌, ℕ, ◌+◌, ◌-◌, ◌^◌, ◌<◌, ◌≤◌, ◌++◌, Bool, List, Result, Some, length, map, take, drop, nat_lt};
 ghost use Rattle.sgb_search.specs.Calls.{ComputesBy, IsCallableBy};
-ghost use Rattle.std.specs.Fn.{ComputesKey, TakesAt, TakesAtTwo, Called, CalledAtTwo};
+ghost use Rattle.std.specs.Fn.{ComputesKey, TakesAt, TakesAtTwo, Called, CalledAt, CalledAtTwo};
 ghost use Rattle.std.specs.List.{AllByRecursion, Contains, slice_get, count_by, filter};
 ghost use Rattle.std.specs.Ordering.{flip_args, is_lt, is_eq, is_gt};
 ghost use Rattle.std.specs.declared.cmp.Ordering.{Ordering};
 ghost use Rattle.std.specs.declared.cmp.Ordering.TheVariants.{Less, Greater};
 ghost use Rattle.sgb_search.specs.declared.end.End.{End};
-ghost use Rattle.sgb_search.specs.Searching.{digits};
+ghost use Rattle.sgb_search.specs.Searching.{digits, QuestionsAt};
 ghost use Rattle.sgb_search.specs.Ranges.{AsksRange, IsRange};
 ghost use Rattle.sgb_search.specs.Split.{AreApart, neighbours, AreNeighbours, IsGrouped, IsSplit, concat, first, last, without_last, split, refused_pairs};
 ghost use Rattle.sgb_search.specs.Seams.{is_accepted_across, lens_joined, seam};
-ghost use Rattle.sgb_search.specs.Search.{IsCallableOn, ComputesOn, IsGap, IsLessEqualGreater, NeverDescends};
+ghost use Rattle.sgb_search.specs.Search.{IsCallableOn, ComputesOn, IsGap, IsLessEqualGreater, IsSearch, NeverDescends};
 ghost use Rattle.sgb_search.specs.Linear.{questions};
 ghost use Rattle.sgb_search.specs.Judges.{IsRunOf, by_predicate, predicate_judge, CalledAtChar, by_key, key_judge, by_char_predicate, char_predicate_judge, by_char_key, char_key_judge, by_equality};
 ghost use Rattle.sgb_search.specs.declared.judge.EqualityJudge.{EqualityJudge};
@@ -243,6 +243,14 @@ pub fn gap_parts<T>()
         → AllByRecursion (λ x. ord x ≡ Less) (take i xs) }
     ensures after { (ord : T → Ordering) (xs : List T) (i : ℕ) → IsGap ord xs i
         → AllByRecursion (λ x. ord x ≡ Greater) (drop i xs) }
+{}
+
+/// A search of a slice as the calls that it made. Its contract speaks of the places that it asked about, and of their answers. This
+/// law gives the run of calls: one for each of these places, in that order, on the element there, with that answer.
+pub fn searches_call<T, K, F: FnMut(&T) -> K>(_f: &F)
+    ensures { (reads : K → Ordering) (xs : List T) (f t : F) (found : Result ℕ ℕ)
+        → (search : IsSearch F.FnMut xs reads f found t)
+        → QuestionsAt (TakesAt F.FnMut) (CalledAt F.FnMut) xs (Contains xs) f search.questions t }
 {}
 
 /// Of a slice of which a function's answers read as `Less`, then `Equal`, then `Greater`, the elements that a search for the range

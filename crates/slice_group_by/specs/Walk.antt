@@ -1,6 +1,6 @@
 -- What one call of a queue of groups does, and what a list of calls does.
 use Rattle.std.specs.Prelude.{◌≡◌, Bool, List, [], ◌∷◌, ◌++◌, Option, None, Some, reverse}
-use Rattle.std.specs.Borrow.{GName, MutBor}
+use Rattle.std.specs.Borrow.{GName}
 use Rattle.sgb_loans.specs.declared.loans.Loans.{Loans}
 use Rattle.sgb_search.specs.Split.{concat, IsSplit}
 use Rattle.slice_group_by.specs.Queue.{pops, after_pops}
@@ -39,12 +39,12 @@ pub record AnswersAsQueue {A : Type 0} (p : A → A → Bool) (xs : List A) (end
   pub gave : groups ≡ pops ps ends
   pub rest : IsSplit p ys (after_pops ps ends)
 
--- the groups for writing that the calls gave, each with the end that it came off
-abbrev pub handed_out : {T : Type 0} → List End → List (Option (MutBor (List T))) → List (End × GName)
-handed_out (e ∷ es) (Some x ∷ os) = (e, x.ghost_name) ∷ handed_out es os
-handed_out (e ∷ es) (None ∷ os) = handed_out es os
-handed_out [] os = []
-handed_out (e ∷ es) [] = []
+-- the parts that the calls gave, each by its name and with the end that it came off
+abbrev pub handed_out : {X : Type 0} → (X → GName) → List End → List (Option X) → List (End × GName)
+handed_out name (e ∷ es) (Some x ∷ os) = (e, name x) ∷ handed_out name es os
+handed_out name (e ∷ es) (None ∷ os) = handed_out name es os
+handed_out name [] os = []
+handed_out name (e ∷ es) [] = []
 
 -- these parts are out with those that were out before, in this order, and nothing else of what the slice ends as has changed
 pub record HandsOutAll {T : Type 0} (l : Loans T) (parts : List (End × GName)) (m : Loans T) : Type 0 where

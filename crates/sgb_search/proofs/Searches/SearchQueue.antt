@@ -9,7 +9,7 @@ use Rattle.sgb_search.specs.Split.{on_pairs, from, put_at, last, without_last, I
 use Rattle.sgb_search.specs.declared.end.End.{End}
 use Rattle.sgb_search.specs.declared.end.End.TheVariants.{Front, Back}
 use Rattle.sgb_search.specs.Calls.{IsGroupAt, CallAt, Groups, ComputesBy, IsCallableBy}
-use Rattle.sgb_search.specs.Searching.{SearchCost, IsWithin, IsBetween, IsLowEnd, IsHighEnd, as_ordering, outward, IsLocalEnd, IsSettledApart, SearchQuestions}
+use Rattle.sgb_search.specs.Searching.{SearchCost, IsWithin, IsBetween, IsLowEnd, IsHighEnd, as_ordering, outward, QuestionsAt, IsLocalEnd, IsSettledApart, SearchQuestions}
 use Rattle.sgb_search.specs.Search.{AnswersAt}
 use Rattle.sgb_search.proofs.Lists.Ends.{length-from, length-put_at}
 use Rattle.sgb_search.proofs.Lists.Apart.{outward_len, outward_of, outward_apart, get_reverse, apart_of_rest}
@@ -19,7 +19,7 @@ use Rattle.sgb_search.proofs.Splits.Split.{takes_piece, takes_nothing}
 use Rattle.std.specs.declared.cmp.Ordering.{Ordering}
 use Rattle.std.specs.declared.cmp.Ordering.TheVariants.{Less, Greater}
 use Rattle.sgb_search.specs.Judges.{IsRunOf, Computes, AsksWithin}
-use Rattle.sgb_search.proofs.Questions.AtPlaces.{AskedAt, asked_at, answered_by}
+use Rattle.sgb_search.proofs.Questions.AtPlaces.{asked_at, answered_by}
 use Rattle.sgb_search.proofs.Searches.Boundaries.{tells_more, one_answer, answers_once, side_before, side_after}
 use Rattle.sgb_search.proofs.Questions.Calls as calls
 use Rattle.sgb_search.proofs.Questions.Calls.{AsksAllowed, nothing_asked}
@@ -27,7 +27,7 @@ use Rattle.sgb_search.proofs.Questions.Calls.{AsksAllowed, nothing_asked}
 module _ {T J : Type 0} (g : Ghosts J T) (cost : SearchCost) (e : End) (xs : List T) (n : ℕ) (j k : J)
     (h : SearchQuestions g cost e xs n j k) where
   -- the questions of a call are about two different places
-  pub asked_apart : AskedAt g.may_ask g.answers (outward (from e xs)) (AreApart xs) j h.questions k
+  pub asked_apart : QuestionsAt g.may_ask g.answers (outward (from e xs)) (AreApart xs) j h.questions k
   asked_apart =
       asked_at g.may_ask g.answers (outward (from e xs)) (IsBetween 1 (length (outward (from e xs)))) (AreApart xs)
       (λ i q b. outward_apart e xs i q b.0) j h.questions k h.run h.places

@@ -1,16 +1,16 @@
 -- What a list of calls on groups for writing hands out.
 use Rattle.std.proofs.Common.{◌≡◌, List, [], ◌∷◌, ◌++◌, Option, None, Some, sym, ap, ◌∙◌, append-nil, append_assoc}
-use Rattle.std.specs.Borrow.{MutBor}
+use Rattle.std.specs.Borrow.{GName}
 use Rattle.sgb_search.specs.declared.end.End.{End}
 use Rattle.sgb_loans.specs.declared.loans.Loans.{Loans}
 use Rattle.sgb_loans.specs.Loans.{HandsOut}
 use Rattle.slice_group_by.specs.Walk.{IsChain, handed_out, HandsOutAll}
 
-module _ {S T : Type 0} (gives : End → S → Option (MutBor (List T)) → S → Type 0) (loans : S → Loans T)
-    (some : (e : End) (s : S) (x : MutBor (List T)) (t : S) → gives e s (Some x) t → HandsOut e (loans s) x.ghost_name (loans t))
+module _ {S T X : Type 0} (gives : End → S → Option X → S → Type 0) (loans : S → Loans T) (name : X → GName)
+    (some : (e : End) (s : S) (x : X) (t : S) → gives e s (Some x) t → HandsOut e (loans s) (name x) (loans t))
     (none : (e : End) (s t : S) → gives e s None t → t ≡ s) where
-  pub chain_hands_out : (es : List End) (os : List (Option (MutBor (List T)))) (s t : S) → IsChain gives s es os t
-      → HandsOutAll (loans s) (handed_out es os) (loans t)
+  pub chain_hands_out : (es : List End) (os : List (Option X)) (s t : S) → IsChain gives s es os t
+      → HandsOutAll (loans s) (handed_out name es os) (loans t)
   chain_hands_out [] [] s t h = record {
     root = ap (λ u. (loans u).root) h;
     before = ap (λ u. (loans u).before) h;
@@ -26,7 +26,7 @@ module _ {S T : Type 0} (gives : End → S → Option (MutBor (List T)) → S �
         root = more.root ∙ ap (λ u. (loans u).root) same;
         before = more.before ∙ ap (λ u. (loans u).before) same;
         after = more.after ∙ ap (λ u. (loans u).after) same;
-        cuts = more.cuts ∙ ap (λ u. (loans u).cuts ++ handed_out es os) same;
+        cuts = more.cuts ∙ ap (λ u. (loans u).cuts ++ handed_out name es os) same;
       }
   chain_hands_out (e ∷ es) (Some x ∷ os) s t h =
       let more = chain_hands_out es os h.0 t h.2 in
@@ -36,6 +36,6 @@ module _ {S T : Type 0} (gives : End → S → Option (MutBor (List T)) → S �
         before = more.before ∙ out.before;
         after = more.after ∙ out.after;
         cuts =
-            more.cuts ∙ ap (λ cs. cs ++ handed_out es os) out.cuts
-            ∙ append_assoc (loans s).cuts ((e, x.ghost_name) ∷ []) (handed_out es os);
+            more.cuts ∙ ap (λ cs. cs ++ handed_out name es os) out.cuts
+            ∙ append_assoc (loans s).cuts ((e, name x) ∷ []) (handed_out name es os);
       }

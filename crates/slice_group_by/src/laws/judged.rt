@@ -1,7 +1,7 @@
 //! What the groups of this library say beyond a queue: how their calls ask a judge, what they cut off a text, and what they hand
 //! out for writing. The laws that rest on it are stated once, for reading and writing, slices and texts.
-ghost use Rattle.std.specs.Prelude.{◌≡◌, ℕ, List, Option, None, Some, option_map, IfSome};
-ghost use Rattle.std.specs.Borrow.{MutBor};
+ghost use Rattle.std.specs.Prelude.{ℕ, List, Option, Some, option_map, IfSome};
+ghost use Rattle.std.specs.Borrow.{GName};
 ghost use Rattle.std.specs.Str.{IsUtf8};
 ghost use Rattle.sgb_search.specs.declared.end.End.{End};
 ghost use Rattle.sgb_search.specs.Split.{TakesPart};
@@ -41,11 +41,14 @@ pub trait OfText: GroupQueue {
 }
 
 /// Groups for writing: a call hands out a part of the input.
-pub trait Lends<'a, T: 'a>: GroupQueue<Item = &'a mut [T]> {
+pub trait Lends<T>: GroupQueue {
     // The parts of the input that are out.
     ghost loans: { Self → Loans T };
 
+    // The name of a group that a call has handed out.
+    ghost name: { Self.Item → GName };
+
     // A group that a call gives is out then, at that end.
-    ghost hands_out: { (e : End) (s : Self) (group : MutBor (List T)) (t : Self) → Self.GroupQueue.gives e s (Some group) t
-        → HandsOut e (loans s) group.ghost_name (loans t) };
+    ghost hands_out: { (e : End) (s : Self) (group : Self.Item) (t : Self) → Self.GroupQueue.gives e s (Some group) t
+        → HandsOut e (loans s) (name group) (loans t) };
 }

@@ -66,7 +66,7 @@ pub use sgb_search::laws::{
     callable_on_elements, callable_on_pairs, computes_on_char_pairs, computes_on_chars,
     computes_on_elements, computes_on_pairs, descending_is_grouped, digits_is_least,
     equality_judges, first_group_agrees, gap_parts, one_split, parts_are_grouped, question_count,
-    range_parts, range_starts, splits_join,
+    range_parts, range_starts, searches_call, splits_join,
 };
 pub use sorted::{is_sorted_for_groups, sorted_by_key_ascends, sorts_ascend};
 
@@ -203,9 +203,9 @@ pub fn characters_fit()
 /// What a list of calls on groups for writing, as those of `walk`, has handed out: each group that a call gave stands at the end
 /// of `cuts`, in the order of the calls, with its end; and nothing else of what the input ends as has changed. So once these are
 /// noted, `finish` says what the input ends as.
-pub fn chains_hand_out<'a, T: 'a, S: Lends<'a, T>>(_groups: &S)
-    ensures { (s t : S) (ends : List End) (out : List (Option (MutBor (List T)))) → IsChain S.GroupQueue.gives s ends out t
-        → HandsOutAll (S.loans s) (handed_out ends out) (S.loans t) }
+pub fn chains_hand_out<T, S: Lends<T>>(_groups: &S)
+    ensures { (s t : S) (ends : List End) (out : List (Option S.Item)) → IsChain S.GroupQueue.gives s ends out t
+        → HandsOutAll (S.loans s) (handed_out S.name ends out) (S.loans t) }
 {}
 
 /// No plan of questions has a smaller worst case than halving: each that answers every length from 1 up to n rightly asks

@@ -148,8 +148,10 @@ impl<'a, T, J: Judge<T> + Drop, W: Way> Judged<T, J, W> for SliceGroupsMut<'a, T
     ghost call = { λ e s group t h. h.0 };
 }
 
-impl<'a, T: 'a, J: Judge<T> + Drop, W: Way> Lends<'a, T> for SliceGroupsMut<'a, T, J, W> {
+impl<'a, T, J: Judge<T> + Drop, W: Way> Lends<T> for SliceGroupsMut<'a, T, J, W> {
     ghost loans = { λ s. s.loans };
+
+    ghost name = { λ group. group.ghost_name };
 
     ghost hands_out = { λ e s group t h. h.1 };
 }

@@ -170,8 +170,10 @@ impl<'a, J: TextJudge + Drop> OfText for LinearStrGroupsMut<'a, J> {
     ghost utf8 = { λ e s group t h. queue.group_utf8 J.Judge e text_groups_of_mut (λ x. x.now) s group t h.0 };
 }
 
-impl<'a, J: TextJudge + Drop> Lends<'a, u8> for LinearStrGroupsMut<'a, J> {
+impl<'a, J: TextJudge + Drop> Lends<u8> for LinearStrGroupsMut<'a, J> {
     ghost loans = { λ s. s.loans };
+
+    ghost name = { λ group. group.ghost_name };
 
     ghost hands_out = { λ e s group t h. h.1 };
 }

@@ -13,6 +13,11 @@ returns-clause-asks g c e s t group h =
       (asked_within g.J.Judge g.S.GroupSearch.cost e _ _ _ _ call).call,
     )
 
+pub returns-clause-questions : goal.returns-clause-questions
+returns-clause-questions g c e s t group h =
+    let call = (g.met.G.Judged.call e s (Some group) t h).asked in
+    (call, asked_apart g.J.Judge g.S.GroupSearch.cost e _ _ _ _ call)
+
 pub returns-clause-counts : goal.returns-clause-counts
 returns-clause-counts g c count name each step e s t None h most few =
     let same = (g.met.G.Judged.call e s None t h).1 in
