@@ -47,7 +47,7 @@ numbers! {
     u8 number_u8_front number_u8_back;
     u32 number_u32_front number_u32_back;
     u64 number_u64_front number_u64_back;
-    i32 number_i32_front number_i32_back;
+    f64 number_f64_front number_f64_back;
 }
 
 extern "C" {

@@ -85,10 +85,15 @@ fn writing(rounds: usize, what: &str, ours: ffi::Write, name: &str, peer: fn(&mu
     }
 }
 
-const NUMBER_LENGTHS: [Lengths; 6] = [
+const NUMBER_LENGTHS: [Lengths; 11] = [
     Lengths::Each(1),
-    Lengths::Around(8),
+    Lengths::Around(2),
+    Lengths::Each(2),
+    Lengths::Around(4),
     Lengths::Each(8),
+    Lengths::Around(8),
+    Lengths::Each(9),
+    Lengths::Around(16),
     Lengths::Around(100),
     Lengths::Each(1000),
     Lengths::Each(100_000),
@@ -113,7 +118,7 @@ fn all_numbers(rounds: usize) {
     numbers(rounds, "u8", |x| x as u8, [ffi::number_u8_front, ffi::number_u8_back]);
     numbers(rounds, "u32", |x| x, [ffi::number_u32_front, ffi::number_u32_back]);
     numbers(rounds, "u64", u64::from, [ffi::number_u64_front, ffi::number_u64_back]);
-    numbers(rounds, "i32", |x| x as i32, [ffi::number_i32_front, ffi::number_i32_back]);
+    numbers(rounds, "f64", f64::from, [ffi::number_f64_front, ffi::number_f64_back]);
 }
 
 /// The texts of a row: of characters of one byte, and of one to four.

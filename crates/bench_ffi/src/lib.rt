@@ -7,9 +7,6 @@
 ghost use Rattle.std.specs.Prelude.{◌≡◌};
 ghost use Rattle.std.specs.Str.{IsUtf8};
 
-#[cfg(test)]
-mod tests;
-
 use slice_group_by::{
     BinaryGroup, BinaryGroupBy, BinaryGroupByKey, BinaryGroupByKeyMut, BinaryGroupByMut,
     BinaryGroupMut, ExponentialGroup, ExponentialGroupBy, ExponentialGroupByKey,
@@ -133,12 +130,12 @@ pub extern "C" fn number_u64_back(xs: &[u64]) -> usize {
 }
 
 #[unsafe(no_mangle)]
-pub extern "C" fn number_i32_front(xs: &[i32]) -> usize {
+pub extern "C" fn number_f64_front(xs: &[f64]) -> usize {
     lengths!(LinearNumberGroup::new(xs))
 }
 
 #[unsafe(no_mangle)]
-pub extern "C" fn number_i32_back(xs: &[i32]) -> usize {
+pub extern "C" fn number_f64_back(xs: &[f64]) -> usize {
     lengths!(LinearNumberGroup::new(xs).rev())
 }
 

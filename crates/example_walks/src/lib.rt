@@ -9,6 +9,5 @@ pub mod families;
 pub mod folds;
 pub mod loops;
 pub mod offsets;
-pub mod plans;
 pub mod texts;
 pub mod writers;

@@ -5,8 +5,7 @@ use Rattle.std.proofs.lemmas.Bool.{not-true, not-false}
 use Rattle.std.proofs.lemmas.List.{length-map, length-reverse, reverse-append, map-append, get_or-reverse, get_or-take, get_or-drop}
 use Rattle.sgb_search.specs.declared.end.End.TheVariants.{Front, Back}
 use Rattle.sgb_search.specs.Split.{neighbours, on_pairs}
-use Rattle.sgb_search.specs.Runs.{IsRun}
-use Rattle.sgb_search.specs.Questions.{all_answered, questions}
+use Rattle.sgb_search.specs.Questions.{IsRun, all_answered, questions}
 use Rattle.sgb_search.proofs.Lists.Ranges.{length-range}
 use Rattle.sgb_search.proofs.Lists.Pairs.{length-neighbours}
 use Rattle.sgb_numbers.specs.Numbers.{by_number}

@@ -8,8 +8,7 @@ use Rattle.std.specs.declared.cmp.PartialEq.{Ghosts}
 use Rattle.sgb_search.specs.declared.end.End.TheVariants.{Front, Back}
 use Rattle.sgb_search.specs.Calls.{IsGroupAt, Place, place_after}
 use Rattle.sgb_search.specs.Linear.{LinearQuestions}
-use Rattle.sgb_search.specs.Runs.{IsRun}
-use Rattle.sgb_search.specs.Questions.{questions}
+use Rattle.sgb_search.specs.Questions.{IsRun, questions}
 use Rattle.sgb_search.proofs.Lists.Ranges.{length-range}
 use Rattle.sgb_numbers.specs.Numbers.{by_number}
 use Rattle.sgb_numbers.specs.declared.number_judge.NumberJudge.{NumberJudge}

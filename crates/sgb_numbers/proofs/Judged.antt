@@ -1,6 +1,6 @@
 -- The judge of equal numbers may always be asked, and answers what equality says.
 use Rattle.std.specs.Prelude.{Bool, ⊤}
-use Rattle.sgb_search.specs.Runs.{IsCallable, Computes}
+use Rattle.sgb_search.specs.Questions.{IsCallable, Computes}
 use Rattle.sgb_search.specs.Split.{on_pairs}
 use Rattle.sgb_search.proofs.Questions.Runs.{answers_by}
 use Rattle.sgb_numbers.specs.Numbers.{by_number}

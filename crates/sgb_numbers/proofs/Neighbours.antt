@@ -8,8 +8,7 @@ use Rattle.std.proofs.lemmas.List.{get_or_default}
 use Rattle.sgb_search.specs.declared.end.End.TheVariants.{Front, Back}
 use Rattle.sgb_numbers.specs.Alike.{AreLike, IsFirstLen, IsLastLen}
 use Rattle.sgb_search.specs.Split.{neighbours}
-use Rattle.sgb_search.specs.Runs.{IsRun}
-use Rattle.sgb_search.specs.Questions.{questions}
+use Rattle.sgb_search.specs.Questions.{IsRun, questions}
 use Rattle.sgb_search.proofs.Lists.Ranges.{length-range, get_or-range}
 use Rattle.sgb_search.proofs.Lists.Pairs.{PairAt, neighbours_at, at_reverse, length-neighbours}
 use Rattle.sgb_search.proofs.Linear.Scanning.{Accepted, accepted_none, accepted_more, refused_next, accepted_all, back_pairs}

@@ -2,7 +2,6 @@
 #![tactic(auto)]
 
 pub mod lanes;
-pub mod laws;
 pub mod number_judge;
 pub mod scans;
 mod signed;

@@ -1,5 +1,4 @@
 pub mod Split
-pub mod Runs
 pub mod Questions
 pub mod Judges
 pub mod Calls

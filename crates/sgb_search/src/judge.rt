@@ -13,8 +13,7 @@ use std::marker::{Model, PhantomData};
 pub trait Judge<T> {
     ghost use Rattle.std.specs.Prelude.{◌<◌, ◌≤◌, length, slice_range};
     ghost use Rattle.sgb_search.specs.declared.end.End.TheVariants.{Front, Back};
-    ghost use Rattle.sgb_search.specs.Runs.{IsRun, IsCallable};
-    ghost use Rattle.sgb_search.specs.Questions.{questions};
+    ghost use Rattle.sgb_search.specs.Questions.{IsRun, IsCallable, questions};
     ghost use Rattle.sgb_search.specs.Split.{AreNeighbours};
 
     // The judge may be asked about the pair.

@@ -102,15 +102,6 @@ pub fn callable_now<T, F: Fn(&T) -> K, K>(_f: &F)
     ensures { (xs : List T) (f : F) → ((x : T) → Contains xs x → TakesAt F.FnMut f x) → IsCallableOn F.FnMut xs f }
 {}
 
-/// A predicate that is an `Fn` stays as it is when it is called: where it may be called now on each neighbouring pair, the left
-/// element first, or on every two different places, in both orders, its judge may be asked about them.
-pub fn callable_now_on_pairs<T, P: Fn(&T, &T) -> bool>(_p: &P)
-    ensures along { (xs : List T) (p : P) → ((q : T × T) → AreNeighbours xs q → TakesAtTwo P.FnMut p q.0 q.1)
-        → IsCallableBy AreNeighbours (by_predicate P.FnMut) (record { remainder = xs; judge = predicate_judge p }) }
-    ensures apart { (xs : List T) (p : P) → ((q : T × T) → AreApart xs q → TakesAtTwo P.FnMut p q.0 q.1)
-        → IsCallableBy AreApart (by_predicate P.FnMut) (record { remainder = xs; judge = predicate_judge p }) }
-{}
-
 /// A predicate that may be called in each of its states on each neighbouring pair of a slice, the left element first, or on every
 /// two different places, in both orders: its judge may be asked about them.
 pub fn callable_on_pairs<T, P: FnMut(&T, &T) -> bool>()
@@ -234,15 +225,6 @@ pub fn parts_are_grouped<T>()
 pub fn digits_is_least()
     ensures above { (m : ℕ) → m < 2 ^ digits m }
     ensures least { (m d : ℕ) → m < 2 ^ d → digits m ≤ d }
-{}
-
-/// What an `Err(i)` of a search says, as two facts: the comparator answers `Less` of the first i elements, and `Greater` of the
-/// others.
-pub fn gap_parts<T>()
-    ensures before { (ord : T → Ordering) (xs : List T) (i : ℕ) → IsGap ord xs i
-        → AllByRecursion (λ x. ord x ≡ Less) (take i xs) }
-    ensures after { (ord : T → Ordering) (xs : List T) (i : ℕ) → IsGap ord xs i
-        → AllByRecursion (λ x. ord x ≡ Greater) (drop i xs) }
 {}
 
 /// A search of a slice as the calls that it made. Its contract speaks of the places that it asked about, and of their answers. This

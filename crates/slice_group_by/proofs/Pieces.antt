@@ -3,5 +3,4 @@ pub mod Ranks
 pub mod TextParts
 pub mod WrittenPieces
 pub mod PiecesOfLists
-pub mod Partitioned
 pub mod Adjacent

@@ -1,7 +1,6 @@
 -- Plans of questions that find how long the first piece of a grouped slice is, by comparing its first element with others.
 --     run plan l            what the plan answers where the piece has l elements, and after how many questions
---     IsHalvingPlan         a plan that halves
-use Rattle.std.specs.Prelude.{◌≡◌, ℕ, ◌+◌, ◌-◌, ◌/◌, ◌<◌, ◌≤◌, ◌⊎◌, ◌≢◌, cond, nat_lt}
+use Rattle.std.specs.Prelude.{◌≡◌, ℕ, ◌+◌, ◌-◌, ◌<◌, ◌≤◌, ◌⊎◌, ◌≢◌, cond, nat_lt}
 use Rattle.slice_group_by.specs.declared.laws.plans.Plan.{Plan}
 use Rattle.slice_group_by.specs.declared.laws.plans.Plan.TheVariants.{Answer, Ask'}
 use Rattle.sgb_search.specs.Searching.{digits}
@@ -18,10 +17,3 @@ IsRight plan low high = (l : ℕ) → low ≤ l → l ≤ high → (run plan l).
 -- where the piece has l of at most n elements, the plan is wrong, or asks no less than halving may
 abbrev pub IsRefuted : Plan → ℕ → ℕ → Type 0
 IsRefuted plan n l = ((run plan l).0 ≢ l) ⊎ (digits (n - 1) ≤ (run plan l).1)
-
--- the plan halves the lengths from low up to high: it answers where one is left, and else asks about the middle one and halves on both
--- sides
-abbrev pub IsHalvingPlan : ℕ → ℕ → Plan → Type 0
-IsHalvingPlan low high (Answer a) = (low ≡ high) × (a ≡ low)
-IsHalvingPlan low high (Ask' q _ more _ less) =
-    (low < high) × (q ≡ low + (high - low) / 2) × IsHalvingPlan (q + 1) high more × IsHalvingPlan low q less

@@ -1,4 +1,4 @@
--- What a plan of questions costs: an adversary, and halving.
+-- What a plan of questions costs: an adversary.
 use Rattle.std.specs.Prelude.{◌≡◌, ◌≢◌, ℕ, ◌+◌, ◌-◌, ◌<◌, ◌≤◌, ◌⊎◌, Bool, cond}
 use Rattle.std.proofs.Common.{◌*◌, refl, sym, ap, arith, ◌∙◌, inl, inr}
 use borrow.Author.Tests.{lt-ltb, le-ltb}
@@ -7,7 +7,7 @@ use Rattle.slice_group_by.specs.declared.laws.plans.Plan.{Plan}
 use Rattle.slice_group_by.specs.declared.laws.plans.Plan.TheVariants.{Answer, Ask'}
 use Rattle.sgb_search.specs.Searching.{digits}
 use Rattle.sgb_search.proofs.Searches.Digits.{digits_double, digits_half, digits_le_self}
-use Rattle.slice_group_by.specs.Plans.{run, IsRight, IsRefuted, IsHalvingPlan}
+use Rattle.slice_group_by.specs.Plans.{run, IsRight, IsRefuted}
 
 -- after k questions the plan goes on as current, at each length from low up to high, both among them
 pub record Narrowed (plan : Plan) (n low high : ℕ) (current : Plan) (k : ℕ) : Type 0 where
@@ -143,20 +143,3 @@ right_plan_asks plan n h right = let w = worst plan 1 n (omega arith) in (w.0, w
     by : (l : ℕ) → 1 ≤ l → l ≤ n → ((run plan l).0 ≢ l) ⊎ (digits (n - 1) ≤ (run plan l).1) → digits (n - 1) ≤ (run plan l).1
     by l a b (inl f) = absurd (f (right l a b))
     by l a b (inr m) = m
-
--- and a plan that halves is right, and asks no more anywhere
-pub halving_right : (plan : Plan) (low high : ℕ) → IsHalvingPlan low high plan → (l : ℕ) → low ≤ l → l ≤ high
-    → ((run plan l).0 ≡ l) × ((run plan l).1 ≤ digits (high - low))
-halving_right (Answer a) low high h l x y = (omega (arith, h), omega arith)
-halving_right (Ask' q p more r less) low high h l x y =
-    elim (cases_lt q l) as (λ _. ((run (Ask' q p more r less) l).0 ≡ l) × ((run (Ask' q p more r less) l).1 ≤ digits (high - low))) [
-      | inl a ↦
-          let same = runs_more q p more r less (Ask' q p more r less) refl l a in
-          let i = halving_right more (q + 1) high h.2 l (omega arith) y in
-          let half = digits_half (high - low) (high - (q + 1)) (omega (arith, h.0)) (omega (arith, h.0, h.1)) in
-          (same.0 ∙ i.0, omega (arith, same.1, i.1, half))
-      | inr a ↦
-          let same = runs_less q p more r less (Ask' q p more r less) refl l a in
-          let i = halving_right less low q h.3 l x a in
-          (same.0 ∙ i.0, omega (arith, same.1, i.1, digits_half (high - low) (q - low) (omega (arith, h.0)) (omega (arith, h.0, h.1))))
-    ]

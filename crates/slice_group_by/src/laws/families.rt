@@ -16,10 +16,7 @@ ghost use Rattle.slice_group_by.specs.Walk.{IsChain};
 use crate::laws::judged::Judged;
 use crate::laws::queue::GroupQueue;
 use sgb_groups::searching::{GroupSearch, Search};
-use sgb_linear_group::linear_group::Linear;
-use sgb_numbers::lanes::Lanes;
-use sgb_numbers::number_judge::NumberJudge;
-use sgb_search::judge::{EqualityJudge, Judge};
+use sgb_search::judge::Judge;
 use std::slice::ChunkBy;
 
 /// The families agree: any two queues of groups that are settled for one test, of equal remainders, give groups of equal elements to
@@ -34,19 +31,6 @@ pub fn families_agree<T, Q: GroupQueue<Element = T>, R: GroupQueue<Element = T>>
         → Q.is_settled q p → R.is_settled r p → Q.remainder q ≡ R.remainder r
         → IsChain Q.gives q ends out q' → IsChain R.gives r ends other r'
         → map (option_map Q.shows) out ≡ map (option_map R.shows) other }
-{}
-
-/// Numbers compared by vectors fall into the same groups: `LinearNumberGroup` and `LinearGroup`, where equal elements remain of both,
-/// give groups of equal elements to equal lists of calls, for reading or writing.
-pub fn numbers_agree<
-    T: Lanes,
-    N: Judged<T, NumberJudge, Linear>,
-    G: Judged<T, EqualityJudge, Linear>,
->(_numbers: &N, _elements: &G)
-    ensures { (q q' : N) (r r' : G) (ends : List End) (out : List (Option N.Item)) (other : List (Option G.Item))
-        → (N.groups q).remainder ≡ (G.groups r).remainder
-        → IsChain N.GroupQueue.gives q ends out q' → IsChain G.GroupQueue.gives r ends other r'
-        → map (option_map N.GroupQueue.shows) out ≡ map (option_map G.GroupQueue.shows) other }
 {}
 
 /// The standard library agrees: by its own contract, `chunk_by` with a predicate that computes a test gives the pieces of the one

@@ -19,7 +19,7 @@ ghost use Rattle.sgb_search.specs.declared.end.End.TheVariants.{Front, Back};
 ghost use Rattle.sgb_search.specs.Linear.{AsksEachOnce};
 ghost use Rattle.sgb_search.specs.Searching.{digits};
 ghost use Rattle.slice_group_by.specs.declared.laws.plans.Plan.{Plan};
-ghost use Rattle.slice_group_by.specs.Plans.{run, IsRight, IsHalvingPlan};
+ghost use Rattle.slice_group_by.specs.Plans.{run, IsRight};
 ghost use Rattle.slice_group_by.specs.Walk.{Partition, IsChain, handed_out, HandsOutAll};
 ghost use Rattle.slice_group_by.specs.Queue.{pops, after_pops};
 
@@ -42,11 +42,10 @@ pub use counts::{
     calls_ask, comparisons_count, key_calls_count, linear_counts, mapped_calls_ask,
     questions_count, range_calls_count, search_asks,
 };
-pub use families::{chunk_by_agrees, families_agree, groups_end_locally, numbers_agree};
+pub use families::{chunk_by_agrees, families_agree, groups_end_locally};
 pub use judged::{Judged, Lends, OfText};
 pub use pieces::{
-    equal_pieces_are_copies, partitioned_pieces, pieces_add_up, pieces_begin_as_dedup,
-    pieces_by_key,
+    equal_pieces_are_copies, pieces_add_up, pieces_begin_as_dedup, pieces_by_key,
 };
 pub use plans::{Plan, refute};
 use queue::GroupQueue;
@@ -57,15 +56,14 @@ pub use sgb_merge_join::laws::{
     merges_count, merges_exist, merges_may_go_on, parts_or_empty, sees_merge, sees_merge_by_keys,
     sees_merge_in_order, semi_joins_are_filters, unions_ascend,
 };
-pub use sgb_numbers::laws::number_judges;
 use sgb_search::judge::Judge;
 pub use sgb_search::laws::{
     always_callable, always_callable_apart, always_callable_char_key, always_callable_chars,
     always_callable_key, always_callable_key_apart, always_callable_on_elements, always_computes,
-    ascending_is_grouped, ascending_is_searchable, callable_now, callable_now_on_pairs,
-    callable_on_elements, callable_on_pairs, computes_on_char_pairs, computes_on_chars,
+    ascending_is_grouped, ascending_is_searchable, callable_now, callable_on_elements,
+    callable_on_pairs, computes_on_char_pairs, computes_on_chars,
     computes_on_elements, computes_on_pairs, descending_is_grouped, digits_is_least,
-    equality_judges, first_group_agrees, gap_parts, one_split, parts_are_grouped, question_count,
+    equality_judges, first_group_agrees, one_split, parts_are_grouped, question_count,
     range_parts, range_starts, searches_call, splits_join,
 };
 pub use sorted::{is_sorted_for_groups, sorted_by_key_ascends, sorts_ascend};
@@ -149,14 +147,6 @@ pub fn groups_join<Q: GroupQueue>(_queue: &Q)
         → concat (from e (map Q.shows groups)) ≡ Q.remainder q }
 {}
 
-/// Front and back agree: the groups from the back until nothing remains are, in reverse, those from the front, for every
-/// test that the queue is settled for, also one that is not symmetric.
-pub fn ends_agree<Q: GroupQueue>(_queue: &Q)
-    ensures { (p : Q.Element → Q.Element → Bool) (q s t : Q) (fronts backs : List Q.Item) → Q.is_settled q p
-        → Yields (Q.gives Front) q fronts s → Q.remainder s ≡ [] → Yields (Q.gives Back) q backs t
-        → Q.remainder t ≡ [] → reverse (map Q.shows backs) ≡ map Q.shows fronts }
-{}
-
 /// How many groups come, whatever the judge answers: no more than elements go, at least one before nothing remains of a
 /// nonempty remainder, and as many calls as there are elements leave nothing.
 pub fn groups_still_come<Q: GroupQueue>(_queue: &Q)
@@ -215,9 +205,3 @@ pub fn right_plans_ask()
         → (l : ℕ) × (1 ≤ l) × (l ≤ n) × (digits (n - 1) ≤ (run plan l).1) }
 {}
 
-/// A plan that halves the lengths from 1 up to n answers each of them rightly, and asks at most `digits(n - 1)` questions at
-/// each.
-pub fn halving_plans_ask()
-    ensures right { (plan : Plan) (n : ℕ) → IsHalvingPlan 1 n plan → IsRight plan 1 n }
-    ensures most { (plan : Plan) (n l : ℕ) → IsHalvingPlan 1 n plan → 1 ≤ l → l ≤ n → (run plan l).1 ≤ digits (n - 1) }
-{}

@@ -1,11 +1,10 @@
 //! Laws of the pieces of a list.
-ghost use Rattle.std.specs.Bool.{beq};
-ghost use Rattle.std.specs.Prelude.{◌≡◌, ℕ, ◌<◌, Bool, true, false, not, nat_lt, List, [], ◌∷◌, ◌++◌, length, get_or, map, replicate, sum_by, Some, slice_get};
-ghost use Rattle.std.specs.List.{AllByRecursion, Contains, dedup, filter};
-ghost use Rattle.std.specs.List.Sorted.{IsPartitionedBy, IsStrictlySortedBy};
+ghost use Rattle.std.specs.Prelude.{◌≡◌, ℕ, ◌<◌, Bool, true, List, length, get_or, map, replicate, sum_by, Some, slice_get};
+ghost use Rattle.std.specs.List.{AllByRecursion, Contains, dedup};
+ghost use Rattle.std.specs.List.Sorted.{IsStrictlySortedBy};
 ghost use Rattle.std.specs.declared.cmp.Ordering.TheVariants.{Less};
 ghost use Rattle.sgb_search.specs.Search.{NeverDescends};
-ghost use Rattle.sgb_search.specs.Split.{IsGrouped, first, split};
+ghost use Rattle.sgb_search.specs.Split.{first, split};
 
 /// The elements of a piece by keys have one key. In a list that ascends by that key the pieces ascend strictly: each element of
 /// a piece has a lesser key than each of a later one, so that no key has two pieces; and the keys of their first elements, which
@@ -48,19 +47,3 @@ pub fn pieces_add_up<T>()
     ensures sums { (p : T → T → Bool) (f : T → ℕ) (xs : List T) → sum_by (λ g. sum_by f g) (split p xs) ≡ sum_by f xs }
 {}
 
-/// A list in which no element that passes a test comes after one that fails it, as `partition_point` wants it, is grouped by whether
-/// they pass. Its pieces are those that pass and those that fail, as the standard library's `filter` gives them, where there are
-/// any; and the two are the list. The first element says which piece comes first.
-pub fn partitioned_pieces<T>()
-    ensures grouped { (test : T → Bool) (xs : List T) → IsPartitionedBy test xs
-        → IsGrouped (λ x y. beq (test x) (test y)) xs }
-    ensures pieces { (test : T → Bool) (xs : List T) → IsPartitionedBy test xs → split (λ x y. beq (test x) (test y)) xs
-        ≡ filter (λ g. nat_lt 0 (length g)) (filter test xs ∷ filter (λ x. not (test x)) xs ∷ []) }
-    ensures covers { (test : T → Bool) (xs : List T) → IsPartitionedBy test xs
-        → filter test xs ++ filter (λ x. not (test x)) xs ≡ xs }
-    ensures first { (test : T → Bool) (xs : List T) (x : T) → IsPartitionedBy test xs
-        → slice_get xs 0 ≡ Some x → test x ≡ true
-        → first (split (λ x y. beq (test x) (test y)) xs) ≡ Some (filter test xs) }
-    ensures none { (test : T → Bool) (xs : List T) → IsPartitionedBy test xs
-        → ((x : T) → slice_get xs 0 ≡ Some x → test x ≡ false) → filter test xs ≡ [] }
-{}

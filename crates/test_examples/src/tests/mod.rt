@@ -14,7 +14,6 @@ mod loops;
 mod offsets;
 mod parts;
 mod pieces;
-mod plans;
 mod queues;
 mod restricted;
 mod texts;

@@ -1,5 +1,5 @@
 use Rattle.std.proofs.Common.{◌-◌, ◌<◌, ◌≤◌, reverse}
-use Rattle.sgb_search.specs.Runs.{IsCallable}
+use Rattle.sgb_search.specs.Questions.{IsCallable}
 use Rattle.std.specs.Prelude.{slice_range}
 use Rattle.sgb_search.specs.Split.{neighbours, AreNeighbours}
 use Rattle.sgb_search.proofs.Linear.Scanning.{Accepted}

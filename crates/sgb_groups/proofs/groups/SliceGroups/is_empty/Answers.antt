@@ -1,5 +1,0 @@
-use Rattle.std.proofs.Common.{rules}
-use Rattle.sgb_groups.proofs.groups.SliceGroups.is_empty.Goals as goal
-
-pub returns : goal.returns
-returns g c = search rules

@@ -1,5 +1,0 @@
-use Rattle.std.proofs.Common.{rules}
-use Rattle.sgb_groups.proofs.groups_mut.SliceGroupsMut.into_parts.Goals as goal
-
-pub returns-clause-remainder : goal.returns-clause-remainder
-returns-clause-remainder g c = search rules

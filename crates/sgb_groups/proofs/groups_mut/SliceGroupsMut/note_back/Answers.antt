@@ -1,5 +1,0 @@
-use Rattle.std.proofs.Common.{rules}
-use Rattle.sgb_groups.proofs.groups_mut.SliceGroupsMut.note_back.Goals as goal
-
-pub returns-clause-before : goal.returns-clause-before
-returns-clause-before g c = search rules

@@ -1,5 +1,0 @@
-use Rattle.std.proofs.Common.{rules}
-use Rattle.sgb_groups.proofs.groups_mut.SliceGroupsMut.remainder.Goals as goal
-
-pub returns : goal.returns
-returns g c = search rules

@@ -1,5 +1,0 @@
-use Rattle.std.proofs.Common.{rules}
-use Rattle.slice_group_by.proofs.traits.group_by.GroupBy.exponential_group.Goals as goal
-
-pub returns-clause-remainder : goal.returns-clause-remainder
-returns-clause-remainder g c = search rules
