@@ -5,9 +5,9 @@ ghost use Rattle.sgb_search.specs.Calls.{IsCallableBy, ComputesBy, at_start};
 ghost use Rattle.sgb_search.specs.Judges.{by_equality};
 ghost use Rattle.sgb_loans.specs.Loans.{NothingOut};
 
-use crate::way::Way;
 use crate::groups::SliceGroups;
 use crate::groups_mut::SliceGroupsMut;
+use crate::way::Way;
 use sgb_search::judge::EqualityJudge;
 
 impl<'a, T: PartialEq, W: Way> SliceGroups<'a, T, EqualityJudge, W> {

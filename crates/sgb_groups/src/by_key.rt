@@ -6,9 +6,9 @@ ghost use Rattle.sgb_search.specs.Calls.{IsCallableBy, ComputesBy, at_start};
 ghost use Rattle.sgb_search.specs.Judges.{by_key, key_judge};
 ghost use Rattle.sgb_loans.specs.Loans.{NothingOut};
 
-use crate::way::Way;
 use crate::groups::SliceGroups;
 use crate::groups_mut::SliceGroupsMut;
+use crate::way::Way;
 use sgb_search::judge::KeyJudge;
 
 type ByKey<'a, T, F, K, W> = SliceGroups<'a, T, KeyJudge<F, K>, W>;

@@ -5,8 +5,8 @@ ghost use Rattle.sgb_numbers.specs.Numbers.{by_number};
 ghost use Rattle.sgb_search.specs.Calls.{IsCallableBy, ComputesBy};
 ghost use Rattle.sgb_loans.specs.Loans.{NothingOut};
 
-use crate::way::Way;
 use crate::groups_mut::SliceGroupsMut;
+use crate::way::Way;
 use sgb_numbers::lanes::Lanes;
 use sgb_numbers::number_judge::NumberJudge;
 

@@ -6,9 +6,9 @@ ghost use Rattle.sgb_search.specs.Calls.{IsCallableBy, ComputesBy, at_start};
 ghost use Rattle.sgb_search.specs.Judges.{by_predicate, predicate_judge};
 ghost use Rattle.sgb_loans.specs.Loans.{NothingOut};
 
-use crate::way::Way;
 use crate::groups::SliceGroups;
 use crate::groups_mut::SliceGroupsMut;
+use crate::way::Way;
 use sgb_search::judge::PredicateJudge;
 
 impl<'a, T, P: FnMut(&T, &T) -> bool, W: Way> SliceGroups<'a, T, PredicateJudge<P>, W> {

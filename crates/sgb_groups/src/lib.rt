@@ -7,7 +7,7 @@ pub mod by_key;
 pub mod by_number;
 pub mod by_predicate;
 pub mod debug;
-pub mod way;
 pub mod groups;
 pub mod groups_mut;
 pub mod searching;
+pub mod way;

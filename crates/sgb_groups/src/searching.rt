@@ -4,11 +4,11 @@ ghost use Rattle.std.specs.Prelude.{◌≤◌, length, reverse};
 ghost use Rattle.sgb_search.specs.Judges.{IsCallable};
 ghost use Rattle.sgb_search.specs.Searching.{SearchCost, IsPlaceSearch, MayAskAt, AnsweredAt, outward, as_ordering, IsBetween};
 
-use crate::way::Way;
 use crate::groups::SliceGroups;
 use crate::groups_mut::SliceGroupsMut;
+use crate::way::Way;
 use sgb_search::end::End;
-use sgb_search::gallop::{Places, before_end, answer_place};
+use sgb_search::gallop::{Places, answer_place, before_end};
 use sgb_search::judge::Judge;
 use std::cmp::Ordering;
 use std::marker::PhantomData;

@@ -2,9 +2,9 @@
 ghost use Rattle.std.specs.Prelude.{length};
 
 use sgb_groups::debug::{DebugNames, Names};
-use sgb_groups::way::Way;
 use sgb_groups::groups::SliceGroups;
 use sgb_groups::groups_mut::SliceGroupsMut;
+use sgb_groups::way::Way;
 use sgb_numbers::number_judge::NumberJudge;
 use sgb_search::end::End;
 use sgb_search::judge::{EqualityJudge, Judge, KeyJudge, PredicateJudge};

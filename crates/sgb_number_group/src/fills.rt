@@ -113,7 +113,11 @@ fn scan_front<T: Lanes>(slice: &[T], from: usize, high: usize) -> (u64, usize)
     ensures all { result.0 ≡ 0 → result.1 + 1 ≡ high }
 {
     let end = like_by_vectors(&slice[from], slice, from + 1, high);
-    if end < high { (1 << 63, end) } else { (0, high - 1) }
+    if end < high {
+        (1 << 63, end)
+    } else {
+        (0, high - 1)
+    }
 }
 
 /// A mask of the pairs from the place `from` on, where 63 are left at most.
@@ -178,7 +182,11 @@ fn scan_back<T: Lanes>(slice: &[T], low: usize, upto: usize) -> (u64, usize)
     ensures all { result.0 ≡ 0 → result.1 ≡ low }
 {
     let start = like_back_by_vectors(&slice[upto], slice, low, upto);
-    if low < start { (1 << 63, start - 1) } else { (0, low) }
+    if low < start {
+        (1 << 63, start - 1)
+    } else {
+        (0, low)
+    }
 }
 
 /// A mask of the pairs before the place `upto`, from `low` on, where 63 are left at most.

@@ -1,13 +1,12 @@
 -- The mask of two vectors of neighbours, and of the same two turned around.
-use Rattle.std.proofs.Common.{◌≡◌, ℕ, zero, suc, ◌+◌, ◌-◌, ◌%◌, ◌^◌, ◌<◌, ◌≤◌, not, cond, Bool, List, [], ◌∷◌, ◌++◌, length, map, take, drop, get_or, refl, sym, ap, ap₂, ◌∙◌, arith, length-drop}
+use Rattle.std.proofs.Common.{◌≡◌, ℕ, zero, suc, ◌+◌, ◌-◌, ◌%◌, ◌^◌, ◌<◌, ◌≤◌, not, cond, Bool, List, [], ◌∷◌, ◌++◌, length, map, take, drop, get_or, refl, sym, ap, ap₂, ◌∙◌, arith}
 use Rattle.std.specs.Prelude.{reverse}
-use Rattle.std.proofs.lemmas.List.{length-map, length-take, length-reverse, reverse-append, take_more, drop-drop}
+use Rattle.std.proofs.lemmas.List.{length-reverse, reverse-append, take_more, drop-drop}
 use Rattle.std.proofs.Math.Seq.{take-length}
 use Rattle.std.proofs.lemmas.Simd.{length-chunk, length-zip2, tops_compared, mask_l-mod, pick_l_left}
 use Rattle.std.specs.Int.{Width}
-use Rattle.std.specs.Simd.Lanes.{Each1, zip2, chunk, mask_l, top, pick_l, all_below}
+use Rattle.std.specs.Simd.Lanes.{zip2, chunk, mask_l, top, pick_l}
 use mir.Val.{bits, hbits}
-use Rattle.sgb_search.specs.Split.{neighbours, on_pairs}
 use Rattle.sgb_numbers.specs.Boundaries.{boundaries}
 
 module _ {X Y Z : Type 0} (f : X → Y → Z) where

@@ -1,5 +1,5 @@
 -- Where neighbouring elements of a list differ.
-use Rattle.std.specs.Prelude.{◌≡◌, ℕ, ◌+◌, Bool, true, false, not, List, map, slice_index_or}
+use Rattle.std.specs.Prelude.{ℕ, Bool, false, not, List, map, slice_index_or}
 use Rattle.sgb_search.specs.Split.{neighbours, on_pairs}
 
 module _ {T : Type 0} (eq : T → T → Bool) where

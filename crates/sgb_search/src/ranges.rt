@@ -10,7 +10,7 @@ ghost use Rattle.sgb_search.specs.Searching.{as_ordering, MayAskAt, AnsweredAt};
 ghost use Rattle.sgb_search.specs.Search.{IsCallableOn, ComputesOn, IsLocalBoundary, IsLessEqualGreater, NeverDescends};
 ghost use Rattle.sgb_search.specs.Ranges.{IsRange, IsLocalRange, AsksPartition, AsksRange};
 
-use crate::gallop::{Places, before_end, gallop, answer_place};
+use crate::gallop::{Places, answer_place, before_end, gallop};
 use std::cmp::Ordering;
 
 // A test of a place in a slice, to which an element belongs by what a function answers of it.

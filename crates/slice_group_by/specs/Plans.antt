@@ -1,6 +1,6 @@
 -- Plans of questions that find how long the first piece of a grouped slice is, by comparing its first element with others.
 --     run plan l            what the plan answers where the piece has l elements, and after how many questions
-use Rattle.std.specs.Prelude.{◌≡◌, ℕ, ◌+◌, ◌-◌, ◌<◌, ◌≤◌, ◌⊎◌, ◌≢◌, cond, nat_lt}
+use Rattle.std.specs.Prelude.{◌≡◌, ℕ, ◌+◌, ◌-◌, ◌≤◌, ◌⊎◌, ◌≢◌, cond, nat_lt}
 use Rattle.slice_group_by.specs.declared.laws.plans.Plan.{Plan}
 use Rattle.slice_group_by.specs.declared.laws.plans.Plan.TheVariants.{Answer, Ask'}
 use Rattle.sgb_search.specs.Searching.{digits}

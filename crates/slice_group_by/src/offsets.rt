@@ -11,8 +11,8 @@ ghost use Rattle.sgb_search.specs.declared.end.End.TheVariants.{Front, Back};
 ghost use Rattle.slice_group_by.specs.Offsets.{TakesUnits, GivesWithOffset, groups_under, offsets_to_come, with_offsets};
 
 use crate::laws::queue::GroupQueue;
-use sgb_groups::way::Way;
 use sgb_groups::groups::SliceGroups;
+use sgb_groups::way::Way;
 use sgb_linear_str_group::groups::LinearStrGroups;
 use sgb_linear_str_group::text_judge::TextJudge;
 use sgb_search::judge::Judge;

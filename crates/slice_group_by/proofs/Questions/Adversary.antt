@@ -6,7 +6,7 @@ use Rattle.std.proofs.lemmas.Bool.{cases_lt}
 use Rattle.slice_group_by.specs.declared.laws.plans.Plan.{Plan}
 use Rattle.slice_group_by.specs.declared.laws.plans.Plan.TheVariants.{Answer, Ask'}
 use Rattle.sgb_search.specs.Searching.{digits}
-use Rattle.sgb_search.proofs.Searches.Digits.{digits_double, digits_half, digits_le_self}
+use Rattle.sgb_search.proofs.Searches.Digits.{digits_double, digits_le_self}
 use Rattle.slice_group_by.specs.Plans.{run, IsRight, IsRefuted}
 
 -- after k questions the plan goes on as current, at each length from low up to high, both among them

@@ -44,9 +44,7 @@ pub use counts::{
 };
 pub use families::{chunk_by_agrees, families_agree, groups_end_locally};
 pub use judged::{Judged, Lends, OfText};
-pub use pieces::{
-    equal_pieces_are_copies, pieces_add_up, pieces_begin_as_dedup, pieces_by_key,
-};
+pub use pieces::{equal_pieces_are_copies, pieces_add_up, pieces_begin_as_dedup, pieces_by_key};
 pub use plans::{Plan, refute};
 use queue::GroupQueue;
 pub use ranks::rank_groups;
@@ -61,10 +59,10 @@ pub use sgb_search::laws::{
     always_callable, always_callable_apart, always_callable_char_key, always_callable_chars,
     always_callable_key, always_callable_key_apart, always_callable_on_elements, always_computes,
     ascending_is_grouped, ascending_is_searchable, callable_now, callable_on_elements,
-    callable_on_pairs, computes_on_char_pairs, computes_on_chars,
-    computes_on_elements, computes_on_pairs, descending_is_grouped, digits_is_least,
-    equality_judges, first_group_agrees, one_split, parts_are_grouped, question_count,
-    range_parts, range_starts, searches_call, splits_join,
+    callable_on_pairs, computes_on_char_pairs, computes_on_chars, computes_on_elements,
+    computes_on_pairs, descending_is_grouped, digits_is_least, equality_judges, first_group_agrees,
+    one_split, parts_are_grouped, question_count, range_parts, range_starts, searches_call,
+    splits_join,
 };
 pub use sorted::{is_sorted_for_groups, sorted_by_key_ascends, sorts_ascend};
 
@@ -204,4 +202,3 @@ pub fn right_plans_ask()
     ensures { (plan : Plan) (n : ℕ) → 0 < n → IsRight plan 1 n
         → (l : ℕ) × (1 ≤ l) × (l ≤ n) × (digits (n - 1) ≤ (run plan l).1) }
 {}
-

@@ -46,4 +46,3 @@ pub fn pieces_add_up<T>()
     ensures lengths { (p : T → T → Bool) (xs : List T) → sum_by length (split p xs) ≡ length xs }
     ensures sums { (p : T → T → Bool) (f : T → ℕ) (xs : List T) → sum_by (λ g. sum_by f g) (split p xs) ≡ sum_by f xs }
 {}
-

@@ -3,9 +3,9 @@ ghost use Rattle.std.specs.Prelude.{refl};
 
 use crate::laws::judged::{Judged, Lends};
 use crate::laws::queue::{GroupQueue, SliceQueue, SliceQueueMut};
-use sgb_groups::way::Way;
 use sgb_groups::groups::SliceGroups;
 use sgb_groups::groups_mut::SliceGroupsMut;
+use sgb_groups::way::Way;
 use sgb_search::judge::Judge;
 
 impl<'a, T, J: Judge<T> + Drop, W: Way> GroupQueue for SliceGroups<'a, T, J, W> {
@@ -135,8 +135,7 @@ impl<'a, T, J: Judge<T> + Drop, W: Way> GroupQueue for SliceGroupsMut<'a, T, J, 
         (W.asks_due T J J.Judge e (groups_of_mut s) (option_copied_mut group) (groups_of_mut t) h.0) };
 }
 
-impl<'a, T: 'a, J: Judge<T> + Drop, W: Way> SliceQueueMut<'a, T>
-    for SliceGroupsMut<'a, T, J, W> {
+impl<'a, T: 'a, J: Judge<T> + Drop, W: Way> SliceQueueMut<'a, T> for SliceGroupsMut<'a, T, J, W> {
     ghost shows_now = { λ _. refl };
 }
 
