@@ -2,7 +2,7 @@
 //! slice.
 ghost use Rattle.std.specs.Prelude.{◌≤◌, length, reverse};
 ghost use Rattle.sgb_search.specs.Judges.{IsCallable};
-ghost use Rattle.sgb_search.specs.Searching.{SearchCost, IsPlaceSearch, MayAskAt, AnsweredAt, outward, as_ordering, IsBetween};
+ghost use Rattle.sgb_search.specs.Searching.{SearchCost, IsPlaceSearch, MayAskAt, AnsweredAt, beside, as_ordering, IsBetween};
 
 use crate::groups::SliceGroups;
 use crate::groups_mut::SliceGroupsMut;
@@ -89,53 +89,68 @@ impl<S: GroupSearch> Way for Search<S> {
         high: usize,
         judge: &mut J,
     ) -> usize {
-        let part = &slice[low..high];
-        answer_place(match end {
-            End::Front => S::search(judge, &FromFront { part }, 1, part.len()),
-            End::Back => S::search(judge, &FromBack { part }, 1, part.len()),
+        1 + answer_place(match end {
+            End::Front => {
+                let others = &slice[low + 1..high];
+                let places = FromFront {
+                    outermost: &slice[low],
+                    others,
+                };
+                S::search(judge, &places, 0, others.len())
+            }
+            End::Back => {
+                let others = &slice[low..high - 1];
+                let places = FromBack {
+                    outermost: &slice[high - 1],
+                    others,
+                };
+                S::search(judge, &places, 0, others.len())
+            }
         })
     }
 }
 
-// The elements of a part of a slice as it reads from its front, each asked about with the first.
+// The elements behind the first of a part of a slice, each asked about with that one.
 #[derive(Drop)]
 struct FromFront<'a, T> {
-    part: &'a [T],
+    outermost: &'a T,
+    others: &'a [T],
 }
 
 impl<'a, T, J: Judge<T>> Places<J> for FromFront<'a, T> {
     type Answer = bool;
 
-    ghost may_compare = { λ j c i. MayAskAt J.may_ask J.answers (outward c.part.now) j i };
+    ghost may_compare = { λ j c i. MayAskAt J.may_ask J.answers (beside c.outermost.now c.others.now) j i };
 
-    ghost compares = { λ j c i b k. AnsweredAt J.may_ask J.answers (outward c.part.now) j i b k };
+    ghost compares = { λ j c i b k. AnsweredAt J.may_ask J.answers (beside c.outermost.now c.others.now) j i b k };
 
     ghost reads = { λ _ b. as_ordering b };
 
     #[inline]
     fn compare(&self, judge: &mut J, place: usize) -> Ordering {
-        before_end(judge.ask(&self.part[0], &self.part[place]))
+        before_end(judge.ask(self.outermost, &self.others[place]))
     }
 }
 
-// The elements of a part of a slice as it reads from its back, each asked about with the last.
+// The elements before the last of a part of a slice, from there back, each asked about with that one.
 #[derive(Drop)]
 struct FromBack<'a, T> {
-    part: &'a [T],
+    outermost: &'a T,
+    others: &'a [T],
 }
 
 impl<'a, T, J: Judge<T>> Places<J> for FromBack<'a, T> {
     type Answer = bool;
 
-    ghost may_compare = { λ j c i. MayAskAt J.may_ask J.answers (outward (reverse c.part.now)) j i };
+    ghost may_compare = { λ j c i. MayAskAt J.may_ask J.answers (beside c.outermost.now (reverse c.others.now)) j i };
 
-    ghost compares = { λ j c i b k. AnsweredAt J.may_ask J.answers (outward (reverse c.part.now)) j i b k };
+    ghost compares = { λ j c i b k. AnsweredAt J.may_ask J.answers (beside c.outermost.now (reverse c.others.now)) j i b k };
 
     ghost reads = { λ _ b. as_ordering b };
 
     #[inline]
     fn compare(&self, judge: &mut J, place: usize) -> Ordering {
-        let last = self.part.len() - 1;
-        before_end(judge.ask(&self.part[last], &self.part[last - place]))
+        let index = self.others.len() - 1 - place;
+        before_end(judge.ask(self.outermost, &self.others[index]))
     }
 }

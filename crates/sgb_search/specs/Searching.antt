@@ -136,16 +136,20 @@ abbrev pub as_ordering : Bool → Ordering
 as_ordering true = Less
 as_ordering false = Greater
 
+-- the pairs of one element with each of others
+abbrev pub beside : {A B : Type 0} → A → List B → List (A × B)
+beside x ys = map (λ y. (x, y)) ys
+
 -- xs: the remainder as it reads from the call's end on, the outermost element first
 module _ {T : Type 0} where
-  -- the questions of a call: the outermost element with the one at each place
+  -- the questions of a call: the outermost element with each of the others
   abbrev pub outward : List T → List (T × T)
   outward [] = []
-  outward (x ∷ xs) = map (λ y. (x, y)) (x ∷ xs)
+  outward (x ∷ xs) = beside x xs
 
-  -- the search of a call that takes the first g elements, from the state j of the judge to the state k
+  -- the search of a call that takes the first g elements, from the state j of the judge to the state k: all but the first are found
   abbrev pub SearchRun : {J : Type 0} → List T → Ghosts J T → SearchCost → J → ℕ → J → Type 0
-  SearchRun xs judge cost j g k = Searches judge.may_ask judge.answers (outward xs) as_ordering cost 1 j (Err g) k
+  SearchRun xs judge cost j g k = Searches judge.may_ask judge.answers (outward xs) as_ordering cost 0 j (Err (g - 1)) k
 
 module _ {T : Type 0} (xs : List T) where
   -- by p the first g elements, one or more, end at a local boundary: the innermost agrees with the outermost, and the element beyond does

@@ -1,7 +1,7 @@
 -- The laws of binary and exponential calls: a call ends at a local boundary; on a settled iterator it gives the outermost piece, and
 -- leaves it settled.
-use Rattle.std.specs.Prelude.{◌≡◌, ℕ, ◌+◌, ◌-◌, ◌<◌, Bool, true, false, List, [], ◌∷◌, ◌++◌, length, reverse, refl, Option, None, Some, slice_get}
-use Rattle.std.proofs.Common.{sym, ap, subst, arith, ◌∙◌, inl, inr, get_or, length-append, append_assoc}
+use Rattle.std.specs.Prelude.{◌≡◌, ℕ, ◌+◌, ◌-◌, ◌<◌, ◌≤◌, Bool, true, false, List, [], ◌∷◌, ◌++◌, length, reverse, refl, Option, None, Some, slice_get}
+use Rattle.std.proofs.Common.{suc, sym, ap, subst, arith, ◌∙◌, inl, inr, get_or, length-append, append_assoc}
 use Rattle.std.proofs.lemmas.List.{append-nil}
 use Rattle.std.proofs.lemmas.Option.{slice_get-get_or, slice_get_within}
 use Rattle.sgb_search.specs.declared.judge.Judge.{Ghosts}
@@ -29,17 +29,17 @@ module _ {T J : Type 0} (g : Ghosts J T) (cost : SearchCost) (e : End) (xs : Lis
   -- the questions of a call are about two different places
   pub asked_apart : QuestionsAt g.may_ask g.answers (outward (from e xs)) (AreApart xs) j h.questions k
   asked_apart =
-      asked_at g.may_ask g.answers (outward (from e xs)) (IsBetween 1 (length (outward (from e xs)))) (AreApart xs)
-      (λ i q b. outward_apart e xs i q b.0) j h.questions k h.run h.places
+      asked_at g.may_ask g.answers (outward (from e xs)) (IsBetween 0 (length (outward (from e xs)))) (AreApart xs)
+      (λ i q b. outward_apart e xs i q) j h.questions k h.run h.places
 
   -- and no more than it costs
-  pub asked_within : IsWithin cost (length xs) n (length h.questions)
-  asked_within =
-      let long : length (outward (from e xs)) ≡ length xs = outward_len (from e xs) ∙ length-from e xs in
-      subst (λ (m : ℕ). IsWithin cost m n (length h.questions)) {x = length (outward (from e xs)) - 1 + 1} {y = length xs}
-      (omega (arith, long, h.tells))
-      (subst (λ (m : ℕ). IsWithin cost (length (outward (from e xs)) - 1 + 1) m (length h.questions)) {x = n - 1 + 1} {y = n}
-      (omega (arith, h.tells)) h.most)
+  pub asked_within : 0 < n → n ≤ length xs → IsWithin cost (length xs) n (length h.questions)
+  asked_within some room =
+      let long = outward_len (from e xs) in
+      subst (λ (m : ℕ). IsWithin cost m n (length h.questions)) {x = length (outward (from e xs)) - 0 + 1} {y = length xs}
+      (omega (arith, long, length-from e xs, some, room))
+      (subst (λ (m : ℕ). IsWithin cost (length (outward (from e xs)) - 0 + 1) m (length h.questions)) {x = n - 1 - 0 + 1} {y = n}
+      (omega (arith, some)) h.most)
 
   -- where the judge answers what p says, it ends at a local boundary
   module _ (p : T → T → Bool) (by : Computes g.may_ask g.answers (AreApart xs) (on_pairs p) j) where
@@ -49,31 +49,35 @@ module _ {T J : Type 0} (g : Ghosts J T) (cost : SearchCost) (e : End) (xs : Lis
     abbrev says : ℕ → Ordering → Type 0
     says = AnswersAt (λ q. as_ordering (on_pairs p q)) (outward ys)
 
-    ends : IsLowEnd says 1 n × IsHighEnd says (length (outward ys)) n
+    ends : IsLowEnd says 0 (n - 1) × IsHighEnd says (length (outward ys)) (n - 1)
     ends =
-        one_answer says (answers_once (λ q. as_ordering (on_pairs p q)) (outward ys)) _ 1 (length (outward ys)) n
-        (tells_more _ says (answered_by _ _ (outward ys) (IsBetween 1 (length (outward ys))) (AreApart xs)
-        (λ i q b. outward_apart e xs i q b.0) j h.questions k h.run h.places (on_pairs p) by as_ordering) _ 1 (length (outward ys)) n h.tells.2)
+        one_answer says (answers_once (λ q. as_ordering (on_pairs p q)) (outward ys)) _ 0 (length (outward ys)) (n - 1)
+        (tells_more _ says (answered_by _ _ (outward ys) (IsBetween 0 (length (outward ys))) (AreApart xs)
+        (λ i q b. outward_apart e xs i q) j h.questions k h.run h.places (on_pairs p) by as_ordering) _ 0 (length (outward ys)) (n - 1)
+        h.tells.2)
 
-    at_pair : (i : ℕ) (o : Ordering) (x y : T) → says i o → slice_get ys 0 ≡ Some x → slice_get ys i ≡ Some y → as_ordering (p x y) ≡ o
+    at_pair : (i : ℕ) (o : Ordering) (x y : T) → says i o → slice_get ys 0 ≡ Some x → slice_get ys (suc i) ≡ Some y
+        → as_ordering (p x y) ≡ o
     at_pair i o x y a ex ey =
         let same : a.0 ≡ (x, y) = cc (a.1, outward_of ys i x y ex ey) in ap (λ (q : T × T). as_ordering (p q.0 q.1)) (sym same) ∙ a.2
 
-    pub call_ends : IsLocalEnd ys p n
-    call_ends = record {
-      nonempty = h.tells.0;
-      within = omega (arith, h.tells, outward_len ys);
+    pub call_ends : 0 < n → n ≤ length xs → IsLocalEnd ys p n
+    call_ends some room = record {
+      nonempty = some;
+      within = omega (arith, room, length-from e xs);
       inner = inner ends.0;
       beyond = beyond ends.1;
     }
       where
-        inner : IsLowEnd says 1 n → (x y : T) → 1 < n → slice_get ys 0 ≡ Some x → slice_get ys (n - 1) ≡ Some y → p x y ≡ true
+        inner : IsLowEnd says 0 (n - 1) → (x y : T) → 1 < n → slice_get ys 0 ≡ Some x → slice_get ys (n - 1) ≡ Some y → p x y ≡ true
         inner (inl e) x y l ex ey = absurd (omega arith)
-        inner (inr a) x y l ex ey = side_before (p x y) (at_pair (n - 1) Less x y a.1 ex ey)
+        inner (inr a) x y l ex ey =
+            side_before (p x y) (at_pair (n - 1 - 1) Less x y a.1 ex (ap (slice_get ys) {x = suc (n - 1 - 1)} {y = n - 1} (omega arith) ∙ ey))
 
-        beyond : IsHighEnd says (length (outward ys)) n → (x y : T) → slice_get ys 0 ≡ Some x → slice_get ys n ≡ Some y → p x y ≡ false
-        beyond (inl f) x y ex ey = absurd (omega (arith, slice_get_within ys n y ey, outward_len ys))
-        beyond (inr a) x y ex ey = side_after (p x y) (at_pair n Greater x y a.1 ex ey)
+        beyond : IsHighEnd says (length (outward ys)) (n - 1) → (x y : T) → slice_get ys 0 ≡ Some x → slice_get ys n ≡ Some y → p x y ≡ false
+        beyond (inl f) x y ex ey = absurd (omega (arith, slice_get_within ys n y ey, outward_len ys, some))
+        beyond (inr a) x y ex ey =
+            side_after (p x y) (at_pair (n - 1) Greater x y a.1 ex (ap (slice_get ys) {x = suc (n - 1)} {y = n} (omega (arith, some)) ∙ ey))
 
 -- the local boundary of a grouped list is where the first piece ends
 module _ {T : Type 0} (p : T → T → Bool) where
@@ -189,11 +193,17 @@ module _ {T : Type 0} (p : T → T → Bool) where
       grouped_part p part rest [] (subst (IsGrouped p) (ap (λ (l : List T). part ++ l) (sym (append-nil rest))) h)
   grouped_rest Back part rest h = grouped_part p [] rest part h
 
+-- a group is no longer than what remained
+pub room_of : {T J : Type 0} (g : Ghosts J T) (cost : SearchCost) (e : End) (s : Groups T J) (group : List T) (t : Groups T J)
+    → IsGroupAt (SearchQuestions g cost) e s group t → length group ≤ length s.remainder
+room_of g cost e s group t h = omega (arith, ap length h.cut, length-put_at e group t.remainder)
+
 module _ {T J : Type 0} (g : Ghosts J T) (cost : SearchCost) (p : T → T → Bool) where
   -- a call on a judge that answers by its arguments alone
   pub ends_locally : (e : End) (s : Groups T J) (group : List T) (t : Groups T J) → ComputesBy AreApart g s p
       → IsGroupAt (SearchQuestions g cost) e s group t → IsLocalEnd (from e s.remainder) p (length group)
-  ends_locally e s group t m h = call_ends g cost e s.remainder (length group) s.judge t.judge h.asked p m
+  ends_locally e s group t m h =
+      call_ends g cost e s.remainder (length group) s.judge t.judge h.asked p m h.nonempty (room_of g cost e s group t h)
 
   taken : (e : End) (s : Groups T J) (group : List T) (t : Groups T J) → IsSettledApart g s p → IsGroupAt
       (SearchQuestions g cost) e s group t
@@ -236,7 +246,7 @@ module _ {T J : Type 0} (g : Ghosts J T) (cost : SearchCost) where
   asks e s None t h = nothing_asked g (λ q. cost.walk (length q.remainder)) false s t h.1
   asks e s (Some x) t h =
       let a = asked_apart g cost e s.remainder (length x) s.judge t.judge h.asked in
-      let most = asked_within g cost e s.remainder (length x) s.judge t.judge h.asked in
+      let most = asked_within g cost e s.remainder (length x) s.judge t.judge h.asked h.nonempty (room_of g cost e s x t h) in
       let cut : length s.remainder - length x ≡ length t.remainder = omega (arith, ap length h.cut, length-put_at e x t.remainder) in
       record {
         number = length h.asked.questions;

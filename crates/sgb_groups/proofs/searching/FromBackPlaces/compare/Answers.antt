@@ -2,8 +2,8 @@ use Rattle.sgb_groups.proofs.Outward.{back_at}
 use Rattle.sgb_groups.proofs.searching.FromBackPlaces.compare.Goals as goal
 
 pub ask-requires : goal.ask-requires
-ask-requires g c = c.requires.1 _ (back_at _ _ c.index-self-last.result c.index-self-last-2.result c.requires.0)
+ask-requires g c = c.requires.1 _ (back_at _ _ _ c.index-self-index.result c.requires.0)
 
 pub returns : goal.returns
 returns g c =
-    (c.ask.result, (_, back_at _ _ c.index-self-last.result c.index-self-last-2.result c.requires.0, c.ask.ensures), c.before_end.ensures)
+    (c.ask.result, (_, back_at _ _ _ c.index-self-index.result c.requires.0, c.ask.ensures), c.before_end.ensures)

@@ -1,16 +1,17 @@
 use Rattle.std.proofs.Common.{None, Some, length, ap, arith}
 use Rattle.std.proofs.Math.Nat.{mul-le-mul_left}
-use Rattle.sgb_search.proofs.Searches.SearchQueue.{asked_apart, asked_within}
+use Rattle.sgb_search.proofs.Searches.SearchQueue.{asked_apart, asked_within, room_of}
 use Rattle.slice_group_by.proofs.Questions.Counting.{counts_most}
 use Rattle.slice_group_by.proofs.laws.counts.search_asks.Goals as goal
 
 pub returns-clause-asks : goal.returns-clause-asks
 returns-clause-asks g c e s t group h =
-    let call = (g.met.G.Judged.call e s (Some group) t h).asked in
-    let run = asked_apart g.J.Judge g.S.GroupSearch.cost e _ _ _ _ call in (
-      length call.questions,
+    let at = g.met.G.Judged.call e s (Some group) t h in
+    let run = asked_apart g.J.Judge g.S.GroupSearch.cost e _ _ _ _ at.asked in
+    let room = room_of g.J.Judge g.S.GroupSearch.cost e _ _ _ at in (
+      length at.asked.questions,
       (run.questions, run.run, run.long),
-      (asked_within g.J.Judge g.S.GroupSearch.cost e _ _ _ _ call).call,
+      (asked_within g.J.Judge g.S.GroupSearch.cost e _ _ _ _ at.asked at.nonempty room).call,
     )
 
 pub returns-clause-questions : goal.returns-clause-questions
