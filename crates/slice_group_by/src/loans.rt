@@ -2,6 +2,31 @@
 //!
 //! An iterator for writing says in `loans` which groups are out. `Ended::of` gives a group up, `note_front` and
 //! `note_back` of the iterator take note of it, `finish` answers what the whole input ends as, and `resolve` makes that a
-//! plain fact about the slice. `resolve_and_return` gives an answer back too.
+//! plain fact about the slice. `resolve_and_return` gives an answer back too, and `resolve_in` takes what lends its
+//! elements: a vector, an array, or a type of yours.
+ghost use Rattle.std.specs.Prelude.{◌≡◌, List};
+ghost use Rattle.std.specs.Borrow.{MutBor};
+ghost use Rattle.sgb_loans.specs.declared.loans.Ended.{Ended as Token};
+
+use crate::traits::holders::AsMutSlice;
+
 pub use sgb_loans::loans::{Ended, Loans};
 pub use sgb_loans::resolve::{resolve, resolve_and_return};
+
+/// Lends `f` the elements of `holder`, which are then what the token says that `f` answers: `resolve` for a vector, an
+/// array, or whatever lends its elements.
+///
+/// ```
+/// pub fn rank_vector(vec: &mut Vec<usize>) {
+///     resolve_in(vec, |part| ranked(part)); // `ranked` answers a token whose value is the ranks of the slice
+/// }
+/// ```
+pub fn resolve_in<T, S: AsMutSlice<T>, F: FnOnce(&mut [T]) -> Ended<'_, T>>(holder: &mut S, f: F)
+    requires callable { (p : MutBor (List T)) → p.now ≡ S.AsMutSlice.elements holder.old → F.pre f p }
+    requires names { (p : MutBor (List T)) (l : Token T) → p.now ≡ S.AsMutSlice.elements holder.old → F.post f p l
+        → l.name ≡ p.ghost_name }
+    ensures ends { (p : MutBor (List T)) × (l : Token T) × (p.now ≡ S.AsMutSlice.elements holder.old) × F.post f p l
+        × (holder.new ≡ S.AsMutSlice.left holder.old l.value) }
+{
+    resolve(holder.as_mut_slice(), f)
+}
