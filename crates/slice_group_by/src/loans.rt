@@ -26,7 +26,7 @@ pub fn resolve_in<T, S: AsMutSlice<T>, F: FnOnce(&mut [T]) -> Ended<'_, T>>(hold
     requires names { (p : MutBor (List T)) (l : Token T) → p.now ≡ S.AsMutSlice.elements holder.old → F.post f p l
         → l.name ≡ p.ghost_name }
     ensures ends { (p : MutBor (List T)) × (l : Token T) × (p.now ≡ S.AsMutSlice.elements holder.old) × F.post f p l
-        × (holder.new ≡ S.AsMutSlice.left holder.old l.value) }
+        × (holder.new ≡ S.AsMutSlice.with_elements holder.old l.value) }
 {
     resolve(holder.as_mut_slice(), f)
 }

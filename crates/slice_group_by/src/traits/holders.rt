@@ -21,19 +21,19 @@ impl<T, A: Allocator> Elements<T> for Vec<T, A> {}
 pub trait AsMutSlice<T> {
     // The elements that are lent.
     ghost elements: { Self → List T };
-    // What it becomes when its elements are left as these.
-    ghost left: { Self → List T → Self };
+    // The same with these elements.
+    ghost with_elements: { Self → List T → Self };
 
     /// All the elements, for writing. When that borrow ends, they are what was left in it, and nothing else has changed.
     fn as_mut_slice(&mut self) -> &mut [T]
         ensures* ends { sem 𝓛 (follows Self.row (Array T.row 0) self.entry.ghost_name result.ghost_name
-            (left self.entry.now)) }
+            (with_elements self.entry.now)) }
         ensures elements { result.now ≡ elements self.entry.now };
 }
 
 impl<T> AsMutSlice<T> for &mut [T] {
     ghost elements = { λ slice. slice.now };
-    ghost left = { λ slice xs. record slice { now = xs } };
+    ghost with_elements = { λ slice xs. record slice { now = xs } };
 
     #[inline]
     fn as_mut_slice(&mut self) -> &mut [T] {
@@ -43,7 +43,7 @@ impl<T> AsMutSlice<T> for &mut [T] {
 
 impl<T, const N: usize> AsMutSlice<T> for [T; N] {
     ghost elements = { λ array. array };
-    ghost left = { λ array xs. xs };
+    ghost with_elements = { λ array xs. xs };
 
     #[inline]
     fn as_mut_slice(&mut self) -> &mut [T] {
@@ -53,7 +53,7 @@ impl<T, const N: usize> AsMutSlice<T> for [T; N] {
 
 impl<T, A: Allocator> AsMutSlice<T> for Vec<T, A> {
     ghost elements = { λ vec. vec.items };
-    ghost left = { with_items };
+    ghost with_elements = { with_items };
 
     #[inline]
     fn as_mut_slice(&mut self) -> &mut [T] {
