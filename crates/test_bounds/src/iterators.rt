@@ -1,24 +1,21 @@
-//! What the types are: iterators from both ends that stay at their end, queues, what may be shown and what may cross threads. What looks
-//! at them asks nothing of a closure.
+//! What the types are: iterators that stay at their end, queues, what may be shown and what may cross threads.
 ghost use Rattle.std.specs.Prelude.{◌≡◌, length};
 
 use slice_group_by::loans::{Ended, Loans};
-use slice_group_by::{
-    BinaryGroupBy, BinaryGroupByKeyMut, BinaryGroupByMut, EitherOrBoth, End, ExponentialGroupByKey,
-    ExponentialGroupByKeyMut, GroupQueue, Lanes, LinearGroup, LinearGroupBy, LinearGroupByKeyMut,
-    LinearGroupMut, LinearNumberGroup, LinearNumberGroupMut, LinearStrGroup, LinearStrGroupBy,
-    LinearStrGroupByKey, LinearStrGroupByKeyMut, LinearStrGroupByMut, LinearStrGroupMut, MergeJoin,
-    MergeJoinBy, Offsets, SliceQueue, SliceQueueMut, WithOffsets, walk, with_offsets,
-};
+use slice_group_by::*;
 use std::cmp::Ordering;
 use std::fmt::Debug;
 use std::iter::FusedIterator;
 
-fn is_queue<Q: DoubleEndedIterator + FusedIterator + GroupQueue>(_groups: &Q) {}
-
 fn is_read<'a, T: 'a, Q: FusedIterator + SliceQueue<'a, T> + Offsets>(_groups: &Q) {}
 
 fn is_written<'a, T: 'a, Q: FusedIterator + SliceQueueMut<'a, T>>(_groups: &Q) {}
+
+fn is_queue<Q: DoubleEndedIterator + FusedIterator + GroupQueue>(_groups: &Q) {}
+
+fn is_shown<W: Debug>(_value: &W) {}
+
+fn crosses_threads<W: Send + Sync>(_value: &W) {}
 
 pub fn of_elements<'a, T: PartialEq, N: Lanes>(
     equal: (&LinearGroup<'a, T>, &LinearGroupMut<'a, T>),
@@ -30,30 +27,23 @@ pub fn of_elements<'a, T: PartialEq, N: Lanes>(
     is_written::<N, _>(numbers.1);
 }
 
-pub fn by_closures<
-    'a,
-    T,
-    P: FnMut(&T, &T) -> bool + Drop,
-    F: FnMut(&T) -> K + Drop,
-    K: PartialEq + Drop,
->(
-    by: (&BinaryGroupBy<'a, T, P>, &BinaryGroupByMut<'a, T, P>),
-    by_key: (
-        &ExponentialGroupByKey<'a, T, F, K>,
-        &ExponentialGroupByKeyMut<'a, T, F, K>,
-    ),
+pub fn by_predicate<'a, T, P: FnMut(&T, &T) -> bool>(
+    read: &BinaryGroupBy<'a, T, P>,
+    written: &BinaryGroupByMut<'a, T, P>,
 ) {
-    is_read::<T, _>(by.0);
-    is_written::<T, _>(by.1);
-    is_read::<T, _>(by_key.0);
-    is_written::<T, _>(by_key.1);
+    is_read::<T, _>(read);
+    is_written::<T, _>(written);
 }
 
-pub fn of_texts<
-    P: FnMut(char, char) -> bool + Drop,
-    F: FnMut(char) -> K + Drop,
-    K: PartialEq + Drop,
->(
+pub fn by_key<'a, T, F: FnMut(&T) -> K, K: PartialEq + Drop>(
+    read: &ExponentialGroupByKey<'a, T, F, K>,
+    written: &ExponentialGroupByKeyMut<'a, T, F, K>,
+) {
+    is_read::<T, _>(read);
+    is_written::<T, _>(written);
+}
+
+pub fn of_texts<P: FnMut(char, char) -> bool, F: FnMut(char) -> K, K: PartialEq + Drop>(
     by: (&LinearStrGroupBy<'_, P>, &LinearStrGroupByMut<'_, P>),
     by_key: (
         &LinearStrGroupByKey<'_, F, K>,
@@ -67,9 +57,7 @@ pub fn of_texts<
 }
 
 pub fn groups_with_offsets<Q: Offsets + Drop>(groups: Q) -> WithOffsets<Q> {
-    let groups = with_offsets(groups);
-    is_queue(&groups);
-    groups
+    with_offsets(groups)
 }
 
 pub fn calls<Q: GroupQueue>(queue: &mut Q, ends: &[End], out: &mut [Option<Q::Item>])
@@ -82,43 +70,15 @@ pub fn calls<Q: GroupQueue>(queue: &mut Q, ends: &[End], out: &mut [Option<Q::It
 fn gives<I: FusedIterator<Item = G>, G>(_join: &I) {}
 
 // The pairs and parts live as long as the sides.
-pub fn joins<
-    'a,
-    A,
-    B,
-    FA: Fn(&A) -> K + Drop,
-    FB: Fn(&B) -> K + Drop,
-    F: FnMut(&A, &B) -> Ordering + Drop,
+pub fn joins<'a, A, B, FA: Fn(&A) -> K, FB: Fn(&B) -> K, F: FnMut(&A, &B) -> Ordering, K>(
+    by_key: &MergeJoin<'a, A, B, FA, FB, K>,
+    by: &MergeJoinBy<'a, A, B, F>,
+)
+where
     K: Ord + Drop,
->(by_key: &MergeJoin<'a, A, B, FA, FB, K>, by: &MergeJoinBy<'a, A, B, F>) {
+{
     gives::<_, (&'a [A], &'a [B])>(by_key);
     gives::<_, EitherOrBoth<&'a [A], &'a [B]>>(by);
-}
-
-pub fn looks<T, F, K>(
-    read: &ExponentialGroupByKey<'_, T, F, K>,
-    written: &BinaryGroupByKeyMut<'_, T, F, K>,
-    text: &LinearStrGroupByKey<'_, F, K>,
-    bytes: &LinearStrGroupByKeyMut<'_, F, K>,
-) {
-    let _ = (
-        read.remainder(),
-        read.remainder_len(),
-        read.is_empty(),
-        read.offset(),
-    );
-    let _ = (
-        written.remainder(),
-        written.remainder_len(),
-        written.is_empty(),
-    );
-    let _ = (
-        text.as_str(),
-        text.remainder_len(),
-        text.is_empty(),
-        text.offset(),
-    );
-    let _ = (bytes.as_str(), bytes.remainder_len(), bytes.is_empty());
 }
 
 // What is given lives as long as the input, and not as the iterator.
@@ -131,11 +91,26 @@ pub fn given<'a, T: PartialEq>(
     (first, groups.remainder(), written.last(), text.as_str())
 }
 
-pub fn remainders<'a, T, F: Drop, K>(
-    one: LinearGroupByKeyMut<'a, T, F, K>,
-    other: LinearGroupByKeyMut<'a, T, F, K>,
-) -> [&'a mut [T]; 2] {
-    [one.into_remainder(), other.into_parts().0]
+// What looks at iterators asks nothing of a closure, and what gives them up no more than that it may be let go.
+
+pub fn looks<T, P, F, K>(
+    read: &BinaryGroupBy<'_, T, P>,
+    written: &BinaryGroupByKeyMut<'_, T, F, K>,
+    text: &LinearStrGroupBy<'_, P>,
+    bytes: &LinearStrGroupByKeyMut<'_, F, K>,
+) {
+    let _ = read.remainder().len() == read.remainder_len() && read.is_empty() && read.offset() == 0;
+    let _ = written.remainder().len() == written.remainder_len() && written.is_empty();
+    let _ = text.as_str().len() == text.remainder_len() && text.is_empty() && text.offset() == 0;
+    let _ = bytes.as_str().len() == bytes.remainder_len() && bytes.is_empty();
+}
+
+pub fn remainder<'a, T, F: Drop, K>(groups: LinearGroupByKeyMut<'a, T, F, K>) -> &'a mut [T] {
+    groups.into_remainder()
+}
+
+pub fn parts<'a, T, F: Drop, K>(groups: LinearGroupByKeyMut<'a, T, F, K>) -> &'a mut [T] {
+    groups.into_parts().0
 }
 
 // Groups of elements that live longer are groups of these.
@@ -145,13 +120,11 @@ pub fn shorter_lived<'a, 'b: 'a>(
     groups
 }
 
-fn is_shown<W: Debug>(_value: &W) {}
-
 pub fn shown<T: Debug, P, F, K>(
     by: (&LinearGroupBy<'_, T, P>, &BinaryGroupByMut<'_, T, P>),
     by_key: (
         &ExponentialGroupByKey<'_, T, F, K>,
-        &ExponentialGroupByKeyMut<'_, T, F, K>,
+        &LinearGroupByKeyMut<'_, T, F, K>,
     ),
 ) {
     is_shown(by.0);
@@ -160,33 +133,24 @@ pub fn shown<T: Debug, P, F, K>(
     is_shown(by_key.1);
 }
 
-fn is_copied<T: Copy + Eq + Debug>(_value: &T) {}
-
-pub fn values<L: Copy + Eq + Debug, R: Copy + Eq + Debug>(end: &End, part: &EitherOrBoth<L, R>) {
-    is_copied(end);
-    is_copied(part);
-}
-
-fn crosses_threads<G: Send + Sync>() {}
-
 // Where elements, closures and keys may cross threads.
-pub fn threads<T: Send + Sync, F: Send + Sync, K: Send + Sync, N: Lanes + Send + Sync>()
-where
-    T: 'static,
-    N: 'static,
-{
-    crosses_threads::<LinearGroup<'static, T>>();
-    crosses_threads::<BinaryGroupByMut<'static, T, F>>();
-    crosses_threads::<ExponentialGroupByKeyMut<'static, T, F, K>>();
-    crosses_threads::<LinearNumberGroup<'static, N>>();
-    crosses_threads::<LinearStrGroupMut<'static>>();
-    crosses_threads::<LinearStrGroupByKey<'static, F, K>>();
-    crosses_threads::<MergeJoin<'static, T, T, F, F, K>>();
-    crosses_threads::<MergeJoinBy<'static, T, T, F>>();
+pub fn threads<T: Send + Sync, F: Send + Sync, K: Send + Sync, N: Lanes + Send + Sync>(
+    groups: (&LinearGroup<'_, T>, &ExponentialGroupByKeyMut<'_, T, F, K>),
+    numbers: &LinearNumberGroup<'_, N>,
+    texts: (&LinearStrGroupByKey<'_, F, K>, &LinearStrGroupMut<'_>),
+    joins: (&MergeJoin<'_, T, T, F, F, K>, &MergeJoinBy<'_, T, T, F>),
+) {
+    crosses_threads(groups.0);
+    crosses_threads(groups.1);
+    crosses_threads(numbers);
+    crosses_threads(texts.0);
+    crosses_threads(texts.1);
+    crosses_threads(joins.0);
+    crosses_threads(joins.1);
 }
 
 // (whatever is in the slice)
-pub fn tokens_cross_threads<T: 'static>() {
-    crosses_threads::<Ended<'static, T>>();
-    crosses_threads::<Loans<T>>();
+pub fn tokens<T>(ended: &Ended<'_, T>, loans: &Loans<T>) {
+    crosses_threads(ended);
+    crosses_threads(loans);
 }

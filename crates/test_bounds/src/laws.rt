@@ -1,108 +1,100 @@
 //! Laws: each speaks of lists, functions and queues of whatever types it says.
+use slice_group_by::laws::*;
 use slice_group_by::{
-    BinaryGroupBy, ExponentialGroupByKeyMut, GroupQueue, Lanes, LinearGroup, LinearGroupBy,
-    LinearNumberGroup, LinearStrGroupByKeyMut, MergeJoin, MergeJoinBy, Offsets, WithOffsets, laws,
+    BinaryGroupBy, ExponentialGroupByKeyMut, GroupQueue, LinearGroupBy, LinearStrGroupByKeyMut,
+    MergeJoin, MergeJoinBy, Offsets, WithOffsets,
 };
 use std::cmp::Ordering;
 use std::iter::Map;
 use std::slice::ChunkBy;
 
 pub fn of_lists<T, U>() {
-    laws::one_split::<T>();
-    laws::splits_join::<T>();
-    laws::question_count::<T>();
-    laws::first_group_agrees::<T>();
-    laws::parts_are_grouped::<T>();
-    laws::gap_parts::<T>();
-    laws::range_parts::<T>();
-    laws::equal_pieces_are_copies::<T>();
-    laws::pieces_add_up::<T>();
-    laws::partitioned_pieces::<T>();
-    laws::pairs_count::<T, U>();
-    laws::merge_is_unique::<T, U>();
-    laws::semi_joins_are_filters::<T, U>();
-    laws::joins_find_partners::<T, U>();
-    laws::merges_count::<T, U>();
-    laws::parts_or_empty::<T, U>();
+    one_split::<T>();
+    splits_join::<T>();
+    question_count::<T>();
+    first_group_agrees::<T>();
+    parts_are_grouped::<T>();
+    range_parts::<T>();
+    equal_pieces_are_copies::<T>();
+    pieces_add_up::<T>();
+    pairs_count::<T, U>();
+    merge_is_unique::<T, U>();
+    semi_joins_are_filters::<T, U>();
+    joins_find_partners::<T, U>();
+    merges_count::<T, U>();
+    parts_or_empty::<T, U>();
 }
 
 pub fn of_keys<T, U, E: PartialEq, K: Ord>() {
-    laws::pieces_begin_as_dedup::<T, E>();
-    laws::equality_judges::<E>();
-    laws::ascending_is_grouped::<T, K>();
-    laws::descending_is_grouped::<T, K>();
-    laws::ascending_is_searchable::<T, K>();
-    laws::sorts_ascend::<T, K>();
-    laws::sorted_by_key_ascends::<T, K>();
-    laws::pieces_by_key::<T, K>();
-    laws::pairs_match::<T, U, K>();
-    laws::partners_are_unique::<T, U, K>();
-    laws::pairs_ascend::<T, U, K>();
-    laws::merges_agree::<T, U, K>();
-    laws::merges_exist::<T, U, K>();
-    laws::unions_ascend::<K>();
+    pieces_begin_as_dedup::<T, E>();
+    equality_judges::<E>();
+    ascending_is_grouped::<T, K>();
+    descending_is_grouped::<T, K>();
+    ascending_is_searchable::<T, K>();
+    sorts_ascend::<T, K>();
+    sorted_by_key_ascends::<T, K>();
+    pieces_by_key::<T, K>();
+    pairs_match::<T, U, K>();
+    partners_are_unique::<T, U, K>();
+    pairs_ascend::<T, U, K>();
+    merges_agree::<T, U, K>();
+    merges_exist::<T, U, K>();
+    unions_ascend::<K>();
 }
 
 pub fn of_closures<T, P: FnMut(&T, &T) -> bool, F: FnMut(&T) -> K, K: PartialEq + Drop>() {
-    laws::callable_on_pairs::<T, P>();
-    laws::computes_on_pairs::<T, P>();
-    laws::callable_on_elements::<T, F, K>();
-    laws::computes_on_elements::<T, F, K>();
+    always_callable_key::<T, F, K>();
+    always_callable_key_apart::<T, F, K>();
+    callable_on_pairs::<T, P>();
+    computes_on_pairs::<T, P>();
+    callable_on_elements::<T, F, K>();
+    computes_on_elements::<T, F, K>();
 }
 
 pub fn of_characters<P: FnMut(char, char) -> bool, F: FnMut(char) -> K, K: PartialEq + Drop>() {
-    laws::computes_on_char_pairs::<P>();
-    laws::computes_on_chars::<F, K>();
+    always_callable_char_key::<F, K>();
+    computes_on_char_pairs::<P>();
+    computes_on_chars::<F, K>();
 }
 
-pub fn of_functions<T, F: FnMut(&T) -> K, K, G: Fn(&T) -> K, P: Fn(&T, &T) -> bool>(
-    f: &F,
-    g: &G,
-    p: &P,
-) {
-    laws::always_callable_on_elements::<T, F, K>();
-    laws::always_computes(f);
-    laws::range_starts(f);
-    laws::range_calls_count(f);
-    laws::callable_now(g);
-    laws::callable_now_on_pairs(p);
+pub fn of_functions<T, F: FnMut(&T) -> K, K, G: Fn(&T) -> K>(f: &F, g: &G) {
+    always_callable_on_elements::<T, F, K>();
+    always_computes(f);
+    searches_call(f);
+    range_starts(f);
+    range_calls_count(f);
+    callable_now(g);
 }
 
-pub fn of_searches<T, W: FnMut(&T) -> Ordering, F: FnMut(&T) -> K, K: Ord>(
-    comparator: &W,
-    key: &F,
-) {
-    laws::comparisons_count(comparator);
-    laws::key_calls_count(key);
+pub fn of_searches<T, W: FnMut(&T) -> Ordering, F: FnMut(&T) -> K, K: Ord>(by: &W, key: &F) {
+    comparisons_count(by);
+    key_calls_count(key);
 }
 
 pub fn of_queues<Q: GroupQueue, R: GroupQueue<Element = Q::Element>>(one: &Q, other: &R) {
-    laws::calls_take_pieces(one);
-    laws::calls_may_go_on(one);
-    laws::chains_answer(one);
-    laws::sees_pieces(one);
-    laws::groups_join(one);
-    laws::ends_agree(one);
-    laws::groups_still_come(one);
-    laws::calls_ask(one);
-    laws::families_agree(one, other);
+    calls_take_pieces(one);
+    calls_may_go_on(one);
+    chains_answer(one);
+    sees_pieces(one);
+    groups_join(one);
+    groups_still_come(one);
+    calls_ask(one);
+    families_agree(one, other);
 }
 
-pub fn of_other_iterators<
-    T,
-    U,
-    Q: Offsets + GroupQueue<Element = T>,
-    F: FnMut(Q::Item) -> U,
-    P: FnMut(&T, &T) -> bool,
->(queue: &Q, mapped: &Map<Q, F>, standing: &WithOffsets<Q>, chunks: &ChunkBy<'_, T, P>) {
-    laws::mapped_calls_ask(mapped);
-    laws::groups_stand(standing);
-    laws::chunk_by_agrees(chunks, queue);
+pub fn of_mapped<T, Q: GroupQueue<Element = T>, U, F: FnMut(Q::Item) -> U>(mapped: &Map<Q, F>) {
+    mapped_calls_ask(mapped);
 }
 
-pub fn of_numbers<T: Lanes>(numbers: &LinearNumberGroup<'_, T>, elements: &LinearGroup<'_, T>) {
-    laws::number_judges::<T>();
-    laws::numbers_agree(numbers, elements);
+pub fn of_offsets<Q: Offsets>(groups: &WithOffsets<Q>) {
+    groups_stand(groups);
+}
+
+pub fn of_chunks<T, P: FnMut(&T, &T) -> bool, Q: GroupQueue<Element = T>>(
+    chunks: &ChunkBy<'_, T, P>,
+    queue: &Q,
+) {
+    chunk_by_agrees(chunks, queue);
 }
 
 // Each kind of iterator shows how it asks, and those for writing what they hand out.
@@ -111,29 +103,27 @@ pub fn of_groups<T, P: FnMut(&T, &T) -> bool, F: FnMut(&T) -> K, K: PartialEq + 
     binary: &BinaryGroupBy<'_, T, P>,
     exponential: &ExponentialGroupByKeyMut<'_, T, F, K>,
 ) {
-    laws::each_pair_asked_once(linear);
-    laws::linear_counts(linear);
-    laws::questions_count(linear);
-    laws::questions_count(binary);
-    laws::search_asks(binary);
-    laws::groups_end_locally(binary);
-    laws::search_asks(exponential);
-    laws::chains_hand_out(exponential);
+    each_pair_asked_once(linear);
+    linear_counts(linear);
+    questions_count(binary);
+    search_asks(binary);
+    groups_end_locally(exponential);
+    chains_hand_out(exponential);
 }
 
 pub fn of_texts<F: FnMut(char) -> K, K: PartialEq + Drop>(
     groups: &LinearStrGroupByKeyMut<'_, F, K>,
 ) {
-    laws::linear_counts(groups);
-    laws::texts_join(groups);
-    laws::chains_hand_out(groups);
+    linear_counts(groups);
+    texts_join(groups);
+    chains_hand_out(groups);
 }
 
 pub fn of_joins<A, B, FA: Fn(&A) -> K, FB: Fn(&B) -> K, K: Ord + Drop>(
     join: &MergeJoin<'_, A, B, FA, FB, K>,
 ) {
-    laws::sees_pairs(join);
-    laws::joins_may_go_on(join);
+    sees_pairs(join);
+    joins_may_go_on(join);
 }
 
 pub fn of_merges<A, B, K: Ord, F: FnMut(&A, &B) -> Ordering, G: FnMut(&K, &K) -> Ordering>(
@@ -141,11 +131,11 @@ pub fn of_merges<A, B, K: Ord, F: FnMut(&A, &B) -> Ordering, G: FnMut(&K, &K) ->
     compare: &F,
     in_order: &MergeJoinBy<'_, K, K, G>,
 ) {
-    laws::always_compares(compare);
-    laws::sees_merge(join);
-    laws::sees_merge_by_keys::<A, B, K, F>(join);
-    laws::merge_parts_join(join);
-    laws::merges_may_go_on(join);
-    laws::merges_ask(join);
-    laws::sees_merge_in_order(in_order);
+    always_compares(compare);
+    sees_merge(join);
+    sees_merge_by_keys::<A, B, K, F>(join);
+    merge_parts_join(join);
+    merges_may_go_on(join);
+    merges_ask(join);
+    sees_merge_in_order(in_order);
 }

@@ -1,15 +1,10 @@
-//! Searches, ranges, partition points and joins.
+//! Searches, ranges, partition points, joins and their parts.
 ghost use Rattle.slice_group_by.specs.Asking.{IsCallableAcross};
 ghost use Rattle.slice_group_by.specs.Search.{IsCallableOn};
 
-use slice_group_by::{
-    MergeJoin, MergeJoinBy, exponential_equal_range, exponential_equal_range_by,
-    exponential_equal_range_by_key, exponential_equal_range_by_key_ref,
-    exponential_equal_range_by_ref, exponential_partition_point, exponential_partition_point_ref,
-    exponential_search, exponential_search_by, exponential_search_by_key,
-    exponential_search_by_key_ref, exponential_search_by_ref, is_sorted_for_groups,
-};
+use slice_group_by::*;
 use std::cmp::Ordering;
+use std::fmt::Debug;
 
 // What is sought may be gone before what is found.
 pub fn of_elements<'a, T: Ord>(xs: &'a [T], elem: &T) -> &'a [T] {
@@ -17,58 +12,68 @@ pub fn of_elements<'a, T: Ord>(xs: &'a [T], elem: &T) -> &'a [T] {
     exponential_equal_range(xs, elem)
 }
 
-pub fn by<T, F: FnMut(&T) -> Ordering>(xs: &[T], fs: [F; 2], lent: &mut F)
-    requires { (f : F) → IsCallableOn F.FnMut xs.now f }
+pub fn by<T, F: FnMut(&T) -> Ordering>(xs: &[T], f: F, g: F, lent: &mut F)
+    requires f { IsCallableOn F.FnMut xs.now f }
+    requires g { IsCallableOn F.FnMut xs.now g }
+    requires lent { IsCallableOn F.FnMut xs.now lent.old }
 {
-    let [f, g] = fs;
-    let _ = (
-        exponential_search_by(xs, f),
-        exponential_equal_range_by(xs, g),
-    );
+    let _ = exponential_search_by(xs, f);
+    let _ = exponential_equal_range_by(xs, g);
     let _ = exponential_search_by_ref(xs, lent);
     let _ = exponential_equal_range_by_ref(xs, lent);
 }
 
-pub fn by_key<'a, T, B: Ord + Drop, F: FnMut(&T) -> B>(
-    xs: &'a [T],
-    b: &B,
-    fs: [F; 2],
-    lent: &mut F,
-) -> [&'a [T]; 2]
-    requires { (f : F) → IsCallableOn F.FnMut xs.now f }
+pub fn by_key<T, B: Ord + Drop, F: FnMut(&T) -> B>(xs: &[T], b: &B, f: F, g: F, lent: &mut F)
+    requires f { IsCallableOn F.FnMut xs.now f }
+    requires g { IsCallableOn F.FnMut xs.now g }
+    requires lent { IsCallableOn F.FnMut xs.now lent.old }
 {
-    let [f, g] = fs;
     let _ = exponential_search_by_key(xs, b, f);
+    let _ = exponential_equal_range_by_key(xs, b, g);
     let _ = exponential_search_by_key_ref(xs, b, lent);
-    let range = exponential_equal_range_by_key(xs, b, g);
-    [range, exponential_equal_range_by_key_ref(xs, b, lent)]
+    let _ = exponential_equal_range_by_key_ref(xs, b, lent);
 }
 
 pub fn points<T, P: FnMut(&T) -> bool>(xs: &[T], p: P, lent: &mut P)
-    requires { (p : P) → IsCallableOn P.FnMut xs.now p }
+    requires p { IsCallableOn P.FnMut xs.now p }
+    requires lent { IsCallableOn P.FnMut xs.now lent.old }
 {
     let _ = exponential_partition_point(xs, p);
     let _ = exponential_partition_point_ref(xs, lent);
 }
 
-pub fn joined_by_key<'a, A, B, FA: Fn(&A) -> K, FB: Fn(&B) -> K, K: Ord + Drop>(
-    left: &'a [A],
-    left_key: FA,
-    right: &'a [B],
-    right_key: FB,
-) -> MergeJoin<'a, A, B, FA, FB, K>
-    requires left { IsCallableOn FA.FnMut left.now left_key }
-    requires right { IsCallableOn FB.FnMut right.now right_key }
+pub fn joined_by_key<A, B, FA: Fn(&A) -> K, FB: Fn(&B) -> K, K: Ord + Drop>(
+    left: (&[A], FA),
+    right: (&[B], FB),
+)
+    requires left { IsCallableOn FA.FnMut left.0.now left.1 }
+    requires right { IsCallableOn FB.FnMut right.0.now right.1 }
 {
-    MergeJoin::new(left, left_key, right, right_key)
+    let _ = MergeJoin::new(left.0, left.1, right.0, right.1);
 }
 
-pub fn joined_by<'a, A, B, F: FnMut(&A, &B) -> Ordering>(
-    left: &'a [A],
-    right: &'a [B],
-    compare: F,
-) -> MergeJoinBy<'a, A, B, F>
+pub fn joined_by<A, B, F: FnMut(&A, &B) -> Ordering>(left: &[A], right: &[B], compare: F)
     requires { IsCallableAcross F.FnMut left.now right.now compare }
 {
-    MergeJoinBy::new(left, right, compare)
+    let _ = MergeJoinBy::new(left, right, compare);
+}
+
+// Values that may be let go, and slices of anything.
+
+pub fn parts<L: Drop, R: Drop>(parts: [EitherOrBoth<L, R>; 6], values: (L, R)) -> (L, R) {
+    let [first, second, third, fourth, fifth, sixth] = parts;
+    let _ = (first.left(), second.right(), third.both());
+    let _ = (fourth.just_left(), fifth.just_right());
+    sixth.or(values.0, values.1)
+}
+
+pub fn parts_of_slices<'a, T>(part: EitherOrBoth<&'a [T], &'a [T]>) -> [&'a [T]; 3] {
+    [part.partnered(), part.alone(), part.once()]
+}
+
+fn is_copied<T: Copy + Eq + Debug>(_value: &T) {}
+
+pub fn values<L: Copy + Eq + Debug, R: Copy + Eq + Debug>(end: &End, part: &EitherOrBoth<L, R>) {
+    is_copied(end);
+    is_copied(part);
 }

@@ -1,11 +1,11 @@
-//! What a slice ends as, and the parts of joins.
+//! What a slice ends as.
 ghost use Rattle.std.specs.Prelude.{◌≡◌, List, [], ◌∷◌, drop};
 ghost use Rattle.std.specs.Borrow.{MutBor};
 ghost use Rattle.slice_group_by.specs.End.TheVariants.{Back, Front};
 ghost use Rattle.slice_group_by.specs.declared.loans.Ended.{Ended as Token};
 
 use slice_group_by::loans::{Ended, resolve, resolve_and_return};
-use slice_group_by::{EitherOrBoth, LinearGroupByKeyMut, LinearGroupMut, LinearStrGroupByKeyMut};
+use slice_group_by::{LinearGroupByKeyMut, LinearGroupMut, LinearStrGroupByKeyMut};
 
 // A function that may be called once is enough.
 
@@ -60,17 +60,4 @@ pub fn finished<'a, F: Drop, K>(groups: LinearStrGroupByKeyMut<'a, F, K>) -> End
     requires { groups.loans.cuts ≡ [] }
 {
     groups.finish()
-}
-
-// Values that may be let go, and slices of anything.
-
-pub fn parts_of_values<L: Drop, R: Drop>(parts: [EitherOrBoth<L, R>; 6], values: (L, R)) -> (L, R) {
-    let [first, second, third, fourth, fifth, sixth] = parts;
-    let _ = (first.left(), second.right(), third.both());
-    let _ = (fourth.just_left(), fifth.just_right());
-    sixth.or(values.0, values.1)
-}
-
-pub fn parts_of_slices<'a, T>(part: EitherOrBoth<&'a [T], &'a [T]>) -> [&'a [T]; 3] {
-    [part.partnered(), part.alone(), part.once()]
 }
