@@ -1,4 +1,7 @@
 //! What the cases share: lists of calls, and functions of numbers.
+ghost use Rattle.std.specs.Iterator.{IsFinite};
+ghost use Rattle.std.specs.Prelude.{◌≡◌, true, IsSome};
+
 use std::cell::Cell;
 
 /// What a call over numbers answers.
@@ -32,20 +35,56 @@ pub(crate) fn read<T>(group: Option<&mut [T]>) -> Option<&[T]> {
     }
 }
 
-/// Whether there is a group, of these elements, which are written over.
-pub(crate) fn filled<T: Copy + PartialEq>(group: Option<&mut [T]>, wanted: &[T], with: T) -> bool {
-    match group {
-        Some(group) => {
-            let holds = *group == *wanted;
-            group.fill(with);
-            holds
+/// Whether calls at the front give these groups, and then nothing.
+pub(crate) fn come<I: Iterator + Drop>(groups: I, wanted: &[I::Item]) -> bool
+where
+    I::Item: PartialEq + Drop,
+    requires can { I.can_next groups }
+    requires ends { IsFinite (I.remaining groups) }
+{
+    let mut groups = groups;
+    for wanted in wanted {
+        match groups.next() {
+            Some(group) if group == *wanted => {}
+            _ => return false,
         }
+    }
+    groups.next().is_none()
+}
+
+/// The same of groups for writing.
+pub(crate) fn come_mut<'a, T: PartialEq + 'a, I: Iterator<Item = &'a mut [T]> + Drop>(
+    groups: I,
+    wanted: &[&[T]],
+) -> bool
+    requires can { I.can_next groups }
+    requires ends { IsFinite (I.remaining groups) }
+{
+    let mut groups = groups;
+    for wanted in wanted {
+        if !holds(groups.next(), wanted) {
+            return false;
+        }
+    }
+    groups.next().is_none()
+}
+
+/// Whether there is a group, of these elements.
+pub(crate) fn holds<T: PartialEq>(group: Option<&mut [T]>, wanted: &[T]) -> bool
+    ensures { result ≡ true → IsSome group.entry }
+{
+    match group {
+        Some(group) => *group == *wanted,
         None => false,
     }
 }
 
 pub(crate) fn equal(a: &i32, b: &i32) -> bool {
     a == b
+}
+
+pub(crate) fn differ(a: &i32, b: &i32) -> bool {
+    a != b
 }
 
 /// Whether two numbers are equal, which is one question more.

@@ -49,22 +49,26 @@ fn texts_of_reading(rt: HostRuntime) -> Result<(), Fail> {
     Ok(())
 }
 
-type Three<'a> = [&'a mut [i32]; 3];
-
 fn written_by_predicate(
     alloc: Global,
-    slices: Three<'_>,
+    first: &mut [i32],
+    second: &mut [i32],
+    third: &mut [i32],
     wanted: &str,
 ) -> Result<bool, AllocError> {
-    let [first, second, third] = slices;
     let linear = LinearGroupByMut::new(first, equal);
     let binary = BinaryGroupByMut::new(second, equal);
     let exponential = ExponentialGroupByMut::new(third, equal);
     is_written(alloc, &(linear, binary, exponential), wanted)
 }
 
-fn written_by_key(alloc: Global, slices: Three<'_>, wanted: &str) -> Result<bool, AllocError> {
-    let [first, second, third] = slices;
+fn written_by_key(
+    alloc: Global,
+    first: &mut [i32],
+    second: &mut [i32],
+    third: &mut [i32],
+    wanted: &str,
+) -> Result<bool, AllocError> {
     let linear = LinearGroupByKeyMut::new(first, itself);
     let binary = BinaryGroupByKeyMut::new(second, itself);
     let exponential = ExponentialGroupByKeyMut::new(third, itself);
@@ -77,16 +81,16 @@ fn texts_of_writing(rt: HostRuntime) -> Result<(), Fail> {
     let alloc = rt.alloc();
     let by =
         "(LinearGroupByMut { slice: [1, 2] }, BinaryGroupByMut { remainder: [1, 2] }, ExponentialGroupByMut { remaining: [1, 2] })";
-    assert!(rt; written_by_predicate(alloc, [&mut [1, 2], &mut [1, 2], &mut [1, 2]], by)?);
+    assert!(rt; written_by_predicate(alloc, &mut [1, 2], &mut [1, 2], &mut [1, 2], by)?);
     let by =
         "(LinearGroupByMut { slice: [] }, BinaryGroupByMut { remainder: [] }, ExponentialGroupByMut { remaining: [] })";
-    assert!(rt; written_by_predicate(alloc, [&mut [], &mut [], &mut []], by)?);
+    assert!(rt; written_by_predicate(alloc, &mut [], &mut [], &mut [], by)?);
     let key =
         "(LinearGroupByKeyMut { remainder: [1, 2] }, BinaryGroupByKeyMut { remainder: [1, 2] }, ExponentialGroupByKeyMut { remaining: [1, 2] })";
-    assert!(rt; written_by_key(alloc, [&mut [1, 2], &mut [1, 2], &mut [1, 2]], key)?);
+    assert!(rt; written_by_key(alloc, &mut [1, 2], &mut [1, 2], &mut [1, 2], key)?);
     let key =
         "(LinearGroupByKeyMut { remainder: [] }, BinaryGroupByKeyMut { remainder: [] }, ExponentialGroupByKeyMut { remaining: [] })";
-    assert!(rt; written_by_key(alloc, [&mut [], &mut [], &mut []], key)?);
+    assert!(rt; written_by_key(alloc, &mut [], &mut [], &mut [], key)?);
     Ok(())
 }
 

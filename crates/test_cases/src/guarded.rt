@@ -1,7 +1,7 @@
 //! Predicates that may be called only on some elements, or never.
 ghost use Rattle.std.specs.Prelude.{◌≡◌, ◌≢◌, ◌<◌, [], ◌∷◌};
 
-use crate::calls::answers;
+use crate::calls::come;
 use slice_group_by::{BinaryGroupBy, ExponentialGroupBy, GroupBy, LinearGroupBy};
 
 #[derive(Drop)]
@@ -34,31 +34,29 @@ fn is_valid_part(group: Option<&[Guarded]>) -> bool {
 }
 
 // Whether the valid part comes as one group, and nothing after it.
-macro_rules! comes_whole {
-    ($groups:ident) => {{
-        let array = valid_between_invalid();
-        let [first, second] = answers!($groups::new(&array[1..3], accept_valid); next, next);
-        is_valid_part(first) && second.is_none()
-    }};
-}
-
-macro_rules! is_last {
-    ($groups:ident) => {{
-        let array = valid_between_invalid();
-        is_valid_part($groups::new(&array[1..3], accept_valid).last())
-    }};
+fn comes_whole<'a, I: Iterator<Item = &'a [Guarded]>>(groups: I) -> bool
+    requires { I.can_next groups }
+{
+    let mut groups = groups;
+    match groups.next() {
+        Some(group) => is_valid_part(Some(group)) && groups.next().is_none(),
+        None => false,
+    }
 }
 
 fn linear_overflow() -> bool {
-    comes_whole!(LinearGroupBy)
+    let array = valid_between_invalid();
+    comes_whole(LinearGroupBy::new(&array[1..3], accept_valid))
 }
 
 fn binary_overflow() -> bool {
-    comes_whole!(BinaryGroupBy)
+    let array = valid_between_invalid();
+    comes_whole(BinaryGroupBy::new(&array[1..3], accept_valid))
 }
 
 fn exponential_overflow() -> bool {
-    comes_whole!(ExponentialGroupBy)
+    let array = valid_between_invalid();
+    comes_whole(ExponentialGroupBy::new(&array[1..3], accept_valid))
 }
 
 #[test]
@@ -67,23 +65,24 @@ fn overflow(rt: HostRuntime) {
 }
 
 fn linear_last_overflow() -> bool {
-    is_last!(LinearGroupBy)
+    let array = valid_between_invalid();
+    is_valid_part(LinearGroupBy::new(&array[1..3], accept_valid).last())
 }
 
 fn binary_last_overflow() -> bool {
-    is_last!(BinaryGroupBy)
+    let array = valid_between_invalid();
+    is_valid_part(BinaryGroupBy::new(&array[1..3], accept_valid).last())
 }
 
 fn exponential_last_overflow() -> bool {
-    is_last!(ExponentialGroupBy)
+    let array = valid_between_invalid();
+    is_valid_part(ExponentialGroupBy::new(&array[1..3], accept_valid).last())
 }
 
 #[test]
 fn last_overflow(rt: HostRuntime) {
     assert!(rt; linear_last_overflow() && binary_last_overflow() && exponential_last_overflow());
 }
-
-type Bytes = Option<&'static [u8]>;
 
 const FIVE: &[u8] = &[1, 2, 3, 4, 5];
 
@@ -94,22 +93,14 @@ fn ascend_always(a: &u8, b: &u8) -> bool
     true
 }
 
-fn from_front() -> [Bytes; 2] {
-    answers!(LinearGroupBy::new(FIVE, ascend_always); next, next)
-}
-
 #[test]
 fn predicate_call_param_order(rt: HostRuntime) {
-    assert!(rt; from_front() == [Some(FIVE), None]);
-}
-
-fn from_back() -> [Bytes; 2] {
-    answers!(LinearGroupBy::new(FIVE, ascend_always); next_back, next_back)
+    assert!(rt; come(LinearGroupBy::new(FIVE, ascend_always), &[FIVE]));
 }
 
 #[test]
 fn rev_predicate_call_param_order(rt: HostRuntime) {
-    assert!(rt; from_back() == [Some(FIVE), None]);
+    assert!(rt; come(LinearGroupBy::new(FIVE, ascend_always).rev(), &[FIVE]));
 }
 
 // Says no, and may be called only on two different elements.
@@ -121,48 +112,39 @@ fn differ_always(a: &u8, b: &u8) -> bool
 
 const THREE: &[u8] = &[1, 2, 3];
 
-fn binary_one_by_one() -> [Bytes; 4] {
-    answers!(THREE.binary_group_by(differ_always); next, next, next, next)
-}
-
-fn exponential_one_by_one() -> [Bytes; 4] {
-    answers!(THREE.exponential_group_by(differ_always); next, next, next, next)
-}
+const ONE_BY_ONE: [&[u8]; 3] = [&[1], &[2], &[3]];
 
 #[test]
 fn asks_no_element_about_itself(rt: HostRuntime) {
-    let one_by_one: [Bytes; 4] = [Some(&[1]), Some(&[2]), Some(&[3]), None];
-    assert!(rt; binary_one_by_one() == one_by_one);
-    assert!(rt; exponential_one_by_one() == one_by_one);
+    assert!(rt; come(THREE.binary_group_by(differ_always), &ONE_BY_ONE));
+    assert!(rt; come(THREE.exponential_group_by(differ_always), &ONE_BY_ONE));
 }
 
 const ONE: &[u8] = &[1];
 
 // Groups of one element by a predicate that may never be called.
-fn linear_alone() -> [Bytes; 2] {
+fn linear_alone() -> bool {
     let never = |_a: &u8, _b: &u8| -> bool
         requires { ⊥ }
     { true };
-    answers!(ONE.linear_group_by(never); next, next)
+    come(ONE.linear_group_by(never), &[ONE])
 }
 
-fn binary_alone() -> [Bytes; 2] {
+fn binary_alone() -> bool {
     let never = |_a: &u8, _b: &u8| -> bool
         requires { ⊥ }
     { true };
-    answers!(ONE.binary_group_by(never); next, next)
+    come(ONE.binary_group_by(never), &[ONE])
 }
 
-fn exponential_alone() -> [Bytes; 2] {
+fn exponential_alone() -> bool {
     let never = |_a: &u8, _b: &u8| -> bool
         requires { ⊥ }
     { true };
-    answers!(ONE.exponential_group_by(never); next, next)
+    come(ONE.exponential_group_by(never), &[ONE])
 }
 
 #[test]
 fn one_element_asks_nothing(rt: HostRuntime) {
-    let alone = [Some(ONE), None];
-    assert!(rt; linear_alone() == alone && binary_alone() == alone);
-    assert!(rt; exponential_alone() == alone);
+    assert!(rt; linear_alone() && binary_alone() && exponential_alone());
 }

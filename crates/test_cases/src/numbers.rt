@@ -1,5 +1,6 @@
 //! Groups of equal numbers by vectors.
 use slice_group_by::{GroupBy, GroupByMut, Lanes, LinearNumberGroup};
+use std::array;
 
 // The lengths of the groups at both ends in turn, the front first.
 fn lens<T: Lanes, const N: usize>(slice: &[T]) -> [usize; N] {
@@ -29,9 +30,7 @@ fn ends_of_types() -> [[usize; 3]; 6] {
 }
 
 fn ten_others<T: Copy>(first: T, other: T) -> [T; 40] {
-    let mut numbers = [first; 40];
-    numbers[30..].fill(other);
-    numbers
+    array::from_fn(|place| if place < 30 { first } else { other })
 }
 
 #[test]

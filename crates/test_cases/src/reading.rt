@@ -1,7 +1,7 @@
 //! Groups of slices for reading, case by case.
 ghost use Rattle.std.specs.Prelude.{◌≤◌};
 
-use crate::calls::{Group, answers, ascend, asks, equal, itself, tens};
+use crate::calls::{Group, answers, ascend, asks, come, differ, equal, itself, tens};
 use slice_group_by::GroupBy;
 use std::alloc::{AllocError, Global};
 use std::cell::Cell;
@@ -12,27 +12,19 @@ const SORTED: &[i32] = &[1, 1, 1, 2, 2, 2, 3, 3];
 
 const ASCENDING: &[i32] = &[1, 2, 3];
 
-fn by_equality_of_neighbours() -> [Group; 4] {
-    answers!(UNSORTED.linear_group_by(equal); next, next, next, next)
-}
-
 fn by_tens() -> [Group; 3] {
     const TENS: &[i32] = &[10, 11, 20, 21, 22];
     answers!(TENS.binary_group_by_key(tens); next, next_back, next)
 }
 
-// No two of the elements are refused, so the slice is grouped for this test.
-fn by_inequality() -> [Group; 2] {
-    answers!(ASCENDING.binary_group_by(|a, b| a != b); next, next)
-}
-
+// No two elements are equal, so the slice is grouped for `!=`.
 #[test]
 fn by_closures(rt: HostRuntime) {
-    let three: [Group; 4] = [Some(&[1, 1, 1]), Some(&[3, 3]), Some(&[2, 2, 2]), None];
-    assert!(rt; by_equality_of_neighbours() == three);
+    let three: [&[i32]; 3] = [&[1, 1, 1], &[3, 3], &[2, 2, 2]];
+    assert!(rt; come(UNSORTED.linear_group_by(equal), &three));
+    assert!(rt; come(ASCENDING.binary_group_by(differ), &[ASCENDING]));
     let tens: [Group; 3] = [Some(&[10, 11]), Some(&[20, 21, 22]), None];
     assert!(rt; by_tens() == tens);
-    assert!(rt; by_inequality() == [Some(ASCENDING), None]);
 }
 
 fn binary_ascends() -> [Group; 2] {

@@ -2,7 +2,7 @@
 ghost use Rattle.std.specs.Prelude.{◌<◌};
 ghost use Rattle.std.specs.Str.{IsUtf8};
 
-use crate::calls::{answers, answers_mut, filled, read};
+use crate::calls::{answers, answers_mut, come, come_mut, holds};
 use slice_group_by::{
     LinearStrGroup, LinearStrGroupBy, LinearStrGroupByKey, LinearStrGroupByKeyMut,
     LinearStrGroupByMut, LinearStrGroupMut, StrGroupBy, StrGroupByMut,
@@ -11,46 +11,23 @@ use std::test::Fail;
 
 type Text = Option<&'static str>;
 
-type Bytes<'a> = Option<&'a [u8]>;
-
 const EASY: &str = "aaaabbbbbaacccc";
 
 const EASY_GROUPS: [&str; 4] = ["aaaa", "bbbbb", "aa", "cccc"];
 
-// Whether these are the four groups, and nothing behind them.
-fn are(answers: [Text; 5], wanted: [&str; 4]) -> bool {
-    let [first, second, third, fourth] = wanted;
-    answers == [Some(first), Some(second), Some(third), Some(fourth), None]
-}
+const EASY_GROUPS_REV: [&str; 4] = ["cccc", "aa", "bbbbb", "aaaa"];
 
 fn str_easy() -> bool {
-    let answers = answers!(LinearStrGroup::new(EASY); next, next, next, next, next);
-    are(answers, EASY_GROUPS)
-}
-
-fn reversed(groups: [&'static str; 4]) -> [&'static str; 4] {
-    let [first, second, third, fourth] = groups;
-    [fourth, third, second, first]
+    come(LinearStrGroup::new(EASY), &EASY_GROUPS)
 }
 
 fn str_rev_easy() -> bool {
-    let groups = LinearStrGroup::new(EASY);
-    let answers = answers!(groups; next_back, next_back, next_back, next_back, next_back);
-    are(answers, reversed(EASY_GROUPS))
+    come(LinearStrGroup::new(EASY).rev(), &EASY_GROUPS_REV)
 }
 
 fn str_kanji() -> bool {
     let groups = LinearStrGroup::new("包包饰饰与与钥钥匙匙扣扣");
-    let wanted: [Text; 7] = [
-        Some("包包"),
-        Some("饰饰"),
-        Some("与与"),
-        Some("钥钥"),
-        Some("匙匙"),
-        Some("扣扣"),
-        None,
-    ];
-    answers!(groups; next, next, next, next, next, next, next) == wanted
+    come(groups, &["包包", "饰饰", "与与", "钥钥", "匙匙", "扣扣"])
 }
 
 // Characters of Chinese, Japanese and Korean, by their blocks.
@@ -75,39 +52,26 @@ fn both_cjk_or_neither(a: char, b: char) -> bool {
 
 const ASCII_CJK: &str = "abc包包bbccdd饰饰";
 
-const ASCII_CJK_GROUPS: [&str; 4] = ["abc", "包包", "bbccdd", "饰饰"];
-
 fn str_ascii_cjk() -> bool {
     let groups = LinearStrGroupBy::new(ASCII_CJK, both_cjk_or_neither);
-    are(
-        answers!(groups; next, next, next, next, next),
-        ASCII_CJK_GROUPS,
-    )
+    come(groups, &["abc", "包包", "bbccdd", "饰饰"])
 }
 
 fn str_rev_ascii_cjk() -> bool {
     let groups = LinearStrGroupBy::new(ASCII_CJK, both_cjk_or_neither);
-    let answers = answers!(groups; next_back, next_back, next_back, next_back, next_back);
-    are(answers, reversed(ASCII_CJK_GROUPS))
-}
-
-// Whether these are the bytes of the four groups, and nothing behind them.
-fn are_bytes(answers: [Bytes<'_>; 5], wanted: [&'static str; 4]) -> bool {
-    let [first, second, third, fourth] = wanted.map(|text| Some(text.as_bytes()));
-    answers == [first, second, third, fourth, None]
+    come(groups.rev(), &["饰饰", "bbccdd", "包包", "abc"])
 }
 
 fn str_mut_easy() -> bool {
     let mut bytes = *b"aaaabbbbbaacccc";
-    let answers = answers_mut!(LinearStrGroupMut::new(&mut bytes); next, next, next, next, next);
-    are_bytes(answers, EASY_GROUPS)
+    let wanted = EASY_GROUPS.map(|group| group.as_bytes());
+    come_mut(LinearStrGroupMut::new(&mut bytes), &wanted)
 }
 
 fn str_mut_rev_easy() -> bool {
     let mut bytes = *b"aaaabbbbbaacccc";
-    let groups = LinearStrGroupMut::new(&mut bytes);
-    let answers = answers_mut!(groups; next_back, next_back, next_back, next_back, next_back);
-    are_bytes(answers, reversed(EASY_GROUPS))
+    let wanted = EASY_GROUPS_REV.map(|group| group.as_bytes());
+    come_mut(LinearStrGroupMut::new(&mut bytes).rev(), &wanted)
 }
 
 #[test]
@@ -150,33 +114,27 @@ fn ascends(a: char, b: char) -> bool {
 
 const ABCAB: &str = "abcab";
 
-fn ascending() -> [Text; 3] {
-    answers!(ABCAB.linear_group_by(ascends); next, next, next)
-}
-
-fn ascending_back() -> [Text; 3] {
-    answers!(ABCAB.linear_group_by(ascends); next_back, next_back, next_back)
-}
-
 fn ascending_mut() -> bool {
     let mut bytes = *b"abcab";
-    let groups = LinearStrGroupByMut::new(&mut bytes, ascends);
-    let wanted: [Bytes<'_>; 3] = [Some(b"abc"), Some(b"ab"), None];
-    answers_mut!(groups; next, next, next) == wanted
+    come_mut(
+        LinearStrGroupByMut::new(&mut bytes, ascends),
+        &[b"abc", b"ab"],
+    )
 }
 
 fn ascending_back_mut() -> bool {
     let mut bytes = *b"abcab";
-    let groups = LinearStrGroupByMut::new(&mut bytes, ascends);
-    let wanted: [Bytes<'_>; 3] = [Some(b"ab"), Some(b"abc"), None];
-    answers_mut!(groups; next_back, next_back, next_back) == wanted
+    come_mut(
+        LinearStrGroupByMut::new(&mut bytes, ascends).rev(),
+        &[b"ab", b"abc"],
+    )
 }
 
 // A test that is not symmetric has the same groups from both ends.
 #[test]
 fn ascending_from_both_ends(rt: HostRuntime) {
-    assert!(rt; ascending() == [Some("abc"), Some("ab"), None]);
-    assert!(rt; ascending_back() == [Some("ab"), Some("abc"), None]);
+    assert!(rt; come(ABCAB.linear_group_by(ascends), &["abc", "ab"]));
+    assert!(rt; come(ABCAB.linear_group_by(ascends).rev(), &["ab", "abc"]));
     assert!(rt; ascending_mut() && ascending_back_mut());
 }
 
@@ -221,11 +179,24 @@ fn letters_and_digits(bytes: &mut [u8]) -> bool
     requires { IsUtf8 bytes.old }
 {
     let mut groups = LinearStrGroupByKeyMut::new(bytes, is_digit);
-    let first = read(groups.next());
-    let rest = groups.as_str() == "12é" && groups.remainder_len() == 4;
-    let others = answers_mut!(groups; next_back, next, next_back);
-    let wanted: [Bytes<'_>; 3] = [Some("é".as_bytes()), Some(b"12"), None];
-    first == Some(b"ab") && rest && others == wanted
+    holds(groups.next(), b"ab")
+        && groups.as_str() == "12é"
+        && groups.remainder_len() == 4
+        && holds(groups.next_back(), "é".as_bytes())
+        && holds(groups.next(), b"12")
+        && groups.next_back().is_none()
+}
+
+// Whether there is a group, of these bytes, which are written over.
+fn filled(group: Option<&mut [u8]>, wanted: &[u8], with: u8) -> bool {
+    match group {
+        Some(group) => {
+            let holds = *group == *wanted;
+            group.fill(with);
+            holds
+        }
+        None => false,
+    }
 }
 
 fn fill_the_outer_ones(bytes: &mut [u8]) -> bool

@@ -1,5 +1,5 @@
 //! Groups of slices for writing, case by case, and what the slice then holds.
-use crate::calls::{Group, answers_mut, ascend, asks, equal, filled, itself, read, tens};
+use crate::calls::{Group, answers_mut, ascend, asks, come_mut, equal, itself, read, tens};
 use slice_group_by::{
     BinaryGroupByKeyMut, BinaryGroupMut, ExponentialGroupByMut, GroupByMut, LinearGroupByKeyMut,
     LinearGroupMut, rank_groups,
@@ -8,32 +8,34 @@ use std::cell::Cell;
 
 type Read<'a> = Option<&'a [i32]>;
 
-fn by_parity(slice: &mut [i32]) -> [Read<'_>; 5] {
-    let groups = LinearGroupByKeyMut::new(slice, |i| i % 2);
-    answers_mut!(groups; next, next, next, next, next)
+// Whether there is a group, of these numbers, which are written over.
+fn filled(group: Option<&mut [i32]>, wanted: &[i32], with: i32) -> bool {
+    match group {
+        Some(group) => {
+            let holds = *group == *wanted;
+            group.fill(with);
+            holds
+        }
+        None => false,
+    }
+}
+
+fn parity(x: &i32) -> i32 {
+    *x % 2
 }
 
 #[test]
 fn group_by_key_mut(rt: HostRuntime) {
-    let wanted: [Group; 5] = [
-        Some(&[1]),
-        Some(&[2, 4]),
-        Some(&[5, 7]),
-        Some(&[8, 8]),
-        None,
-    ];
-    assert!(rt; by_parity(&mut [1, 2, 4, 5, 7, 8, 8]) == wanted);
-}
-
-fn binary_by_equality<'a>(slice: &'a mut &mut [i32]) -> [Read<'a>; 4] {
-    answers_mut!(slice.binary_group_by_mut(equal); next, next, next, next)
+    let mut array = [1, 2, 4, 5, 7, 8, 8];
+    let wanted: [&[i32]; 4] = [&[1], &[2, 4], &[5, 7], &[8, 8]];
+    assert!(rt; come_mut(LinearGroupByKeyMut::new(&mut array, parity), &wanted));
 }
 
 #[test]
 fn three_groups_for_writing(rt: HostRuntime) {
     let mut slice: &mut [i32] = &mut [1, 1, 1, 2, 2, 2, 3, 3];
-    let wanted: [Group; 4] = [Some(&[1, 1, 1]), Some(&[2, 2, 2]), Some(&[3, 3]), None];
-    assert!(rt; binary_by_equality(&mut slice) == wanted);
+    let wanted: [&[i32]; 3] = [&[1, 1, 1], &[2, 2, 2], &[3, 3]];
+    assert!(rt; come_mut(slice.binary_group_by_mut(equal), &wanted));
 }
 
 // A reversed iterator gives the groups from the back, and asks what calls from the back ask.
@@ -133,12 +135,14 @@ fn first_of(slice: &mut [i32]) -> Option<&mut [i32]> {
 // Whether there is a pair of ones, whose first place is written.
 fn begins_anew(group: Option<&mut [i32]>) -> bool {
     match group {
-        Some([first, second]) => {
-            let holds = *first == 1 && *second == 1;
-            *first = 7;
+        Some(group) => {
+            let holds = &*group == [1, 1].as_slice();
+            if let Some(first) = group.first_mut() {
+                *first = 7;
+            }
             holds
         }
-        _ => false,
+        None => false,
     }
 }
 

@@ -4,9 +4,8 @@ use example_walks::closures::counted;
 use example_walks::families::{after_first, sort_and_count};
 use example_walks::folds::{longest_group, longest_with_row, total_by_groups};
 use example_walks::offsets::runs_with_rows;
-use example_walks::plans::halving_plan;
 use example_walks::writers::clear_ends;
-use slice_group_by::{End, refute};
+use slice_group_by::End;
 use std::test::Fail;
 
 #[test]
@@ -48,8 +47,6 @@ fn folds(rt: HostRuntime) {
 fn memory_is_enough(rt: HostRuntime) -> Result<(), Fail> {
     let runs = runs_with_rows(rt.alloc(), &[1, 1, 2])?;
     assert!(rt; matches!(runs.as_slice(), [(0, [1, 1]), (2, [2])]));
-    let plan = halving_plan(rt.alloc(), 1, 9)?;
-    assert!(rt; matches!(refute(&plan, 9), 1..=9));
     Ok(())
 }
 
