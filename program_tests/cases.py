@@ -35,14 +35,12 @@ JOINED = {"inner": b"b,2,3\n", "left": b"a,1,\nb,2,3\n", "full": b"a,1,\nb,2,3\n
 CASES = [
     ("run_length_coder", [], b"", 0, b"", b""),
     ("run_length_coder", [], b"aaab\0\0\xff", 0, b"3 97\n1 98\n2 0\n1 255\n", b""),
-    ("run_length_coder", [], b"\n\n", 0, b"2 10\n", b""),
     ("run_length_coder", ["decode"], b"", 0, b"", b""),
     ("run_length_coder", ["decode"], b"3 97\n1 98\n2 0\n1 255\n", 0, b"aaab\0\0\xff", b""),
     ("run_length_coder", ["decode"], RUNS, 1, b"aacddd", WRONG_RUNS),
     ("run_length_coder", ["decode"], b"65537 7\n1 8\n", 0, b"\x07" * 65537 + b"\x08", b""),
     ("uniq_count", [], b"", 0, b"", b""),
     ("uniq_count", [], b"a\na\nb\r\nb\n\n\n\0\n\xff\n\xff", 0, b"2 a\n1 b\r\n1 b\n2 \n1 \0\n2 \xff\n", b""),
-    ("uniq_count", [], b"\n", 0, b"1 \n", b""),
     ("token_counter", [], b"", 0, b"letters: 0\ndigits: 0\nspace: 0\nother: 0\n", b""),
     ("token_counter", [], b"let x1 = \xe9\xa5\xb0\xff;\r\n\0", 0, b"letters: 2\ndigits: 1\nspace: 4\nother: 3\n", b""),
     ("token_counter", [], b"aZ09 \t\n\x0b\x0c\r[`{@/:", 0, b"letters: 1\ndigits: 1\nspace: 2\nother: 2\n", b""),
@@ -56,14 +54,12 @@ CASES = [
         said((2, NO_COMMA), (3, NO_TEXT), (4, b"its department is no number of 32 bits"), (6, b"its amount is no number of 64 bits")),
     ),
     ("table_join", ["full"], b"a,1\nb,2\nb,x,y\n--\r\nb,3\r\nb,4\nc,5", 0, b"a,1,\nb,2,3\nb,2,4\nb,x,y,3\nb,x,y,4\nc,,5\n", b""),
-    ("table_join", [], TABLES, 0, JOINED["inner"], b""),
     *(("table_join", [kind], TABLES, 0, rows, b"") for kind, rows in JOINED.items()),
     *(("table_join", [kind], WRONG_TABLES, 1, rows, WRONG_LINES) for kind, rows in JOINED.items()),
     (
         "table_join", ["semi"], b"b,1\nno\n\xff,2\na\"\0,3\n--\nb,4\nwrong\n", 1, b"b,1\n",
         said((2, NO_COMMA), (3, NO_TEXT), (4, (LOWER % (r'"a\"\0"', '"b"')).encode()), (7, NO_COMMA)),
     ),
-    ("table_join", ["anti"], "b,1\naé,2\n--\n".encode(), 1, b"b,1\n", utf8((2, LOWER % ('"aé"', '"b"')))),
     # a key is written as `{:?}` writes it
     (
         "table_join", ["anti"], "é,1\nä,2\na,3\nà\"\t\u200b,4\n--\nz,5\n".encode(), 1, "é,1\n".encode(),
@@ -89,62 +85,10 @@ CASES = [
     ("table_join", ["anti"], b"a,\r\r\nb,\xc3\xa9\n--", 0, b"a,\r\nb,\xc3\xa9\n", b""),
 ]
 
-# The names of the programs, and arguments that each knows but in other words.
-PROGRAMS = {
-    "run_length_coder": ["decode", "a"],
-    "uniq_count": ["a"],
-    "token_counter": ["a"],
-    "grouped_report": ["a"],
-    "table_join": ["left", "right"],
-    "index_reader": ["a"],
-}
-
-# A run of each, in which nothing is wrong.
-SAMPLES = [
-    ("run_length_coder", [], b"aaab\0\0\xff"),
-    ("run_length_coder", ["decode"], b"3 97\n1 98\n12 255\n"),
-    ("uniq_count", [], b"a\na\nb\n\nccc\n"),
-    ("token_counter", [], b"let x1 = \xc3\xa9;\n"),
-    ("grouped_report", [], b"9,1\n7,65\n9,2\n10,3\n"),
-    ("table_join", ["full"], b"a,1\nb,2\nb,x\n--\nb,3\nc,5\n"),
-    ("table_join", ["anti"], b"a,1\nb,2\n--\nb,3\nc,5\n"),
-    ("index_reader", [], b"3,30\n5,51\n5,50\n--\n5\n4\n3\n"),
+# Long inputs, and what is written of them.
+LONG = [
+    ("run_length_coder", [], b"ab" * 4_000_000, b"1 97\n1 98\n" * 4_000_000),
+    ("uniq_count", [], b"a line\n" * 8_000_000, b"8000000 a line\n"),
+    ("grouped_report", [], b"1,1\n2,1\n" * 3_000_000, b"department 1: 3000000\ndepartment 2: 3000000\ntotal: 6000000\n"),
+    ("table_join", [], b"k,v\n" * 2000 + b"--\n" + b"k,w\n" * 2000, b"k,v,w\n" * 4_000_000),
 ]
-
-# A run of each that reads lines, in which the first is left out.
-WITH_A_LINE_LEFT_OUT = [
-    ("run_length_coder", ["decode"], b"no run\n1 97\n"),
-    ("grouped_report", [], b"no row\n1,2\n"),
-    ("table_join", [], b"no row\na,1\n--\na,2\n"),
-    ("index_reader", [], b"no row\n1,2\n--\n1\n"),
-]
-
-# How the input of each begins that reads lines, what is said of its last line, before it is read on.
-LEFT_OUT_AT_ONCE = [
-    ("run_length_coder", ["decode"], b"no run\n", b"line 1 is left out"),
-    ("grouped_report", [], b"no row\n", b"line 1 is left out"),
-    ("table_join", [], b"no row\n", b"line 1 is left out"),
-    ("table_join", [], b"--\nno row\n", b"line 2 is left out"),
-    ("index_reader", [], b"no row\n", b"line 1 is left out"),
-    ("index_reader", [], b"--\nno query\n", b"line 2 is left out"),
-]
-
-# Long inputs of each, read by blocks.
-BLOCKS = [
-    ("run_length_coder", [], b"a" * 300_000),
-    ("run_length_coder", ["decode"], b"1 97\n" * 60_000),
-    ("uniq_count", [], b"a\n" * 150_000),
-    ("token_counter", [], b"a" * 300_000),
-    ("grouped_report", [], b"1,1\n" * 75_000),
-    ("table_join", ["semi"], b"k,v\n" * 75_000 + b"--\n"),
-    ("index_reader", [], b"1,1\n" * 75_000 + b"--\n"),
-]
-
-# Arguments that no program knows.
-UNKNOWN = [
-    [word]
-    for word in [
-        "", "-", "--", "--helps", "help", "-h", "-c", "-d", "d", "Decode", "decoded", "INNER", "join", "1", " --help", "--help ", "-help",
-        "--version", "decode\n", "--decode", "inner ", "--inner",
-    ]
-] + [["--help", "--help"], ["a", "b", "c"], [""] * 7, [b"\xff"], ["--help", b"\xff"]]

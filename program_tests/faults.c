@@ -1,19 +1,14 @@
-// Stands between a program and the system, by LD_PRELOAD: reads of standard input, and writes of standard output and of
-// standard error, go as the environment says. A number that is not set is none.
+// Stands between a program and the system, by LD_PRELOAD: reads of standard input and writes of standard output go as the environment
+// says.
 #define _GNU_SOURCE
 #include <errno.h>
 #include <stdlib.h>
-#include <string.h>
 #include <sys/syscall.h>
 #include <unistd.h>
 
-static long number(const char *name, long unset) {
+static long number(const char *name) {
     const char *text = getenv(name);
-    return text ? atol(text) : unset;
-}
-
-static size_t least(size_t count, long limit) {
-    return limit >= 0 && (size_t)limit < count ? (size_t)limit : count;
+    return text ? atol(text) : 0;
 }
 
 static ssize_t fails(long code) {
@@ -21,68 +16,27 @@ static ssize_t fails(long code) {
     return -1;
 }
 
-// Whether a call is interrupted, so many times before each that is not.
-static int is_interrupted(long times, long *left) {
-    if (*left < 0) *left = times;
-    if (*left == 0) {
-        *left = -1;
-        return 0;
+// ONE_BY_ONE: each call takes one byte, and is interrupted once before it does. Behind `at` bytes each call fails by the code `error`.
+static ssize_t call(long way, int fd, void *buffer, size_t count, long at, long error) {
+    static long taken[2], is_interrupted[2];
+    if (number("ONE_BY_ONE")) {
+        is_interrupted[way] = !is_interrupted[way];
+        if (is_interrupted[way]) return fails(EINTR);
+        if (count > 1) count = 1;
     }
-    --*left;
-    return 1;
+    if (error && taken[way] == at) return fails(error);
+    if (error && count > (size_t)(at - taken[way])) count = (size_t)(at - taken[way]);
+    ssize_t made = syscall(way == 0 ? SYS_read : SYS_write, fd, buffer, count);
+    if (made > 0) taken[way] += made;
+    return made;
 }
 
-static void note(const char *call) {
-    long counter = number("COUNT", -1);
-    if (counter >= 0) syscall(SYS_write, counter, call, 1);
-}
-
-// READ_EACH: at most so many bytes at once. READ_SIGNALS: so many interruptions before each read. READ_ERROR: behind
-// READ_AT bytes one read fails by this code. READ_MORE: what a read behind the end gives. COUNT: the descriptor to which a
-// letter is written for each call, `r` or `w`.
 ssize_t read(int fd, void *buffer, size_t count) {
-    static long given, left = -1, has_failed, is_ended, has_gone_on;
     if (fd != 0) return syscall(SYS_read, fd, buffer, count);
-    note("r");
-    if (is_interrupted(number("READ_SIGNALS", 0), &left)) return fails(EINTR);
-    long error = number("READ_ERROR", 0), at = number("READ_AT", 0);
-    if (error && !has_failed) {
-        if (given >= at) {
-            has_failed = 1;
-            return fails(error);
-        }
-        count = least(count, at - given);
-    }
-    const char *more = getenv("READ_MORE");
-    if (is_ended && more && !has_gone_on) {
-        has_gone_on = 1;
-        count = least(count, (long)strlen(more));
-        memcpy(buffer, more, count);
-        return (ssize_t)count;
-    }
-    ssize_t got = syscall(SYS_read, fd, buffer, least(count, number("READ_EACH", -1)));
-    if (got == 0) is_ended = 1;
-    if (got > 0) given += got;
-    return got;
+    return call(0, fd, buffer, count, number("READ_AT"), number("READ_ERROR"));
 }
 
-// WRITE_EACH and WRITE_SIGNALS: the same of both outputs. WRITE_ERROR: of standard output, behind WRITE_AT bytes each write
-// fails by this code, or takes nothing where it is 0; with WRITE_ONCE one does, and then all is taken.
 ssize_t write(int fd, const void *buffer, size_t count) {
-    static long taken, left[2] = {-1, -1}, has_failed;
-    if (fd != 1 && fd != 2) return syscall(SYS_write, fd, buffer, count);
-    note("w");
-    if (is_interrupted(number("WRITE_SIGNALS", 0), &left[fd - 1])) return fails(EINTR);
-    count = least(count, number("WRITE_EACH", -1));
-    long error = number("WRITE_ERROR", -1), at = number("WRITE_AT", 0);
-    if (error >= 0 && fd == 1 && !(has_failed && getenv("WRITE_ONCE"))) {
-        if (taken >= at && count > 0) {
-            has_failed = 1;
-            return error ? fails(error) : 0;
-        }
-        count = least(count, at - taken);
-    }
-    ssize_t got = syscall(SYS_write, fd, buffer, count);
-    if (got > 0 && fd == 1) taken += got;
-    return got;
+    if (fd != 1) return syscall(SYS_write, fd, buffer, count);
+    return call(1, fd, (void *)buffer, count, number("WRITE_AT"), number("WRITE_ERROR"));
 }

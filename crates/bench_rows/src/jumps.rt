@@ -139,10 +139,11 @@ pub fn row_12<W: Write>(out: &mut W) -> Result<bool, Error> {
 
 /// A short group after a long one, from the back: galloping from its own end asks little.
 pub fn row_18<W: Write>(out: &mut W) -> Result<bool, Error> {
-    let mut slice = [0; 1001];
-    slice[1000] = 1;
+    let mut array = [0; 1001];
+    array[1000] = 1;
+    let slice: &[i32] = &array;
     let mut questions = 0usize;
-    let mut groups = ExponentialGroupBy::new(&slice, |a, b| {
+    let mut groups = slice.exponential_group_by(|a, b| {
         questions = questions.wrapping_add(1);
         a == b
     });

@@ -2,9 +2,7 @@
 ghost use Rattle.std.specs.Prelude.{◌<ℤ◌};
 
 use crate::lines::{differs, read, write_answers, write_groups};
-use slice_group_by::{
-    End, GroupBy, LinearGroup, LinearGroupBy, LinearGroupByKeyMut, rank_groups, walk,
-};
+use slice_group_by::{End, GroupBy, LinearGroup, LinearGroupByKeyMut, rank_groups, walk};
 use std::cell::Cell;
 use std::io::{Error, Write};
 
@@ -110,10 +108,9 @@ const ROW_17: [Group; 2] = [Some(&[1, 2, 3, 4, 5]), None];
 
 /// A predicate that may be called only where the left element is below the right one, from the back.
 pub fn row_17<W: Write>(out: &mut W) -> Result<bool, Error> {
-    let slice = [1, 2, 3, 4, 5];
+    let slice: &[i32] = &[1, 2, 3, 4, 5];
     let mut questions = 0usize;
-    let mut groups = LinearGroupBy::new(
-        &slice,
+    let mut groups = slice.linear_group_by(
         |a: &i32, b: &i32| -> bool
             requires { a.now <ℤ b.now }
         {

@@ -1,6 +1,6 @@
 //! The rows over texts.
 use crate::lines::{differs, write_texts};
-use slice_group_by::{LinearStrGroupBy, LinearStrGroupMut, StrGroupBy};
+use slice_group_by::{LinearStrGroupMut, StrGroupBy};
 use std::cell::Cell;
 use std::io;
 use std::io::{Error, Write};
@@ -35,7 +35,8 @@ const ROW_10: [Text; 1] = [Some("ab")];
 
 /// Groups by a predicate that is not symmetric, from the back.
 pub fn row_10<W: Write>(out: &mut W) -> Result<bool, Error> {
-    let mut groups = LinearStrGroupBy::new("ab", |a, b| a < b);
+    let text = "ab";
+    let mut groups = text.linear_group_by(|a, b| a < b);
     write_texts(out, 10, &[groups.next_back()], &ROW_10, true)
 }
 

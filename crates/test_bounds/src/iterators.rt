@@ -1,127 +1,63 @@
-//! What the types are, over elements of any type, and lists of calls on any queue.
+//! What the types are: iterators that stay at their end, queues, what may be shown and what may cross threads.
 ghost use Rattle.std.specs.Prelude.{◌≡◌, length};
 
 use slice_group_by::loans::{Ended, Loans};
-use slice_group_by::{
-    BinaryGroupBy, BinaryGroupByMut, End, ExponentialGroupByKey, ExponentialGroupByKeyMut,
-    GroupQueue, LinearGroup, LinearGroupBy, LinearGroupMut, LinearStrGroup, LinearStrGroupBy,
-    LinearStrGroupByKey, LinearStrGroupByKeyMut, LinearStrGroupByMut, LinearStrGroupMut, Offsets,
-    SliceQueue, SliceQueueMut, WithOffsets, walk, with_offsets,
-};
-use std::fmt;
+use slice_group_by::*;
+use std::cmp::Ordering;
+use std::fmt::Debug;
 use std::iter::FusedIterator;
 
-fn stays_at_its_end<G: DoubleEndedIterator + FusedIterator>(_groups: &G) {}
+fn is_read<'a, T: 'a, Q: FusedIterator + SliceQueue<'a, T> + Offsets>(_groups: &Q) {}
 
-fn is_a_queue<'a, T: 'a, Q: SliceQueue<'a, T>>(_groups: &Q) {}
+fn is_written<'a, T: 'a, Q: FusedIterator + SliceQueueMut<'a, T>>(_groups: &Q) {}
 
-fn is_a_queue_for_writing<'a, T: 'a, Q: SliceQueueMut<'a, T>>(_groups: &Q) {}
+fn is_queue<Q: DoubleEndedIterator + FusedIterator + GroupQueue>(_groups: &Q) {}
 
-fn has_offsets<Q: Offsets>(_groups: &Q) {}
+fn is_shown<W: Debug>(_value: &W) {}
 
-fn is_printed<D: fmt::Debug>(_groups: &D) {}
+fn crosses_threads<W: Send + Sync>(_value: &W) {}
 
-fn may_be_let_go<D: Drop>(_groups: &D) {}
-
-fn crosses_threads<S: Send + Sync>(_token: &S) {}
-
-pub fn slices<'a, T: PartialEq>(groups: &LinearGroup<'a, T>) {
-    stays_at_its_end(groups);
-    is_a_queue::<T, _>(groups);
-    has_offsets(groups);
-    may_be_let_go(groups);
-}
-
-pub fn slices_by<'a, T, P: FnMut(&T, &T) -> bool + Drop>(groups: &BinaryGroupBy<'a, T, P>) {
-    stays_at_its_end(groups);
-    is_a_queue::<T, _>(groups);
-    has_offsets(groups);
-}
-
-pub fn slices_by_key<'a, T, F: FnMut(&T) -> K + Drop, K: PartialEq + Drop>(
-    groups: &ExponentialGroupByKey<'a, T, F, K>,
+pub fn of_elements<'a, T: PartialEq, N: Lanes>(
+    equal: (&LinearGroup<'a, T>, &LinearGroupMut<'a, T>),
+    numbers: (&LinearNumberGroup<'a, N>, &LinearNumberGroupMut<'a, N>),
 ) {
-    stays_at_its_end(groups);
-    is_a_queue::<T, _>(groups);
-    has_offsets(groups);
+    is_read::<T, _>(equal.0);
+    is_written::<T, _>(equal.1);
+    is_read::<N, _>(numbers.0);
+    is_written::<N, _>(numbers.1);
 }
 
-pub fn slices_for_writing<'a, T: PartialEq>(groups: &LinearGroupMut<'a, T>) {
-    stays_at_its_end(groups);
-    is_a_queue_for_writing::<T, _>(groups);
-    may_be_let_go(groups);
-}
-
-pub fn slices_by_for_writing<'a, T, P: FnMut(&T, &T) -> bool + Drop>(
-    groups: &BinaryGroupByMut<'a, T, P>,
+pub fn by_predicate<'a, T, P: FnMut(&T, &T) -> bool>(
+    read: &BinaryGroupBy<'a, T, P>,
+    written: &BinaryGroupByMut<'a, T, P>,
 ) {
-    stays_at_its_end(groups);
-    is_a_queue_for_writing::<T, _>(groups);
+    is_read::<T, _>(read);
+    is_written::<T, _>(written);
 }
 
-pub fn slices_by_key_for_writing<'a, T, F: FnMut(&T) -> K + Drop, K: PartialEq + Drop>(
-    groups: &ExponentialGroupByKeyMut<'a, T, F, K>,
+pub fn by_key<'a, T, F: FnMut(&T) -> K, K: PartialEq + Drop>(
+    read: &ExponentialGroupByKey<'a, T, F, K>,
+    written: &ExponentialGroupByKeyMut<'a, T, F, K>,
 ) {
-    stays_at_its_end(groups);
-    is_a_queue_for_writing::<T, _>(groups);
+    is_read::<T, _>(read);
+    is_written::<T, _>(written);
 }
 
-pub fn texts(groups: &LinearStrGroup<'_>, groups_mut: &LinearStrGroupMut<'_>) {
-    stays_at_its_end(groups);
-    has_offsets(groups);
-    stays_at_its_end(groups_mut);
-}
-
-pub fn texts_by<P: FnMut(char, char) -> bool + Drop>(
-    groups: &LinearStrGroupBy<'_, P>,
-    groups_mut: &LinearStrGroupByMut<'_, P>,
+pub fn of_texts<P: FnMut(char, char) -> bool, F: FnMut(char) -> K, K: PartialEq + Drop>(
+    by: (&LinearStrGroupBy<'_, P>, &LinearStrGroupByMut<'_, P>),
+    by_key: (
+        &LinearStrGroupByKey<'_, F, K>,
+        &LinearStrGroupByKeyMut<'_, F, K>,
+    ),
 ) {
-    stays_at_its_end(groups);
-    has_offsets(groups);
-    stays_at_its_end(groups_mut);
-}
-
-pub fn texts_by_key<F: FnMut(char) -> K + Drop, K: PartialEq + Drop>(
-    groups: &LinearStrGroupByKey<'_, F, K>,
-    groups_mut: &LinearStrGroupByKeyMut<'_, F, K>,
-) {
-    stays_at_its_end(groups);
-    has_offsets(groups);
-    stays_at_its_end(groups_mut);
+    is_queue(by.0);
+    is_queue(by.1);
+    is_queue(by_key.0);
+    is_queue(by_key.1);
 }
 
 pub fn groups_with_offsets<Q: Offsets + Drop>(groups: Q) -> WithOffsets<Q> {
-    let groups = with_offsets(groups);
-    stays_at_its_end(&groups);
-    groups
-}
-
-fn is_any_queue<Q: GroupQueue>(_queue: &Q) {}
-
-pub fn queue_with_offsets<Q: Offsets + Drop>(groups: Q) {
-    is_any_queue(&with_offsets(groups));
-}
-
-pub fn groups_in_debug<T: fmt::Debug, P>(groups: &LinearGroupBy<'_, T, P>) {
-    is_printed(groups);
-}
-
-pub fn groups_for_writing_in_debug<T: fmt::Debug, F, K>(
-    groups: &ExponentialGroupByKeyMut<'_, T, F, K>,
-) {
-    is_printed(groups);
-}
-
-// (whatever is in the slice)
-pub fn tokens<T>(ended: &Ended<'_, T>, loans: &Loans<T>) {
-    crosses_threads(ended);
-    crosses_threads(loans);
-}
-
-fn is_copied<T: Copy + Eq + fmt::Debug>(_value: &T) {}
-
-pub fn ends(end: &End) {
-    is_copied(end);
+    with_offsets(groups)
 }
 
 pub fn calls<Q: GroupQueue>(queue: &mut Q, ends: &[End], out: &mut [Option<Q::Item>])
@@ -131,30 +67,90 @@ pub fn calls<Q: GroupQueue>(queue: &mut Q, ends: &[End], out: &mut [Option<Q::It
     walk(queue, ends, out);
 }
 
+fn gives<I: FusedIterator<Item = G>, G>(_join: &I) {}
+
+// The pairs and parts live as long as the sides.
+pub fn joins<'a, A, B, FA: Fn(&A) -> K, FB: Fn(&B) -> K, F: FnMut(&A, &B) -> Ordering, K>(
+    by_key: &MergeJoin<'a, A, B, FA, FB, K>,
+    by: &MergeJoinBy<'a, A, B, F>,
+)
+where
+    K: Ord + Drop,
+{
+    gives::<_, (&'a [A], &'a [B])>(by_key);
+    gives::<_, EitherOrBoth<&'a [A], &'a [B]>>(by);
+}
+
 // What is given lives as long as the input, and not as the iterator.
-
-pub fn first_group<'a, T: PartialEq>(mut groups: LinearGroup<'a, T>) -> Option<&'a [T]> {
-    groups.next()
+pub fn given<'a, T: PartialEq>(
+    mut groups: LinearGroup<'a, T>,
+    written: LinearGroupMut<'a, T>,
+    text: LinearStrGroup<'a>,
+) -> (Option<&'a [T]>, &'a [T], Option<&'a mut [T]>, &'a str) {
+    let first = groups.next();
+    (first, groups.remainder(), written.last(), text.as_str())
 }
 
-pub fn what_remains<'a, T: PartialEq>(groups: LinearGroup<'a, T>) -> &'a [T] {
-    groups.remainder()
+// What looks at iterators asks nothing of a closure, and what gives them up no more than that it may be let go.
+
+pub fn looks<T, P, F, K>(
+    read: &BinaryGroupBy<'_, T, P>,
+    written: &BinaryGroupByKeyMut<'_, T, F, K>,
+    text: &LinearStrGroupBy<'_, P>,
+    bytes: &LinearStrGroupByKeyMut<'_, F, K>,
+) {
+    let _ = read.remainder().len() == read.remainder_len() && read.is_empty() && read.offset() == 0;
+    let _ = written.remainder().len() == written.remainder_len() && written.is_empty();
+    let _ = text.as_str().len() == text.remainder_len() && text.is_empty() && text.offset() == 0;
+    let _ = bytes.as_str().len() == bytes.remainder_len() && bytes.is_empty();
 }
 
-pub fn first_group_for_writing<'a, T: PartialEq>(
-    mut groups: LinearGroupMut<'a, T>,
-) -> Option<&'a mut [T]> {
-    groups.next()
-}
-
-pub fn what_remains_for_writing<'a, T: PartialEq>(groups: LinearGroupMut<'a, T>) -> &'a mut [T] {
+pub fn remainder<'a, T, F: Drop, K>(groups: LinearGroupByKeyMut<'a, T, F, K>) -> &'a mut [T] {
     groups.into_remainder()
 }
 
-pub fn last_group_of_a_text<'a>(mut groups: LinearStrGroup<'a>) -> Option<&'a str> {
-    groups.next_back()
+pub fn parts<'a, T, F: Drop, K>(groups: LinearGroupByKeyMut<'a, T, F, K>) -> &'a mut [T] {
+    groups.into_parts().0
 }
 
-pub fn what_remains_of_a_text<'a>(groups: LinearStrGroup<'a>) -> &'a str {
-    groups.as_str()
+// Groups of elements that live longer are groups of these.
+pub fn shorter_lived<'a, 'b: 'a>(
+    groups: LinearGroup<'a, &'static str>,
+) -> LinearGroup<'a, &'b str> {
+    groups
+}
+
+pub fn shown<T: Debug, P, F, K>(
+    by: (&LinearGroupBy<'_, T, P>, &BinaryGroupByMut<'_, T, P>),
+    by_key: (
+        &ExponentialGroupByKey<'_, T, F, K>,
+        &LinearGroupByKeyMut<'_, T, F, K>,
+    ),
+) {
+    is_shown(by.0);
+    is_shown(by.1);
+    is_shown(by_key.0);
+    is_shown(by_key.1);
+}
+
+// Where elements, closures and keys may cross threads.
+pub fn threads<T: Send + Sync, F: Send + Sync, K: Send + Sync, N: Lanes + Send + Sync>(
+    groups: (&LinearGroup<'_, T>, &ExponentialGroupByKeyMut<'_, T, F, K>),
+    numbers: &LinearNumberGroup<'_, N>,
+    texts: (&LinearStrGroupByKey<'_, F, K>, &LinearStrGroupMut<'_>),
+    joins: (&MergeJoin<'_, T, T, F, F, K>, &MergeJoinBy<'_, T, T, F>),
+) {
+    crosses_threads(groups.0);
+    crosses_threads(groups.1);
+    crosses_threads(numbers);
+    crosses_threads(texts.0);
+    crosses_threads(texts.1);
+    crosses_threads(joins.0);
+    crosses_threads(joins.1);
+}
+
+// (whatever is in the slice)
+pub fn tokens<T>(ended: &Ended<'_, T>, loans: &Loans<T>) {
+    crosses_threads(ended);
+    crosses_threads(loans);
 }

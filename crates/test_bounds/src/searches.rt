@@ -1,88 +1,79 @@
-//! Searches, ranges and partition points. What is sought may be gone before what is found.
+//! Searches, ranges, partition points, joins and their parts.
+ghost use Rattle.slice_group_by.specs.Asking.{IsCallableAcross};
 ghost use Rattle.slice_group_by.specs.Search.{IsCallableOn};
 
-use slice_group_by::{
-    exponential_equal_range, exponential_equal_range_by, exponential_equal_range_by_key,
-    exponential_equal_range_by_key_ref, exponential_equal_range_by_ref,
-    exponential_partition_point, exponential_partition_point_ref, exponential_search,
-    exponential_search_by, exponential_search_by_key, exponential_search_by_key_ref,
-    exponential_search_by_ref, is_sorted_for_groups,
-};
+use slice_group_by::*;
 use std::cmp::Ordering;
+use std::fmt::Debug;
 
-pub fn of_elements<T: Ord>(xs: &[T], elem: &T) -> Result<usize, usize> {
-    let _ = is_sorted_for_groups::<T>(xs);
-    exponential_search::<T>(xs, elem)
+// What is sought may be gone before what is found.
+pub fn of_elements<'a, T: Ord>(xs: &'a [T], elem: &T) -> &'a [T] {
+    let _ = (is_sorted_for_groups(xs), exponential_search(xs, elem));
+    exponential_equal_range(xs, elem)
 }
 
-pub fn range_of_elements<'a, T: Ord>(xs: &'a [T], elem: &T) -> &'a [T] {
-    exponential_equal_range::<T>(xs, elem)
-}
-
-pub fn by<T, F: FnMut(&T) -> Ordering>(xs: &[T], f: F) -> Result<usize, usize>
-    requires { IsCallableOn F.FnMut xs.now f }
+pub fn by<T, F: FnMut(&T) -> Ordering>(xs: &[T], f: F, g: F, lent: &mut F)
+    requires f { IsCallableOn F.FnMut xs.now f }
+    requires g { IsCallableOn F.FnMut xs.now g }
+    requires lent { IsCallableOn F.FnMut xs.now lent.old }
 {
-    exponential_search_by::<T, F>(xs, f)
+    let _ = exponential_search_by(xs, f);
+    let _ = exponential_equal_range_by(xs, g);
+    let _ = exponential_search_by_ref(xs, lent);
+    let _ = exponential_equal_range_by_ref(xs, lent);
 }
 
-pub fn by_ref<T, F: FnMut(&T) -> Ordering>(xs: &[T], f: &mut F) -> Result<usize, usize>
-    requires { IsCallableOn F.FnMut xs.now f.old }
+pub fn by_key<T, B: Ord + Drop, F: FnMut(&T) -> B>(xs: &[T], b: &B, f: F, g: F, lent: &mut F)
+    requires f { IsCallableOn F.FnMut xs.now f }
+    requires g { IsCallableOn F.FnMut xs.now g }
+    requires lent { IsCallableOn F.FnMut xs.now lent.old }
 {
-    exponential_search_by_ref::<T, F>(xs, f)
+    let _ = exponential_search_by_key(xs, b, f);
+    let _ = exponential_equal_range_by_key(xs, b, g);
+    let _ = exponential_search_by_key_ref(xs, b, lent);
+    let _ = exponential_equal_range_by_key_ref(xs, b, lent);
 }
 
-pub fn range_by<T, F: FnMut(&T) -> Ordering>(xs: &[T], f: F) -> &[T]
-    requires { IsCallableOn F.FnMut xs.now f }
+pub fn points<T, P: FnMut(&T) -> bool>(xs: &[T], p: P, lent: &mut P)
+    requires p { IsCallableOn P.FnMut xs.now p }
+    requires lent { IsCallableOn P.FnMut xs.now lent.old }
 {
-    exponential_equal_range_by::<T, F>(xs, f)
+    let _ = exponential_partition_point(xs, p);
+    let _ = exponential_partition_point_ref(xs, lent);
 }
 
-pub fn range_by_ref<'a, T, F: FnMut(&T) -> Ordering>(xs: &'a [T], f: &mut F) -> &'a [T]
-    requires { IsCallableOn F.FnMut xs.now f.old }
+pub fn joined_by_key<A, B, FA: Fn(&A) -> K, FB: Fn(&B) -> K, K: Ord + Drop>(
+    left: (&[A], FA),
+    right: (&[B], FB),
+)
+    requires left { IsCallableOn FA.FnMut left.0.now left.1 }
+    requires right { IsCallableOn FB.FnMut right.0.now right.1 }
 {
-    exponential_equal_range_by_ref::<T, F>(xs, f)
+    let _ = MergeJoin::new(left.0, left.1, right.0, right.1);
 }
 
-pub fn by_key<T, B: Ord + Drop, F: FnMut(&T) -> B>(xs: &[T], b: &B, f: F) -> Result<usize, usize>
-    requires { IsCallableOn F.FnMut xs.now f }
+pub fn joined_by<A, B, F: FnMut(&A, &B) -> Ordering>(left: &[A], right: &[B], compare: F)
+    requires { IsCallableAcross F.FnMut left.now right.now compare }
 {
-    exponential_search_by_key::<T, B, F>(xs, b, f)
+    let _ = MergeJoinBy::new(left, right, compare);
 }
 
-pub fn by_key_ref<T, B: Ord + Drop, F: FnMut(&T) -> B>(
-    xs: &[T],
-    b: &B,
-    f: &mut F,
-) -> Result<usize, usize>
-    requires { IsCallableOn F.FnMut xs.now f.old }
-{
-    exponential_search_by_key_ref::<T, B, F>(xs, b, f)
+// Values that may be let go, and slices of anything.
+
+pub fn parts<L: Drop, R: Drop>(parts: [EitherOrBoth<L, R>; 6], values: (L, R)) -> (L, R) {
+    let [first, second, third, fourth, fifth, sixth] = parts;
+    let _ = (first.left(), second.right(), third.both());
+    let _ = (fourth.just_left(), fifth.just_right());
+    sixth.or(values.0, values.1)
 }
 
-pub fn range_by_key<'a, T, B: Ord + Drop, F: FnMut(&T) -> B>(xs: &'a [T], b: &B, f: F) -> &'a [T]
-    requires { IsCallableOn F.FnMut xs.now f }
-{
-    exponential_equal_range_by_key::<T, B, F>(xs, b, f)
+pub fn parts_of_slices<'a, T>(part: EitherOrBoth<&'a [T], &'a [T]>) -> [&'a [T]; 3] {
+    [part.partnered(), part.alone(), part.once()]
 }
 
-pub fn range_by_key_ref<'a, T, B: Ord + Drop, F: FnMut(&T) -> B>(
-    xs: &'a [T],
-    b: &B,
-    f: &mut F,
-) -> &'a [T]
-    requires { IsCallableOn F.FnMut xs.now f.old }
-{
-    exponential_equal_range_by_key_ref::<T, B, F>(xs, b, f)
-}
+fn is_copied<T: Copy + Eq + Debug>(_value: &T) {}
 
-pub fn point<T, P: FnMut(&T) -> bool>(xs: &[T], p: P) -> usize
-    requires { IsCallableOn P.FnMut xs.now p }
-{
-    exponential_partition_point::<T, P>(xs, p)
-}
-
-pub fn point_by_ref<T, P: FnMut(&T) -> bool>(xs: &[T], p: &mut P) -> usize
-    requires { IsCallableOn P.FnMut xs.now p.old }
-{
-    exponential_partition_point_ref::<T, P>(xs, p)
+pub fn values<L: Copy + Eq + Debug, R: Copy + Eq + Debug>(end: &End, part: &EitherOrBoth<L, R>) {
+    is_copied(end);
+    is_copied(part);
 }

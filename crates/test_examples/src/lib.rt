@@ -1,5 +1,9 @@
-//! Cases of the users' functions, as tests.
+//! What the users' functions of the example crates answer where their contracts leave it open: values, and that memory is enough.
 #![tactic(auto)]
 
 #[cfg(test)]
-mod tests;
+mod counts;
+#[cfg(test)]
+mod joins;
+#[cfg(test)]
+mod walks;

@@ -1,4 +1,0 @@
-use Rattle.test_calls.proofs.answers.Given as goal
-
-abbrev pub invariant-loop-end : goal.invariant-loop-end
-invariant-loop-end g l = g.Q.GroupQueue.can_pop l.queue

@@ -1,0 +1,27 @@
+//! Cases of the library's calls: worked cases, the Rust crate's tests under their names, and what no contract says.
+#![tactic(auto)]
+
+#[cfg(test)]
+mod by_name;
+#[cfg(test)]
+mod calls;
+#[cfg(test)]
+mod debug;
+#[cfg(test)]
+mod guarded;
+#[cfg(test)]
+mod numbers;
+#[cfg(test)]
+mod reading;
+#[cfg(test)]
+mod searches;
+#[cfg(test)]
+mod surface;
+#[cfg(test)]
+mod texts;
+#[cfg(test)]
+mod units;
+#[cfg(test)]
+mod walks;
+#[cfg(test)]
+mod writing;

@@ -1,0 +1,113 @@
+//! What the methods are called on, a caller's own holder too, and how much an iterator takes.
+use sgb_search::judge::EqualityJudge;
+use slice_group_by::{
+    AsMutSlice, BinaryGroupByKeyMut, Elements, ExponentialGroupByKey, GroupBy, GroupByMut,
+    LinearGroup, LinearGroupMut, LinearStrGroup, LinearStrGroupMut, StrGroupBy, StrGroupByMut,
+    with_offsets,
+};
+use std::cell::Cell;
+use std::convert::AsSlice;
+use std::test::Fail;
+
+// It counts how often it was asked for its elements.
+#[derive(Drop)]
+struct Row {
+    elems: [u32; 4],
+    asked: Cell<u32>,
+}
+
+impl AsSlice<u32> for Row {
+    ghost items = { λ row. row.elems };
+
+    fn as_slice(&self) -> &[u32] {
+        self.asked.set(self.asked.get().wrapping_add(1));
+        self.elems.as_slice()
+    }
+}
+
+impl Elements<u32> for Row {}
+
+impl AsMutSlice<u32> for Row {
+    ghost elements = { λ row. row.elems };
+
+    fn as_mut_slice(&mut self) -> &mut [u32] {
+        self.asked.set(self.asked.get().wrapping_add(1));
+        &mut self.elems[..]
+    }
+}
+
+#[test]
+fn an_own_holder_is_asked_once(rt: HostRuntime) {
+    let mut row = Row {
+        elems: [1, 1, 2, 2],
+        asked: Cell::new(0),
+    };
+    assert_eq!(rt; row.linear_group().count(), 2);
+    assert_eq!(rt; row.asked.replace(0), 1);
+    for group in row.binary_group_mut() {
+        group[0] = 7;
+    }
+    assert_eq!(rt; row.elems, [7, 1, 7, 2]);
+    assert_eq!(rt; row.asked.get(), 1);
+}
+
+#[test]
+fn elements_where_they_lie(rt: HostRuntime) -> Result<(), Fail> {
+    let mut array = [1, 1, 2];
+    assert!(rt; array.linear_group().next_back() == Some([2].as_slice()));
+    assert_eq!(rt; array.binary_group_mut().count(), 2);
+    let slice: &mut [i32] = &mut array;
+    assert_eq!(rt; slice.exponential_group().count(), 2);
+    let mut vec = vec![in rt.alloc(); 1, 1, 2]?;
+    assert_eq!(rt; vec.linear_group().count(), 2);
+    for group in vec.exponential_group_mut() {
+        group[0] = 7;
+    }
+    assert!(rt; vec.as_slice() == [7, 1, 7].as_slice());
+    Ok(())
+}
+
+fn count_in_vector(mut vec: Vec<u8>) -> usize {
+    if std::str::from_utf8(vec.as_slice()).is_err() {
+        return 0;
+    }
+    StrGroupByMut::linear_group_mut(&mut vec).count()
+}
+
+#[test]
+fn texts_where_they_lie(rt: HostRuntime) -> Result<(), Fail> {
+    let text = format!(in rt.alloc(); "ééa")?;
+    assert!(rt; text.linear_group().next() == Some("éé"));
+    assert_eq!(rt; count_in_vector(vec![in rt.alloc(); b'b', b'b', b'a']?), 2);
+    Ok(())
+}
+
+#[test]
+fn groups_with_offsets(rt: HostRuntime) {
+    let mut groups = with_offsets(LinearGroup::new(&[1, 1, 1, 3, 3, 2, 2, 2]));
+    assert!(rt; groups.next_back() == Some((5, [2, 2, 2].as_slice())));
+    let mut texts = with_offsets(LinearStrGroup::new("éé-"));
+    assert!(rt; texts.next() == Some((0, "éé")) && texts.next() == Some((4, "-")));
+}
+
+// An iterator takes its input and its closure, and one for reading two places: the count of questions, the key's type and the tokens
+// take no bytes.
+const _: () = prove!(size_of::<EqualityJudge>() == 0);
+
+const _: () = prove!(size_of::<LinearGroup<'static, u32>>() == size_of::<(&[u32], usize, usize)>());
+
+const _: () = prove!(
+    size_of::<ExponentialGroupByKey<'static, u32, (u64, u8), [u8; 9]>>()
+        == size_of::<(&[u32], usize, usize, (u64, u8))>()
+);
+
+const _: () = prove!(size_of::<LinearGroupMut<'static, u32>>() == size_of::<&mut [u32]>());
+
+const _: () = prove!(
+    size_of::<BinaryGroupByKeyMut<'static, u32, (u64, u8), [u8; 9]>>()
+        == size_of::<(&mut [u32], (u64, u8))>()
+);
+
+const _: () = prove!(size_of::<LinearStrGroup<'static>>() == size_of::<(&str, usize, usize)>());
+
+const _: () = prove!(size_of::<LinearStrGroupMut<'static>>() == size_of::<&mut [u8]>());
