@@ -8,8 +8,7 @@ use slice_group_by::laws::{
     calls_ask, linear_counts, mapped_calls_ask, questions_count, search_asks,
 };
 use slice_group_by::{
-    BinaryGroupBy, BinaryGroupByKey, End, ExponentialGroupBy, ExponentialGroupByKey, LinearGroupBy,
-    LinearGroupByKey, walk,
+    BinaryGroupBy, End, ExponentialGroupBy, LinearGroupBy, LinearGroupByKey, walk,
 };
 
 /// How many questions a walk over linear groups asks: one less than there are elements, and none where there are none.
@@ -24,21 +23,6 @@ pub fn linear_questions(xs: &[u32]) -> usize
     calls_ask(&groups);
     linear_counts(&groups);
     while let Some(_) = groups.next() {}
-    count
-}
-
-/// How many a walk over binary groups asks: at most as many for each element as their number has binary digits.
-pub fn binary_questions(xs: &[u32]) -> usize
-    ensures { result ≤ length xs.now * digits (length xs.now) }
-{
-    let mut count = 0usize;
-    let groups = BinaryGroupBy::new(xs, |a: &u32, b: &u32| {
-        count = count.wrapping_add(1);
-        a == b
-    });
-    calls_ask(&groups);
-    questions_count(&groups);
-    for _ in groups {}
     count
 }
 
@@ -118,21 +102,6 @@ pub fn linear_questions_of_for(xs: &[u32]) -> usize
     count
 }
 
-/// The same from the back.
-pub fn linear_questions_of_rev(xs: &[u32]) -> usize
-    ensures { result ≡ length xs.now - 1 }
-{
-    let mut count = 0usize;
-    let groups = LinearGroupBy::new(xs, |a: &u32, b: &u32| {
-        count = count.wrapping_add(1);
-        a == b
-    });
-    calls_ask(&groups);
-    linear_counts(&groups);
-    for _group in groups.rev() {}
-    count
-}
-
 /// The same through `map`: the longest group, and the questions.
 pub fn longest_and_questions(xs: &[u32]) -> (usize, usize)
     ensures { result.1 ≡ length xs.now - 1 }
@@ -150,38 +119,4 @@ pub fn longest_and_questions(xs: &[u32]) -> (usize, usize)
         longest = longest.max(len);
     }
     (longest, count)
-}
-
-/// The keys of a walk over binary groups, through `map`: at most two for each question that may be asked.
-pub fn longest_and_binary_keys(xs: &[u32]) -> (usize, usize)
-    ensures { result.1 ≤ 2 * (length xs.now * digits (length xs.now)) }
-{
-    let mut count = 0usize;
-    let groups = BinaryGroupByKey::new(xs, |x: &u32| {
-        count = count.wrapping_add(1);
-        *x / 10
-    });
-    questions_count(&groups);
-    let lens = groups.map(|group| group.len());
-    mapped_calls_ask(&lens);
-    let mut longest = 0usize;
-    for len in lens {
-        longest = longest.max(len);
-    }
-    (longest, count)
-}
-
-/// The keys of a walk over exponential groups from the back.
-pub fn exponential_keys_of_rev(xs: &[u32]) -> usize
-    ensures { result ≤ 6 * length xs.now }
-{
-    let mut count = 0usize;
-    let groups = ExponentialGroupByKey::new(xs, |x: &u32| {
-        count = count.wrapping_add(1);
-        *x / 10
-    });
-    calls_ask(&groups);
-    questions_count(&groups);
-    for _group in groups.rev() {}
-    count
 }

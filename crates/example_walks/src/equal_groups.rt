@@ -24,15 +24,6 @@ pub fn first_group<T: PartialEq>(xs: &[T]) -> Option<&[T]>
     groups.next()
 }
 
-/// The last group.
-pub fn last_group<T: PartialEq>(xs: &[T]) -> Option<&[T]>
-    ensures { option_map (λ group. group.now) result ≡ last (split T.eq xs.now) }
-{
-    let groups = LinearGroup::new(xs);
-    calls_take_pieces(&groups);
-    groups.last()
-}
-
 /// The first group, and the last of the others.
 pub fn outer_groups<T: PartialEq>(xs: &[T]) -> (Option<&[T]>, Option<&[T]>)
     ensures front { option_map (λ group. group.now) result.0 ≡ first (split T.eq xs.now) }

@@ -1,80 +1,17 @@
 //! The families of groups beside each other, and functions over binary and exponential groups.
-ghost use Rattle.std.specs.Prelude.{◌≡◌, ◌↔◌, ◌≤◌, ◌<◌, ◌-◌, ◌/◌, [], ◌∷◌, not, length, map, option_map, nat_eq, IfSome, IsSome};
-ghost use Rattle.std.specs.Ordering.{nat_cmp};
+ghost use Rattle.std.specs.Prelude.{◌≡◌, ◌↔◌, ◌<◌, ◌-◌, ◌/◌, [], ◌∷◌, not, length, map, option_map, nat_eq, IfSome, IsSome};
 ghost use Rattle.slice_group_by.specs.Split.{IsGrouped, split};
-ghost use Rattle.slice_group_by.specs.Searching.{digits, IsLocalEnd};
+ghost use Rattle.slice_group_by.specs.Searching.{IsLocalEnd};
 ghost use Rattle.slice_group_by.specs.Search.{NeverDescends};
 ghost use Rattle.slice_group_by.specs.Queue.{pops};
 
 use slice_group_by::laws::{
-    ascending_is_grouped, families_agree, groups_end_locally, search_asks, sees_pieces,
-    sorts_ascend,
+    ascending_is_grouped, families_agree, groups_end_locally, sees_pieces, sorts_ascend,
 };
 use slice_group_by::{
-    BinaryGroup, BinaryGroupByKeyMut, BinaryGroupMut, End, ExponentialGroup, ExponentialGroupByKey,
-    ExponentialGroupMut, GroupBy, GroupByMut, LinearGroup, LinearGroupMut, is_sorted_for_groups,
-    walk,
+    BinaryGroup, End, ExponentialGroup, ExponentialGroupMut, GroupBy, LinearGroup,
+    is_sorted_for_groups, walk,
 };
-use std::slice::from_mut;
-
-/// The same calls on each family, over a slice that is sorted.
-pub fn walk_families<'a, T: Ord>(
-    slice: &'a [T],
-    ends: &[End],
-    linear: &mut [Option<&'a [T]>],
-    binary: &mut [Option<&'a [T]>],
-    exponential: &mut [Option<&'a [T]>],
-)
-    requires sorted { NeverDescends T.cmp slice.now }
-    requires linear { length linear.old ≡ length ends.now }
-    requires binary { length binary.old ≡ length ends.now }
-    requires exponential { length exponential.old ≡ length ends.now }
-    ensures linear { map (option_map (λ group. group.now)) linear.new ≡ pops (split T.eq slice.now) ends.now }
-    ensures binary { map (option_map (λ group. group.now)) binary.new
-        ≡ map (option_map (λ group. group.now)) linear.new }
-    ensures exponential { map (option_map (λ group. group.now)) exponential.new
-        ≡ map (option_map (λ group. group.now)) linear.new }
-{
-    ascending_is_grouped::<T, T>();
-    walk(&mut LinearGroup::new(slice), ends, linear);
-    walk(&mut BinaryGroup::new(slice), ends, binary);
-    walk(&mut ExponentialGroup::new(slice), ends, exponential);
-}
-
-/// The same calls for writing give what the calls for reading give.
-pub fn walk_families_mut<'a, T: Ord>(
-    slice: &'a [T],
-    first: &'a mut [T],
-    second: &'a mut [T],
-    third: &'a mut [T],
-    ends: &[End],
-    reading: &mut [Option<&'a [T]>],
-    linear: &mut [Option<&'a mut [T]>],
-    binary: &mut [Option<&'a mut [T]>],
-    exponential: &mut [Option<&'a mut [T]>],
-)
-    requires sorted { NeverDescends T.cmp slice.now }
-    requires first { first.old ≡ slice.now }
-    requires second { second.old ≡ slice.now }
-    requires third { third.old ≡ slice.now }
-    requires reading { length reading.old ≡ length ends.now }
-    requires linear { length linear.old ≡ length ends.now }
-    requires binary { length binary.old ≡ length ends.now }
-    requires exponential { length exponential.old ≡ length ends.now }
-    ensures reading { map (option_map (λ group. group.now)) reading.new ≡ pops (split T.eq slice.now) ends.now }
-    ensures linear { map (option_map (λ group. group.now)) linear.new
-        ≡ map (option_map (λ group. group.now)) reading.new }
-    ensures binary { map (option_map (λ group. group.now)) binary.new
-        ≡ map (option_map (λ group. group.now)) reading.new }
-    ensures exponential { map (option_map (λ group. group.now)) exponential.new
-        ≡ map (option_map (λ group. group.now)) reading.new }
-{
-    ascending_is_grouped::<T, T>();
-    walk(&mut LinearGroup::new(slice), ends, reading);
-    walk(&mut LinearGroupMut::new(first), ends, linear);
-    walk(&mut BinaryGroupMut::new(second), ends, binary);
-    walk(&mut ExponentialGroupMut::new(third), ends, exponential);
-}
 
 /// The same calls on two families, for reading and for writing, over slices that hold the same: the law that the families agree.
 pub fn walk_two_families<'a, T: Ord>(
@@ -108,21 +45,6 @@ pub fn walk_by_tens<'a>(slice: &'a &[u8], ends: &[End], out: &mut [Option<&'a [u
         ≡ pops (split (λ a b. nat_eq (a / 10) (b / 10)) slice.now.now) ends.now }
 {
     let mut groups = slice.binary_group_by(|a, b| *a / 10 == *b / 10);
-    walk(&mut groups, ends, out);
-}
-
-/// By a key by which the slice ascends.
-pub fn walk_by_first<'a>(
-    slice: &'a [(u32, u32)],
-    ends: &[End],
-    out: &mut [Option<&'a [(u32, u32)]>],
-)
-    requires sorted { NeverDescends nat_cmp (map (λ e. e.0) slice.now) }
-    requires len { length out.old ≡ length ends.now }
-    ensures { map (option_map (λ group. group.now)) out.new ≡ pops (split (λ a b. nat_eq a.0 b.0) slice.now) ends.now }
-{
-    ascending_is_grouped::<(u32, u32), u32>();
-    let mut groups = ExponentialGroupByKey::new(slice, |e| e.0);
     walk(&mut groups, ends, out);
 }
 
@@ -163,15 +85,6 @@ pub fn first_len<T: PartialEq>(slice: &[T]) -> usize
         Some(group) => group.len(),
         None => 0,
     }
-}
-
-pub fn after_first<'a, T: PartialEq>(slice: &'a [T]) -> BinaryGroup<'a, T>
-    ensures { result.judge.asked ≤ digits (length slice.now - 1) }
-{
-    let mut groups = BinaryGroup::new(slice);
-    search_asks(&groups);
-    let _first = groups.next();
-    groups
 }
 
 /// The definitions at small cases: unequal elements are grouped for `!=`, and equal ones apart are not for `==`.

@@ -1,11 +1,11 @@
 //! Groups in loops and through adapters of iterators: `count`, `rev`, `map`, `nth`, a `for`, and how many questions were asked.
-ghost use Rattle.std.specs.Prelude.{◌≡◌, ◌-◌, [], length, map, option_map, fold, max, slice_get, nat_eq, nat_lt};
+ghost use Rattle.std.specs.Prelude.{◌≡◌, ◌-◌, [], length, map, option_map, fold, max, slice_get};
 ghost use Rattle.slice_group_by.specs.Gives.{groups_of};
 ghost use Rattle.slice_group_by.specs.Queue.{pops, after_pops};
 ghost use Rattle.slice_group_by.specs.Split.{split};
 
 use slice_group_by::laws::{each_pair_asked_once, equality_judges, sees_pieces};
-use slice_group_by::{End, GroupBy, LinearGroup, walk};
+use slice_group_by::{End, LinearGroup, walk};
 
 /// How many groups there are.
 pub fn count_groups<T: PartialEq>(xs: &[T]) -> usize
@@ -23,15 +23,6 @@ pub fn count_from_the_back<T: PartialEq>(xs: &[T]) -> usize
     let groups = LinearGroup::new(xs);
     sees_pieces(&groups);
     groups.rev().count()
-}
-
-/// How many ascending runs there are.
-pub fn count_ascending(xs: &[u8]) -> usize
-    ensures { result ≡ length (split nat_lt xs.now) }
-{
-    let groups = xs.linear_group_by(|a, b| a < b);
-    sees_pieces(&groups);
-    groups.count()
 }
 
 /// The length of the longest group.

@@ -1,4 +1,4 @@
-//! Groups of texts: walks by closures of characters, the number of runs, and the first run.
+//! Groups of texts: walks by closures of characters, and the first run.
 ghost use Rattle.std.specs.Prelude.{◌≡◌, ℕ, Bool, List, [], ◌∷◌, ◌++◌, MatchOption, length, map, option_map, nat_eq, nat_lt};
 ghost use Rattle.std.specs.Str.{chars};
 ghost use Rattle.std.proofs.Math.Utf8.{encodes};
@@ -6,9 +6,7 @@ ghost use Rattle.slice_group_by.specs.Judges.{ComputesOnChars, ComputesCharKey};
 ghost use Rattle.slice_group_by.specs.Split.{split};
 ghost use Rattle.slice_group_by.specs.Queue.{pops};
 
-use slice_group_by::laws::{
-    always_callable_char_key, always_callable_chars, sees_pieces, texts_join,
-};
+use slice_group_by::laws::{always_callable_char_key, always_callable_chars, texts_join};
 use slice_group_by::{
     End, LinearStrGroup, LinearStrGroupBy, LinearStrGroupByKey, StrGroupBy, walk,
 };
@@ -69,15 +67,6 @@ pub fn groups_by_key<'a, F: FnMut(char) -> K, K: PartialEq + Drop>(
     always_callable_char_key::<F, K>();
     let mut groups = LinearStrGroupByKey::new(text, func);
     walk(&mut groups, ends, out);
-}
-
-/// How many runs of one character there are, counted from the back.
-pub fn count_runs(text: &str) -> usize
-    ensures { result ≡ length (split nat_eq (chars text.now)) }
-{
-    let groups = LinearStrGroup::new(text);
-    sees_pieces(&groups);
-    groups.rev().count()
 }
 
 /// The first run: the text goes on with some rest, and the split of that has the other runs.

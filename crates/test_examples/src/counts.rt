@@ -1,7 +1,6 @@
 //! Users who count. Their contracts bound most counts; here is what they are.
 use example_counts::counts::{
-    binary_questions, exponential_keys_of_rev, exponential_questions, first_exponential_group,
-    longest_and_binary_keys, longest_and_questions, walk_binary,
+    exponential_questions, first_exponential_group, longest_and_questions, walk_binary,
 };
 use example_counts::joins::merge_join_by_key;
 use example_counts::parts::lens_by_halves;
@@ -11,15 +10,10 @@ use example_counts::searches::{keys_of_search, questions_of_search};
 use slice_group_by::{End, LinearGroup};
 use std::test::Fail;
 
-// Halving seven others takes three questions. Galloping asks about the second, the third and the fifth, and then about two of the last
-// three.
+// Galloping asks about the second, the third and the fifth, and then about two of the last three.
 #[test]
 fn questions_of_eight(rt: HostRuntime) {
-    assert_eq!(rt;
-        [binary_questions(&[5; 8]), exponential_questions(&[5; 8])],
-        [3, 5]
-    );
-    assert_eq!(rt; exponential_keys_of_rev(&[10, 11]), 2);
+    assert_eq!(rt; exponential_questions(&[5; 8]), 5);
     let mut out: [Option<&[u32]>; 2] = [None; 2];
     assert_eq!(rt; walk_binary(&[7, 8], &[End::Back, End::Front], &mut out), 1);
 }
@@ -28,7 +22,6 @@ fn questions_of_eight(rt: HostRuntime) {
 fn groups_beside_counts(rt: HostRuntime) {
     assert!(rt; first_exponential_group(&[1, 2]) == (Some([1].as_slice()), 1));
     assert_eq!(rt; longest_and_questions(&[1, 2, 2, 2, 2, 3, 3]), (4, 6));
-    assert_eq!(rt; longest_and_binary_keys(&[10, 11]), (2, 2));
 }
 
 #[test]

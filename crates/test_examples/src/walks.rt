@@ -1,7 +1,7 @@
 //! Users who walk, and calls whose conditions are met.
 use example_conditions::{count_by_distance, count_equal_characters, count_of_one};
 use example_walks::closures::counted;
-use example_walks::families::{after_first, sort_and_count};
+use example_walks::families::sort_and_count;
 use example_walks::folds::{longest_group, longest_with_row, total_by_groups};
 use example_walks::offsets::runs_with_rows;
 use example_walks::writers::clear_ends;
@@ -21,11 +21,6 @@ fn questions_of_a_walk(rt: HostRuntime) {
     let numbers: &[u32] = &[1, 2, 3, 2, 3];
     let mut out: [Option<&[u32]>; 1] = [None; 1];
     assert_eq!(rt; counted(&numbers, &[End::Back], &mut out), 2);
-}
-
-#[test]
-fn walks_on_after_the_first_group(rt: HostRuntime) {
-    assert!(rt; after_first(&[1, 1, 2]).remainder() == [2].as_slice());
 }
 
 #[test]
