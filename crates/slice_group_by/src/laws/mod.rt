@@ -157,7 +157,8 @@ pub fn groups_still_come<Q: GroupQueue>(_queue: &Q)
 {}
 
 /// A list of calls of linear groups, of a slice or a text, asks about each neighbouring pair that goes once, however the ends are
-/// mixed, and about no other: so until nothing remains of n > 0 elements or characters it asks exactly n - 1 questions.
+/// mixed, and about no other: so until nothing remains of n > 0 elements or characters it asks exactly n - 1 questions. Groups of
+/// numbers ask none, and it says nothing of them.
 pub fn each_pair_asked_once<T, J: Judge<T>, S: Judged<T, J, Linear>>(_groups: &S)
     ensures pairs { (s t : S) (ends : List End) (out : List (Option S.Item)) → IsChain S.GroupQueue.gives s ends out t
         → AsksEachOnce J.Judge (S.groups s) (S.groups t) }
