@@ -32,17 +32,21 @@ fn read_by_key(alloc: Global, slice: &[i32], wanted: &str) -> Result<bool, Alloc
 #[test]
 fn texts_of_reading(rt: HostRuntime) -> Result<(), Fail> {
     let alloc = rt.alloc();
-    let by =
-        "(LinearGroupBy { slice: [1, 2] }, BinaryGroupBy { remainder: [1, 2] }, ExponentialGroupBy { remainder: [1, 2] })";
+    let by = "(LinearGroupBy { slice: [1, 2] }, \
+        BinaryGroupBy { remainder: [1, 2] }, \
+        ExponentialGroupBy { remainder: [1, 2] })";
     assert!(rt; read_by_predicate(alloc, &[1, 2], by)?);
-    let by =
-        "(LinearGroupBy { slice: [] }, BinaryGroupBy { remainder: [] }, ExponentialGroupBy { remainder: [] })";
+    let by = "(LinearGroupBy { slice: [] }, \
+        BinaryGroupBy { remainder: [] }, \
+        ExponentialGroupBy { remainder: [] })";
     assert!(rt; read_by_predicate(alloc, &[], by)?);
-    let key =
-        "(LinearGroupByKey { remainder: [1, 2] }, BinaryGroupByKey { remainder: [1, 2] }, ExponentialGroupByKey { remainder: [1, 2] })";
+    let key = "(LinearGroupByKey { remainder: [1, 2] }, \
+        BinaryGroupByKey { remainder: [1, 2] }, \
+        ExponentialGroupByKey { remainder: [1, 2] })";
     assert!(rt; read_by_key(alloc, &[1, 2], key)?);
-    let key =
-        "(LinearGroupByKey { remainder: [] }, BinaryGroupByKey { remainder: [] }, ExponentialGroupByKey { remainder: [] })";
+    let key = "(LinearGroupByKey { remainder: [] }, \
+        BinaryGroupByKey { remainder: [] }, \
+        ExponentialGroupByKey { remainder: [] })";
     assert!(rt; read_by_key(alloc, &[], key)?);
     let units = LinearGroupByKey::new(&[(), ()], |_: &()| 0);
     assert!(rt; is_written(alloc, &units, "LinearGroupByKey { remainder: [(), ()] }")?);
@@ -79,17 +83,21 @@ fn written_by_key(
 #[test]
 fn texts_of_writing(rt: HostRuntime) -> Result<(), Fail> {
     let alloc = rt.alloc();
-    let by =
-        "(LinearGroupByMut { slice: [1, 2] }, BinaryGroupByMut { remainder: [1, 2] }, ExponentialGroupByMut { remaining: [1, 2] })";
+    let by = "(LinearGroupByMut { slice: [1, 2] }, \
+        BinaryGroupByMut { remainder: [1, 2] }, \
+        ExponentialGroupByMut { remaining: [1, 2] })";
     assert!(rt; written_by_predicate(alloc, &mut [1, 2], &mut [1, 2], &mut [1, 2], by)?);
-    let by =
-        "(LinearGroupByMut { slice: [] }, BinaryGroupByMut { remainder: [] }, ExponentialGroupByMut { remaining: [] })";
+    let by = "(LinearGroupByMut { slice: [] }, \
+        BinaryGroupByMut { remainder: [] }, \
+        ExponentialGroupByMut { remaining: [] })";
     assert!(rt; written_by_predicate(alloc, &mut [], &mut [], &mut [], by)?);
-    let key =
-        "(LinearGroupByKeyMut { remainder: [1, 2] }, BinaryGroupByKeyMut { remainder: [1, 2] }, ExponentialGroupByKeyMut { remaining: [1, 2] })";
+    let key = "(LinearGroupByKeyMut { remainder: [1, 2] }, \
+        BinaryGroupByKeyMut { remainder: [1, 2] }, \
+        ExponentialGroupByKeyMut { remaining: [1, 2] })";
     assert!(rt; written_by_key(alloc, &mut [1, 2], &mut [1, 2], &mut [1, 2], key)?);
-    let key =
-        "(LinearGroupByKeyMut { remainder: [] }, BinaryGroupByKeyMut { remainder: [] }, ExponentialGroupByKeyMut { remaining: [] })";
+    let key = "(LinearGroupByKeyMut { remainder: [] }, \
+        BinaryGroupByKeyMut { remainder: [] }, \
+        ExponentialGroupByKeyMut { remaining: [] })";
     assert!(rt; written_by_key(alloc, &mut [], &mut [], &mut [], key)?);
     Ok(())
 }

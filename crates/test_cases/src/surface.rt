@@ -31,6 +31,7 @@ impl Elements<u32> for Row {}
 
 impl AsMutSlice<u32> for Row {
     ghost elements = { λ row. row.elems.items };
+
     ghost with_elements = { λ row xs. record row { elems = with_items row.elems xs } };
 
     fn as_mut_slice(&mut self) -> &mut [u32] {
