@@ -9,7 +9,6 @@ ghost use Rattle.std.specs.Borrow.{MutBor};
 ghost use Rattle.sgb_loans.specs.declared.loans.Ended.{Ended as Token};
 
 use crate::traits::holders::AsMutSlice;
-
 pub use sgb_loans::loans::{Ended, Loans};
 pub use sgb_loans::resolve::{resolve, resolve_and_return};
 

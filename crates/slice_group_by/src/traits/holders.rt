@@ -33,6 +33,7 @@ pub trait AsMutSlice<T> {
 
 impl<T> AsMutSlice<T> for &mut [T] {
     ghost elements = { λ slice. slice.now };
+
     ghost with_elements = { λ slice xs. record slice { now = xs } };
 
     #[inline]
@@ -43,6 +44,7 @@ impl<T> AsMutSlice<T> for &mut [T] {
 
 impl<T, const N: usize> AsMutSlice<T> for [T; N] {
     ghost elements = { λ array. array };
+
     ghost with_elements = { λ array xs. xs };
 
     #[inline]
@@ -53,6 +55,7 @@ impl<T, const N: usize> AsMutSlice<T> for [T; N] {
 
 impl<T, A: Allocator> AsMutSlice<T> for Vec<T, A> {
     ghost elements = { λ vec. vec.items };
+
     ghost with_elements = { with_items };
 
     #[inline]
