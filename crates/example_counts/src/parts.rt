@@ -4,8 +4,8 @@ ghost use Rattle.std.specs.Option.{option_copied};
 ghost use Rattle.slice_group_by.specs.Split.{split};
 ghost use Rattle.slice_group_by.specs.Seams.{are_accepted, lens_joined};
 
-use slice_group_by::LinearGroup;
 use slice_group_by::laws::{groups_still_come, pieces_add_up, sees_pieces, splits_join};
+use slice_group_by::{LinearGroup, linear_boundary};
 use std::alloc::{AllocError, Global};
 
 // How many groups of equal elements a part has.
@@ -43,6 +43,14 @@ pub fn count_in_parts(slice: &[u32], mid: usize) -> usize
     } else {
         count
     }
+}
+
+/// The same, cut near the middle where a group begins: there the two counts add up.
+pub fn count_in_two(slice: &[u32]) -> usize
+    ensures { result ≡ length (split nat_eq slice.now) }
+{
+    let (left, right) = slice.split_at(linear_boundary(slice, slice.len() / 2));
+    count_groups(left) + count_groups(right)
 }
 
 // So many elements are grouped in one walk.

@@ -27,3 +27,4 @@ pub use Rattle.sgb_linear_str_group.specs.TextsMut
 pub use Rattle.sgb_loans.specs.Loans
 pub use Rattle.sgb_search.specs.declared.end.End
 pub use Rattle.sgb_merge_join.specs.declared.either_or_both.EitherOrBoth
+pub mod Boundaries

@@ -14,12 +14,17 @@
 //! ```
 #![tactic(auto)]
 
+mod boundaries;
 mod join;
 pub mod laws;
 pub mod loans;
 mod offsets;
 mod traits;
 
+pub use boundaries::{
+    exponential_boundary, exponential_boundary_by, exponential_boundary_by_key, linear_boundary,
+    linear_boundary_by, linear_boundary_by_key,
+};
 pub use join::MergeJoin;
 pub use laws::plans::{Plan, refute};
 pub use laws::queue::{End, GroupQueue, SliceQueue, SliceQueueMut, walk};

@@ -1,5 +1,9 @@
 //! Searches, ranges, partition points, joins and their parts.
+ghost use Rattle.std.specs.Prelude.{drop, ◌-◌};
 ghost use Rattle.slice_group_by.specs.Asking.{IsCallableAcross};
+ghost use Rattle.slice_group_by.specs.Calls.{IsCallableBy};
+ghost use Rattle.slice_group_by.specs.Judges.{by_key, key_judge};
+ghost use Rattle.slice_group_by.specs.Split.{AreApart, AreNeighbours};
 ghost use Rattle.slice_group_by.specs.Search.{IsCallableOn};
 
 use slice_group_by::*;
@@ -76,4 +80,33 @@ fn is_copied<T: Copy + Eq + Debug>(_value: &T) {}
 pub fn values<L: Copy + Eq + Debug, R: Copy + Eq + Debug>(end: &End, part: &EitherOrBoth<L, R>) {
     is_copied(end);
     is_copied(part);
+}
+
+pub fn boundaries<T: PartialEq>(xs: &[T], index: usize) {
+    let _ = (linear_boundary(xs, index), exponential_boundary(xs, index));
+}
+
+pub fn boundaries_by<T, P: FnMut(&T, &T) -> bool>(xs: &[T], index: usize, p: P, q: P)
+    requires p { P.IsAlwaysCallable p }
+    requires q { P.IsAlwaysCallable q }
+{
+    laws::always_callable::<T, P>();
+    laws::always_callable_apart::<T, P>();
+    let _ = linear_boundary_by(xs, index, p);
+    let _ = exponential_boundary_by(xs, index, q);
+}
+
+pub fn boundaries_by_key<T, F: FnMut(&T) -> K, K: PartialEq + Drop>(
+    xs: &[T],
+    index: usize,
+    f: F,
+    g: F,
+)
+    requires f { IsCallableBy AreNeighbours (by_key F.FnMut K.eq)
+        (record { remainder = drop (index - 1) xs.now; judge = key_judge f }) }
+    requires g { IsCallableBy AreApart (by_key F.FnMut K.eq)
+        (record { remainder = drop (index - 1) xs.now; judge = key_judge g }) }
+{
+    let _ = linear_boundary_by_key(xs, index, f);
+    let _ = exponential_boundary_by_key(xs, index, g);
 }

@@ -1,0 +1,8 @@
+use Rattle.std.proofs.Common.{◌∙◌}
+use Rattle.slice_group_by.proofs.Pieces.Boundaries.{parts_of}
+use Rattle.slice_group_by.proofs.boundaries.linear_boundary_by.Goals as goal
+
+pub returns-clause-parts : goal.returns-clause-parts
+returns-clause-parts g c p computes =
+    let k = c.first_len.ensures in
+    parts_of _ _ _ _ _ (c.new.ensures.remainder ∙ c.in-Some.ensures.2) k.within k.some (k.parts _ (c.new.ensures.settled p computes tt))

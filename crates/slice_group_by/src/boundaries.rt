@@ -1,0 +1,173 @@
+//! Places between groups, to cut a slice at: the parts then have the groups of the whole.
+ghost use Rattle.std.specs.Prelude.{◌≡◌, ◌≢◌, ◌⊎◌, MatchOption, ◌<◌, ◌≤◌, ◌-◌, Bool, [], length, take, drop, slice_range, min};
+ghost use Rattle.std.specs.Fn.{ComputesOnPairs, ComputesKey};
+ghost use Rattle.sgb_search.specs.Split.{IsAccepted, IsGrouped, AreNeighbours, AreApart};
+ghost use Rattle.sgb_search.specs.Calls.{IsCallableBy};
+ghost use Rattle.sgb_search.specs.Judges.{by_predicate, predicate_judge, by_key, key_judge};
+ghost use Rattle.slice_group_by.specs.Boundaries.{PartsAt};
+
+use crate::laws::calls_take_pieces;
+use crate::laws::queue::SliceQueue;
+use sgb_exponential_group::exponential_group::{
+    ExponentialGroup, ExponentialGroupBy, ExponentialGroupByKey,
+};
+use sgb_linear_group::linear_group::{LinearGroup, LinearGroupBy, LinearGroupByKey};
+use std::cmp::min;
+
+// The elements from the one before the place on, if there is such a place behind an element.
+#[inline]
+fn rest_at<T>(slice: &[T], index: usize) -> Option<&[T]>
+    ensures { MatchOption result (index ≡ 0 ⊎ length slice.now < index)
+        (λ rest. (0 < index) × (index ≤ length slice.now) × (rest.now ≡ drop (index - 1) slice.now)) }
+{
+    if index == 0 || slice.len() < index {
+        return None;
+    }
+    Some(&slice[index - 1..])
+}
+
+// How long the first group is, and 0 where nothing remains.
+#[inline]
+fn first_len<'a, T: 'a, Q: SliceQueue<'a, T> + Drop>(mut groups: Q) -> usize
+    requires can { Q.can_pop groups }
+    ensures within { result ≤ length (Q.remainder groups) }
+    ensures some { Q.remainder groups ≢ [] → 0 < result }
+    ensures accepted { (p : T → T → Bool) → Q.is_settled groups p → IsAccepted p (take result (Q.remainder groups)) }
+    ensures parts { (p : T → T → Bool) → Q.is_settled groups p → PartsAt p (Q.remainder groups) result }
+{
+    calls_take_pieces(&groups);
+    match groups.pop_front() {
+        Some(group) => group.len(),
+        None => 0,
+    }
+}
+
+/// The first place at or behind `index` where a group of equal elements begins, or the length of the slice.
+///
+/// Cut there, the two parts have the groups of the whole, so that they can be walked apart. It costs the questions about the group
+/// that the element before `index` stands in, from that element on. It is to groups what `str::ceil_char_boundary` is to characters.
+///
+/// ```
+/// let slice = [1, 1, 1, 3, 3, 2];
+/// linear_boundary(&slice, 4); // 5
+/// linear_boundary(&slice, 3); // 3
+/// ```
+pub fn linear_boundary<T: PartialEq>(slice: &[T], index: usize) -> usize
+    ensures within { result ≤ length slice.now }
+    ensures behind { min index (length slice.now) ≤ result }
+    ensures inside { IsAccepted T.eq (slice_range slice.now (index - 1) result) }
+    ensures parts { PartsAt T.eq slice.now result }
+{
+    let Some(rest) = rest_at(slice, index) else {
+        return min(index, slice.len());
+    };
+    index - 1 + first_len(LinearGroup::new(rest))
+}
+
+/// The same by a predicate, as `LinearGroupBy` groups.
+///
+/// ```
+/// linear_boundary_by(&[1, 2, 4, 3, 5], 1, |a, b| a < b); // 3
+/// ```
+pub fn linear_boundary_by<T, P: FnMut(&T, &T) -> bool>(
+    slice: &[T],
+    index: usize,
+    predicate: P,
+) -> usize
+    requires { IsCallableBy AreNeighbours (by_predicate P.FnMut)
+        (record { remainder = drop (index - 1) slice.now; judge = predicate_judge predicate }) }
+    ensures within { result ≤ length slice.now }
+    ensures behind { min index (length slice.now) ≤ result }
+    ensures inside { (p : T → T → Bool) → ComputesOnPairs P.FnMut p predicate
+        → IsAccepted p (slice_range slice.now (index - 1) result) }
+    ensures parts { (p : T → T → Bool) → ComputesOnPairs P.FnMut p predicate → PartsAt p slice.now result }
+{
+    let Some(rest) = rest_at(slice, index) else {
+        return min(index, slice.len());
+    };
+    index - 1 + first_len(LinearGroupBy::new(rest, predicate))
+}
+
+/// The same by a key, as `LinearGroupByKey` groups.
+///
+/// ```
+/// linear_boundary_by_key(&[10, 11, 25, 26], 1, |x| x / 10); // 2
+/// ```
+pub fn linear_boundary_by_key<T, K: PartialEq + Drop, F: FnMut(&T) -> K>(
+    slice: &[T],
+    index: usize,
+    func: F,
+) -> usize
+    requires { IsCallableBy AreNeighbours (by_key F.FnMut K.eq)
+        (record { remainder = drop (index - 1) slice.now; judge = key_judge func }) }
+    ensures within { result ≤ length slice.now }
+    ensures behind { min index (length slice.now) ≤ result }
+    ensures inside { (key : T → K) → ComputesKey F.FnMut key func
+        → IsAccepted (λ a b. K.eq (key a) (key b)) (slice_range slice.now (index - 1) result) }
+    ensures parts { (key : T → K) → ComputesKey F.FnMut key func → PartsAt (λ a b. K.eq (key a) (key b)) slice.now result }
+{
+    let Some(rest) = rest_at(slice, index) else {
+        return min(index, slice.len());
+    };
+    index - 1 + first_len(LinearGroupByKey::new(rest, func))
+}
+
+/// The same of a slice that is grouped for `==`, as a sorted one is, by galloping: at most `2 * digits(g) + 1` questions, g being how
+/// many elements lie from the one before `index` up to the result.
+///
+/// ```
+/// exponential_boundary(&[1, 1, 1, 3, 3, 7], 4); // 5
+/// ```
+pub fn exponential_boundary<T: PartialEq>(slice: &[T], index: usize) -> usize
+    ensures within { result ≤ length slice.now }
+    ensures behind { min index (length slice.now) ≤ result }
+    ensures inside { IsGrouped T.eq slice.now → IsAccepted T.eq (slice_range slice.now (index - 1) result) }
+    ensures parts { IsGrouped T.eq slice.now → PartsAt T.eq slice.now result }
+{
+    let Some(rest) = rest_at(slice, index) else {
+        return min(index, slice.len());
+    };
+    index - 1 + first_len(ExponentialGroup::new(rest))
+}
+
+/// The same by a predicate, of a slice that is grouped for it: `exponential_boundary` as `ExponentialGroupBy` groups.
+pub fn exponential_boundary_by<T, P: FnMut(&T, &T) -> bool>(
+    slice: &[T],
+    index: usize,
+    predicate: P,
+) -> usize
+    requires { IsCallableBy AreApart (by_predicate P.FnMut)
+        (record { remainder = drop (index - 1) slice.now; judge = predicate_judge predicate }) }
+    ensures within { result ≤ length slice.now }
+    ensures behind { min index (length slice.now) ≤ result }
+    ensures inside { (p : T → T → Bool) → ComputesOnPairs P.FnMut p predicate → IsGrouped p slice.now
+        → IsAccepted p (slice_range slice.now (index - 1) result) }
+    ensures parts { (p : T → T → Bool) → ComputesOnPairs P.FnMut p predicate → IsGrouped p slice.now → PartsAt p slice.now result }
+{
+    let Some(rest) = rest_at(slice, index) else {
+        return min(index, slice.len());
+    };
+    index - 1 + first_len(ExponentialGroupBy::new(rest, predicate))
+}
+
+/// The same by a key, of a slice that is grouped by it, as one that ascends by it is: `exponential_boundary` as
+/// `ExponentialGroupByKey` groups.
+pub fn exponential_boundary_by_key<T, K: PartialEq + Drop, F: FnMut(&T) -> K>(
+    slice: &[T],
+    index: usize,
+    func: F,
+) -> usize
+    requires { IsCallableBy AreApart (by_key F.FnMut K.eq)
+        (record { remainder = drop (index - 1) slice.now; judge = key_judge func }) }
+    ensures within { result ≤ length slice.now }
+    ensures behind { min index (length slice.now) ≤ result }
+    ensures inside { (key : T → K) → ComputesKey F.FnMut key func → IsGrouped (λ a b. K.eq (key a) (key b)) slice.now
+        → IsAccepted (λ a b. K.eq (key a) (key b)) (slice_range slice.now (index - 1) result) }
+    ensures parts { (key : T → K) → ComputesKey F.FnMut key func → IsGrouped (λ a b. K.eq (key a) (key b)) slice.now
+        → PartsAt (λ a b. K.eq (key a) (key b)) slice.now result }
+{
+    let Some(rest) = rest_at(slice, index) else {
+        return min(index, slice.len());
+    };
+    index - 1 + first_len(ExponentialGroupByKey::new(rest, func))
+}
