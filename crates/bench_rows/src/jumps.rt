@@ -137,16 +137,22 @@ pub fn row_12<W: Write>(out: &mut W) -> Result<bool, Error> {
     Ok(true)
 }
 
-/// A short group after a long one, from the back: galloping from its own end asks little.
-pub fn row_18<W: Write>(out: &mut W) -> Result<bool, Error> {
-    let mut array = [0; 1001];
-    array[1000] = 1;
-    let slice: &[i32] = &array;
+// The group at the back, and how many questions it costs.
+fn counted_last<'a>(slice: &'a &[i32]) -> ([Option<&'a [i32]>; 1], usize) {
     let mut questions = 0usize;
     let mut groups = slice.exponential_group_by(|a, b| {
         questions = questions.wrapping_add(1);
         a == b
     });
-    let answers = [groups.next_back()];
-    write_groups(out, 18, &answers, &[Some(&[1])], questions <= 3)
+    let last = [groups.next_back()];
+    (last, questions)
+}
+
+/// A short group after a long one, from the back: galloping from its own end asks little.
+pub fn row_18<W: Write>(out: &mut W) -> Result<bool, Error> {
+    let mut array = [0; 1001];
+    array[1000] = 1;
+    let slice: &[i32] = &array;
+    let (last, questions) = counted_last(&slice);
+    write_groups(out, 18, &last, &[Some(&[1])], questions <= 3)
 }
