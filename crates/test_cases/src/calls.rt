@@ -36,16 +36,16 @@ pub(crate) fn read<T>(group: Option<&mut [T]>) -> Option<&[T]> {
 }
 
 /// Whether calls at the front give these groups, and then nothing.
-pub(crate) fn come<I: Iterator + Drop>(groups: I, wanted: &[I::Item]) -> bool
+pub(crate) fn gives<I: Iterator + Drop>(groups: I, wanted: &[I::Item]) -> bool
 where
     I::Item: PartialEq + Drop,
     requires can { I.can_next groups }
     requires ends { IsFinite (I.remaining groups) }
 {
     let mut groups = groups;
-    for wanted in wanted {
+    for expected in wanted {
         match groups.next() {
-            Some(group) if group == *wanted => {}
+            Some(group) if group == *expected => {}
             _ => return false,
         }
     }
@@ -53,7 +53,7 @@ where
 }
 
 /// The same of groups for writing.
-pub(crate) fn come_mut<'a, T: PartialEq + 'a, I: Iterator<Item = &'a mut [T]> + Drop>(
+pub(crate) fn gives_mut<'a, T: PartialEq + 'a, I: Iterator<Item = &'a mut [T]> + Drop>(
     groups: I,
     wanted: &[&[T]],
 ) -> bool
@@ -61,8 +61,8 @@ pub(crate) fn come_mut<'a, T: PartialEq + 'a, I: Iterator<Item = &'a mut [T]> + 
     requires ends { IsFinite (I.remaining groups) }
 {
     let mut groups = groups;
-    for wanted in wanted {
-        if !holds(groups.next(), wanted) {
+    for expected in wanted {
+        if !holds(groups.next(), expected) {
             return false;
         }
     }

@@ -1,7 +1,7 @@
 //! Predicates that may be called only on some elements, or never.
 ghost use Rattle.std.specs.Prelude.{◌≡◌, ◌≢◌, ◌<◌, [], ◌∷◌};
 
-use crate::calls::come;
+use crate::calls::gives;
 use slice_group_by::{BinaryGroupBy, ExponentialGroupBy, GroupBy, LinearGroupBy};
 
 #[derive(Drop)]
@@ -95,12 +95,12 @@ fn ascend_always(a: &u8, b: &u8) -> bool
 
 #[test]
 fn predicate_call_param_order(rt: HostRuntime) {
-    assert!(rt; come(LinearGroupBy::new(FIVE, ascend_always), &[FIVE]));
+    assert!(rt; gives(LinearGroupBy::new(FIVE, ascend_always), &[FIVE]));
 }
 
 #[test]
 fn rev_predicate_call_param_order(rt: HostRuntime) {
-    assert!(rt; come(LinearGroupBy::new(FIVE, ascend_always).rev(), &[FIVE]));
+    assert!(rt; gives(LinearGroupBy::new(FIVE, ascend_always).rev(), &[FIVE]));
 }
 
 // Says no, and may be called only on two different elements.
@@ -116,8 +116,8 @@ const ONE_BY_ONE: [&[u8]; 3] = [&[1], &[2], &[3]];
 
 #[test]
 fn asks_no_element_about_itself(rt: HostRuntime) {
-    assert!(rt; come(THREE.binary_group_by(differ_always), &ONE_BY_ONE));
-    assert!(rt; come(THREE.exponential_group_by(differ_always), &ONE_BY_ONE));
+    assert!(rt; gives(THREE.binary_group_by(differ_always), &ONE_BY_ONE));
+    assert!(rt; gives(THREE.exponential_group_by(differ_always), &ONE_BY_ONE));
 }
 
 const ONE: &[u8] = &[1];
@@ -127,21 +127,21 @@ fn linear_alone() -> bool {
     let never = |_a: &u8, _b: &u8| -> bool
         requires { ⊥ }
     { true };
-    come(ONE.linear_group_by(never), &[ONE])
+    gives(ONE.linear_group_by(never), &[ONE])
 }
 
 fn binary_alone() -> bool {
     let never = |_a: &u8, _b: &u8| -> bool
         requires { ⊥ }
     { true };
-    come(ONE.binary_group_by(never), &[ONE])
+    gives(ONE.binary_group_by(never), &[ONE])
 }
 
 fn exponential_alone() -> bool {
     let never = |_a: &u8, _b: &u8| -> bool
         requires { ⊥ }
     { true };
-    come(ONE.exponential_group_by(never), &[ONE])
+    gives(ONE.exponential_group_by(never), &[ONE])
 }
 
 #[test]

@@ -1,7 +1,7 @@
 //! Groups of slices for reading, case by case.
 ghost use Rattle.std.specs.Prelude.{◌≤◌};
 
-use crate::calls::{Group, answers, ascend, asks, come, differ, equal, itself, tens};
+use crate::calls::{Group, answers, ascend, asks, differ, equal, gives, itself, tens};
 use slice_group_by::GroupBy;
 use std::alloc::{AllocError, Global};
 use std::cell::Cell;
@@ -21,8 +21,8 @@ fn by_tens() -> [Group; 3] {
 #[test]
 fn by_closures(rt: HostRuntime) {
     let three: [&[i32]; 3] = [&[1, 1, 1], &[3, 3], &[2, 2, 2]];
-    assert!(rt; come(UNSORTED.linear_group_by(equal), &three));
-    assert!(rt; come(ASCENDING.binary_group_by(differ), &[ASCENDING]));
+    assert!(rt; gives(UNSORTED.linear_group_by(equal), &three));
+    assert!(rt; gives(ASCENDING.binary_group_by(differ), &[ASCENDING]));
     let tens: [Group; 3] = [Some(&[10, 11]), Some(&[20, 21, 22]), None];
     assert!(rt; by_tens() == tens);
 }

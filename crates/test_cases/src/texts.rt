@@ -2,7 +2,7 @@
 ghost use Rattle.std.specs.Prelude.{◌<◌};
 ghost use Rattle.std.specs.Str.{IsUtf8};
 
-use crate::calls::{answers, answers_mut, come, come_mut, holds};
+use crate::calls::{answers, answers_mut, gives, gives_mut, holds};
 use slice_group_by::{
     LinearStrGroup, LinearStrGroupBy, LinearStrGroupByKey, LinearStrGroupByKeyMut,
     LinearStrGroupByMut, LinearStrGroupMut, StrGroupBy, StrGroupByMut,
@@ -18,16 +18,16 @@ const EASY_GROUPS: [&str; 4] = ["aaaa", "bbbbb", "aa", "cccc"];
 const EASY_GROUPS_REV: [&str; 4] = ["cccc", "aa", "bbbbb", "aaaa"];
 
 fn str_easy() -> bool {
-    come(LinearStrGroup::new(EASY), &EASY_GROUPS)
+    gives(LinearStrGroup::new(EASY), &EASY_GROUPS)
 }
 
 fn str_rev_easy() -> bool {
-    come(LinearStrGroup::new(EASY).rev(), &EASY_GROUPS_REV)
+    gives(LinearStrGroup::new(EASY).rev(), &EASY_GROUPS_REV)
 }
 
 fn str_kanji() -> bool {
     let groups = LinearStrGroup::new("包包饰饰与与钥钥匙匙扣扣");
-    come(groups, &["包包", "饰饰", "与与", "钥钥", "匙匙", "扣扣"])
+    gives(groups, &["包包", "饰饰", "与与", "钥钥", "匙匙", "扣扣"])
 }
 
 // Characters of Chinese, Japanese and Korean, by their blocks.
@@ -54,24 +54,24 @@ const ASCII_CJK: &str = "abc包包bbccdd饰饰";
 
 fn str_ascii_cjk() -> bool {
     let groups = LinearStrGroupBy::new(ASCII_CJK, both_cjk_or_neither);
-    come(groups, &["abc", "包包", "bbccdd", "饰饰"])
+    gives(groups, &["abc", "包包", "bbccdd", "饰饰"])
 }
 
 fn str_rev_ascii_cjk() -> bool {
     let groups = LinearStrGroupBy::new(ASCII_CJK, both_cjk_or_neither);
-    come(groups.rev(), &["饰饰", "bbccdd", "包包", "abc"])
+    gives(groups.rev(), &["饰饰", "bbccdd", "包包", "abc"])
 }
 
 fn str_mut_easy() -> bool {
     let mut bytes = *b"aaaabbbbbaacccc";
     let wanted = EASY_GROUPS.map(|group| group.as_bytes());
-    come_mut(LinearStrGroupMut::new(&mut bytes), &wanted)
+    gives_mut(LinearStrGroupMut::new(&mut bytes), &wanted)
 }
 
 fn str_mut_rev_easy() -> bool {
     let mut bytes = *b"aaaabbbbbaacccc";
     let wanted = EASY_GROUPS_REV.map(|group| group.as_bytes());
-    come_mut(LinearStrGroupMut::new(&mut bytes).rev(), &wanted)
+    gives_mut(LinearStrGroupMut::new(&mut bytes).rev(), &wanted)
 }
 
 #[test]
@@ -116,7 +116,7 @@ const ABCAB: &str = "abcab";
 
 fn ascending_mut() -> bool {
     let mut bytes = *b"abcab";
-    come_mut(
+    gives_mut(
         LinearStrGroupByMut::new(&mut bytes, ascends),
         &[b"abc", b"ab"],
     )
@@ -124,7 +124,7 @@ fn ascending_mut() -> bool {
 
 fn ascending_back_mut() -> bool {
     let mut bytes = *b"abcab";
-    come_mut(
+    gives_mut(
         LinearStrGroupByMut::new(&mut bytes, ascends).rev(),
         &[b"ab", b"abc"],
     )
@@ -133,8 +133,8 @@ fn ascending_back_mut() -> bool {
 // A test that is not symmetric has the same groups from both ends.
 #[test]
 fn ascending_from_both_ends(rt: HostRuntime) {
-    assert!(rt; come(ABCAB.linear_group_by(ascends), &["abc", "ab"]));
-    assert!(rt; come(ABCAB.linear_group_by(ascends).rev(), &["ab", "abc"]));
+    assert!(rt; gives(ABCAB.linear_group_by(ascends), &["abc", "ab"]));
+    assert!(rt; gives(ABCAB.linear_group_by(ascends).rev(), &["ab", "abc"]));
     assert!(rt; ascending_mut() && ascending_back_mut());
 }
 
@@ -236,7 +236,7 @@ fn call_methods(mut bytes: &mut [u8]) -> bool
     &*bytes == b"abb--".as_slice()
 }
 
-// No contract says what an iterator leaves that is given up by `last`, or of whose groups no token is kept.
+// No contract says what the input holds after `last`, or after an iterator whose groups were not noted.
 #[test]
 fn leaves_the_other_bytes(rt: HostRuntime) {
     let mut array = *b"abcdefghijkk";

@@ -1,5 +1,5 @@
 //! Groups of slices for writing, case by case, and what the slice then holds.
-use crate::calls::{Group, answers_mut, ascend, asks, come_mut, equal, itself, read, tens};
+use crate::calls::{Group, answers_mut, ascend, asks, equal, gives_mut, itself, read, tens};
 use slice_group_by::{
     BinaryGroupByKeyMut, BinaryGroupMut, ExponentialGroupByMut, GroupByMut, LinearGroupByKeyMut,
     LinearGroupMut, rank_groups,
@@ -28,14 +28,14 @@ fn parity(x: &i32) -> i32 {
 fn group_by_key_mut(rt: HostRuntime) {
     let mut array = [1, 2, 4, 5, 7, 8, 8];
     let wanted: [&[i32]; 4] = [&[1], &[2, 4], &[5, 7], &[8, 8]];
-    assert!(rt; come_mut(LinearGroupByKeyMut::new(&mut array, parity), &wanted));
+    assert!(rt; gives_mut(LinearGroupByKeyMut::new(&mut array, parity), &wanted));
 }
 
 #[test]
 fn three_groups_for_writing(rt: HostRuntime) {
     let mut slice: &mut [i32] = &mut [1, 1, 1, 2, 2, 2, 3, 3];
     let wanted: [&[i32]; 3] = [&[1, 1, 1], &[2, 2, 2], &[3, 3]];
-    assert!(rt; come_mut(slice.binary_group_by_mut(equal), &wanted));
+    assert!(rt; gives_mut(slice.binary_group_by_mut(equal), &wanted));
 }
 
 // A reversed iterator gives the groups from the back, and asks what calls from the back ask.
@@ -189,7 +189,7 @@ fn call_methods(slice: &mut &mut [i32]) {
     let _ = slice.exponential_group_by_mut(ascend).next_back();
 }
 
-// No contract says what an iterator leaves that is given up by `last`, or of whose groups no token is kept.
+// No contract says what the input holds after `last`, or after an iterator whose groups were not noted.
 #[test]
 fn leaves_the_other_elements(rt: HostRuntime) {
     let mut array = [1, 2, 2, 9, 9];
