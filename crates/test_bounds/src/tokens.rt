@@ -4,8 +4,8 @@ ghost use Rattle.std.specs.Borrow.{MutBor};
 ghost use Rattle.slice_group_by.specs.End.TheVariants.{Back, Front};
 ghost use Rattle.slice_group_by.specs.declared.loans.Ended.{Ended as Token};
 
-use slice_group_by::loans::{Ended, resolve, resolve_and_return};
-use slice_group_by::{LinearGroupByKeyMut, LinearGroupMut, LinearStrGroupByKeyMut};
+use slice_group_by::loans::{Ended, resolve, resolve_and_return, resolve_in};
+use slice_group_by::{AsMutSlice, LinearGroupByKeyMut, LinearGroupMut, LinearStrGroupByKeyMut};
 
 // A function that may be called once is enough.
 
@@ -25,6 +25,14 @@ pub fn resolved_and_returned<T, R, F: FnOnce(&mut [T]) -> (Ended<'_, T>, R)>(
         → l.name ≡ p.ghost_name }
 {
     resolve_and_return(slice, f)
+}
+
+pub fn resolved_in<T, S: AsMutSlice<T>, F: FnOnce(&mut [T]) -> Ended<'_, T>>(holder: &mut S, f: F)
+    requires callable { (p : MutBor (List T)) → p.now ≡ S.AsMutSlice.elements holder.old → F.pre f p }
+    requires names { (p : MutBor (List T)) (l : Token T) → p.now ≡ S.AsMutSlice.elements holder.old → F.post f p l
+        → l.name ≡ p.ghost_name }
+{
+    resolve_in(holder, f);
 }
 
 // The first group and the last one are noted, of elements that have no more than `==`.

@@ -1,4 +1,4 @@
-//! The text of each type that has one.
+//! The text of each type that has one, and that a writer's error comes out of it.
 use crate::calls::{equal, itself};
 use slice_group_by::EitherOrBoth::{Both, Left, Right};
 use slice_group_by::{
@@ -7,7 +7,7 @@ use slice_group_by::{
     LinearGroupBy, LinearGroupByKey, LinearGroupByKeyMut, LinearGroupByMut,
 };
 use std::alloc::{AllocError, Global};
-use std::fmt::Debug;
+use std::fmt::{self, Debug, Write};
 use std::test::Fail;
 
 fn is_written<D: Debug>(alloc: Global, value: &D, wanted: &str) -> Result<bool, AllocError> {
@@ -109,4 +109,33 @@ fn texts_of_values(rt: HostRuntime) -> Result<(), Fail> {
     let parts: [EitherOrBoth<u8, char>; 3] = [Left(1), Right('a'), Both(2, 'b')];
     assert!(rt; is_written(alloc, &parts, "[Left(1), Right('a'), Both(2, 'b')]")?);
     Ok(())
+}
+
+// It takes so many bytes, and fails at the next.
+#[derive(Drop)]
+struct Limited {
+    left: usize,
+}
+
+impl Write for Limited {
+    fn write_str(&mut self, text: &str) -> fmt::Result {
+        if text.len() > self.left {
+            return Err(fmt::Error);
+        }
+        self.left -= text.len();
+        Ok(())
+    }
+}
+
+fn fits(left: usize) -> bool {
+    let groups = LinearGroupBy::new(&[1, 2], equal);
+    write!(Limited { left }, "{groups:?}").is_ok()
+}
+
+// The text is "LinearGroupBy { slice: [1, 2] }".
+#[test]
+fn a_writers_error_comes_out(rt: HostRuntime) {
+    for left in 0..40 {
+        assert!(rt; fits(left) == (left >= 31));
+    }
 }
