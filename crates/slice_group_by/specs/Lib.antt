@@ -22,6 +22,7 @@ pub use Rattle.sgb_merge_join.specs.Merge
 pub use Rattle.sgb_merge_join.specs.Asking
 pub use Rattle.sgb_merge_join.specs.JoinKinds
 pub use Rattle.sgb_groups.specs.Gives
+pub use Rattle.sgb_stream_group.specs.Streams
 pub use Rattle.sgb_linear_str_group.specs.Texts
 pub use Rattle.sgb_linear_str_group.specs.TextsMut
 pub use Rattle.sgb_loans.specs.Loans

@@ -1,0 +1,5 @@
+use Rattle.sgb_search.proofs.Questions.Equality.{equality_settled}
+use Rattle.sgb_stream_group.proofs.by.StreamGroup+T+V+F.new.Goals as goal
+
+pub returns-clause-settled : goal.returns-clause-settled
+returns-clause-settled g c f folds adds = record { judge = equality_settled g.T.PartialEq.eq _ _; fold = folds; adds_up = adds }

@@ -1,0 +1,65 @@
+use Rattle.sgb_stream_group.proofs.Calls.{is_first, ended_before, still_open, ended_in, asked_in_both, taken, is_nil, is_some, due_open}
+use Rattle.sgb_stream_group.proofs.stream_group.StreamGroups.next.Goals as goal
+
+pub returns-then-ends_before-clause-settled : goal.returns-then-ends_before-clause-settled
+returns-then-ends_before-clause-settled g c p f m =
+    let s = c.ends_before.ensures.settled p f m in record { judge = s.judge; fold = s.fold; adds_up = s.adds_up }
+
+pub returns-then-ends_before-clause-gives : goal.returns-then-ends_before-clause-gives
+returns-then-ends_before-clause-gives g c p f m group o =
+    let block = c.args.rest.now.now in
+    let is = is_first block c.in_ok-first.first.now c.in_ok-first.ensures.item.3.0 c.in_ok-first.ensures.item.1 in
+    rw (c.take.ensures.value, c.take.ensures.after, c.ends_before.ensures.kept)
+    (ended_before p f c.args.self.now.start group block c.args.self.now.kept c.in_ok-first.first.now is
+    (rw c.if-ends_before.true at c.ends_before.ensures.says p f m) o)
+
+pub returns-then-is_empty-clause-settled : goal.returns-then-is_empty-clause-settled
+returns-then-is_empty-clause-settled g c p f m = c.take_part.ensures.settled p f (c.ends_before.ensures.settled p f m)
+
+pub returns-then-is_empty-clause-gives : goal.returns-then-is_empty-clause-gives
+returns-then-is_empty-clause-gives g c p f m group o =
+    let block = c.args.rest.now.now in
+    let x = c.in_ok-first.first.now in
+    let is = is_first block x c.in_ok-first.ensures.item.3.0 c.in_ok-first.ensures.item.1 in
+    let step =
+    taken p f c.args.self.now.start group block c.ends_before.new.self.start c.args.self.now.kept c.ends_before.new.self.kept x
+    c.take_part.new.rest.now c.take_part.new.self.kept c.ends_before.ensures.start c.ends_before.ensures.kept is
+    (rw c.if-ends_before.false at c.ends_before.ensures.says p f m) o
+    (c.take_part.ensures.takes p f (c.ends_before.ensures.settled p f m) group) in
+    let none = is_nil c.take_part.new.rest.now c.if-is_empty.ensures in
+    (none, still_open p f c.args.self.now.start group block c.take_part.new.rest.now c.take_part.new.self.kept none step)
+
+pub returns-then-is_empty-clause-asks : goal.returns-then-is_empty-clause-asks
+returns-then-is_empty-clause-asks g c =
+    let both =
+    asked_in_both g.J.Judge.may_ask g.J.Judge.answers c.args.self.now.kept c.args.rest.now.now c.take_part.new.rest.now
+    c.ends_before.result c.args.self.now.judge c.ends_before.new.self.judge c.take_part.new.self.judge
+    c.in_ok-first.ensures.item.3.0 c.ends_before.ensures.asks c.take_part.ensures.asks in
+    (both.0, both.1, due_open c.take_part.new.self.kept c.take_part.new.rest.now both.0 _ c.take_part.ensures.some (is_nil _ c.if-is_empty.ensures) both.2)
+
+pub returns-else-is_empty-clause-settled : goal.returns-else-is_empty-clause-settled
+returns-else-is_empty-clause-settled g c p f m =
+    let s = c.take_part.ensures.settled p f (c.ends_before.ensures.settled p f m) in
+    record { judge = s.judge; fold = s.fold; adds_up = s.adds_up }
+
+pub returns-else-is_empty-clause-gives : goal.returns-else-is_empty-clause-gives
+returns-else-is_empty-clause-gives g c p f m group o =
+    let block = c.args.rest.now.now in
+    let x = c.in_ok-first.first.now in
+    let is = is_first block x c.in_ok-first.ensures.item.3.0 c.in_ok-first.ensures.item.1 in
+    let step =
+    taken p f c.args.self.now.start group block c.ends_before.new.self.start c.args.self.now.kept c.ends_before.new.self.kept x
+    c.take_part.new.rest.now c.take_part.new.self.kept c.ends_before.ensures.start c.ends_before.ensures.kept is
+    (rw c.if-ends_before.false at c.ends_before.ensures.says p f m) o
+    (c.take_part.ensures.takes p f (c.ends_before.ensures.settled p f m) group) in
+    rw (c.take-else-is_empty.ensures.value, c.take-else-is_empty.ensures.after)
+    (ended_in p f c.args.self.now.start group block c.take_part.new.rest.now c.take_part.new.self.kept
+    (is_some c.take_part.new.rest.now c.if-is_empty.ensures) c.take_part.ensures.some step)
+
+pub returns-else-is_empty-clause-asks : goal.returns-else-is_empty-clause-asks
+returns-else-is_empty-clause-asks g c =
+    let both =
+    asked_in_both g.J.Judge.may_ask g.J.Judge.answers c.args.self.now.kept c.args.rest.now.now c.take_part.new.rest.now
+    c.ends_before.result c.args.self.now.judge c.ends_before.new.self.judge c.take_part.new.self.judge
+    c.in_ok-first.ensures.item.3.0 c.ends_before.ensures.asks c.take_part.ensures.asks in
+    (both.0, both.1, rw c.take-else-is_empty.ensures.after both.2)

@@ -1,0 +1,75 @@
+-- Groups that go on over the blocks of a stream. A group is given as its last element and a fold over its elements.
+use Rattle.std.specs.Prelude.{◌≡◌, ℕ, ◌-◌, Bool, true, List, [], ◌∷◌, ◌++◌, length, Option, None, Some, ⊤}
+use Rattle.std.specs.Borrow.{Bor}
+use Rattle.std.specs.Fn.{AlwaysReturns, Mut, always_mut}
+use Rattle.sgb_search.specs.declared.judge.Judge.{Ghosts}
+use Rattle.sgb_search.specs.Judges.{IsCallable, Computes}
+use Rattle.sgb_search.specs.Split.{IsAccepted, IsRefusedAcross, first, last, on_pairs, split}
+use Rattle.sgb_stream_group.specs.declared.stream_group.StreamGroups.{StreamGroups}
+
+module _ {T V : Type 0} (p : T → T → Bool) (f : V → List T → V) (start : V) where
+  -- a group, or the part of one that has come, is given so
+  pub record IsGivenAs (group : List T) (given : T × V) : Type 0 where
+    pub accepted : IsAccepted p group
+    pub element : last group ≡ Some given.0
+    pub value : given.1 ≡ f start group
+
+  -- these are the elements of the open group, of which the stream keeps what would be given
+  abbrev pub IsOpen : List T → Option (T × V) → Type 0
+  IsOpen group None = group ≡ []
+  IsOpen group (Some kept) = IsGivenAs group kept
+
+  -- the first piece of the elements before is given, and those after are left, whatever more comes
+  pub record GivesFirst (before after : List T) (given : T × V) : Type 0 where
+    pub group : List T
+    pub is_given : IsGivenAs group given
+    pub cut : before ≡ group ++ after
+    pub first : (more : List T) → split p (before ++ more) ≡ group ∷ split p (after ++ more)
+
+  -- a call on the elements of the open group and those of the block: it gives their first piece, and no group is open then; or the block
+  -- is at its end, and all are open
+  abbrev pub Gives : List T → Option (T × V) → List T → Option (T × V) → Type 0
+  Gives before None after kept = (after ≡ []) × IsOpen before kept
+  Gives before (Some given) after kept = GivesFirst before after given × (kept ≡ None)
+
+  -- a part at the front of the block goes to the open group, which then is refused towards what is left
+  pub record TakesPart (group block after : List T) (kept : Option (T × V)) : Type 0 where
+    pub part : List T
+    pub cut : block ≡ part ++ after
+    pub is_open : IsOpen (group ++ part) kept
+    pub refused : IsRefusedAcross p (group ++ part, after)
+
+  -- what is left behind the last block: a piece of its own, or nothing
+  abbrev pub GivesLast : List T → Option (T × V) → Type 0
+  GivesLast group None = group ≡ []
+  GivesLast group (Some given) = (split p group ≡ group ∷ []) × IsGivenAs group given
+
+-- the block goes on with the open group, if there are both
+abbrev pub GoesOn : {T V : Type 0} → (T → T → Bool) → Option (T × V) → List T → Type 0
+GoesOn p None block = ⊤
+GoesOn p (Some kept) block = (x : _) → first block ≡ Some x → p kept.0 x ≡ true
+
+-- how many questions are left to ask up to the end of a block: one about each of its elements and the one before it
+abbrev pub due : {T V : Type 0} → Option (T × V) → List T → ℕ
+due None block = length block - 1
+due (Some kept) block = length block
+
+-- a fold over a list is one over a part of it and then over the rest
+abbrev pub AddsUp : {T V : Type 0} → (V → List T → V) → Type 0
+AddsUp {T} {V} f = (v : V) (xs ys : List T) → f v (xs ++ ys) ≡ f (f v xs) ys
+
+-- each call of the fold, from now on, gives what f does
+abbrev pub Folds : {T V F : Type 0} → Mut F (V × (Bor (List T) × Unit {0})) V → (V → List T → V) → F → Type 0
+Folds h f fold = AlwaysReturns h (λ a r. r ≡ f a.0 a.1.0.now) fold
+
+module _ {T V J F : Type 0} (g : Ghosts J T) (h : Mut F (V × (Bor (List T) × Unit {0})) V) where
+  -- the judge may be asked about any two elements, and the fold called, from now on
+  pub record MayGoOn (s : StreamGroups T V J F) : Type 0 where
+    pub judge : IsCallable g.may_ask g.answers (λ q. ⊤) s.judge
+    pub fold : always_mut h s.fold
+
+  -- the judge answers p, and the fold is f, from now on
+  pub record IsSettled (p : T → T → Bool) (f : V → List T → V) (s : StreamGroups T V J F) : Type 0 where
+    pub judge : Computes g.may_ask g.answers (λ q. ⊤) (on_pairs p) s.judge
+    pub fold : Folds h f s.fold
+    pub adds_up : AddsUp f

@@ -1,0 +1,99 @@
+//! Groups of a stream by equality, by a predicate and by a key.
+ghost use Rattle.std.specs.Prelude.{◌≡◌, Bool, List, None};
+ghost use Rattle.std.specs.Fn.{ComputesKey, ComputesOnPairs};
+ghost use Rattle.sgb_numbers.specs.Numbers.{by_number};
+ghost use Rattle.sgb_search.specs.Judges.{by_equality, by_key, by_predicate};
+ghost use Rattle.sgb_stream_group.specs.Streams.{AddsUp, Folds, IsSettled, MayGoOn};
+
+use crate::stream_group::{
+    StreamGroup, StreamGroupBy, StreamGroupByKey, StreamGroups, StreamNumberGroup,
+};
+use sgb_numbers::lanes::Lanes;
+use sgb_numbers::number_judge::NumberJudge;
+use sgb_search::judge::{EqualityJudge, KeyJudge, PredicateJudge};
+
+impl<T: PartialEq, V, F: FnMut(V, &[T]) -> V> StreamGroup<T, V, F> {
+    /// A stream of which no block has come yet. `fold` adds a part of a group to a value, which is `start` before the first part.
+    #[inline]
+    pub fn new(start: V, fold: F) -> Self
+        requires { F.IsAlwaysCallable fold }
+        ensures start { result.start ≡ start }
+        ensures kept { result.kept ≡ None }
+        ensures may_go_on { MayGoOn (by_equality T.eq) F.FnMut result }
+        ensures settled { (f : V → List T → V) → Folds F.FnMut f fold → AddsUp f
+            → IsSettled (by_equality T.eq) F.FnMut T.eq f result }
+    {
+        StreamGroups {
+            judge: EqualityJudge::new(),
+            fold,
+            start,
+            kept: None,
+        }
+    }
+}
+
+impl<T: Lanes, V, F: FnMut(V, &[T]) -> V> StreamNumberGroup<T, V, F> {
+    /// The same of numbers, many of which are compared at a time.
+    #[inline]
+    pub fn new(start: V, fold: F) -> Self
+        requires { F.IsAlwaysCallable fold }
+        ensures start { result.start ≡ start }
+        ensures kept { result.kept ≡ None }
+        ensures may_go_on { MayGoOn (by_number T.eq) F.FnMut result }
+        ensures settled { (f : V → List T → V) → Folds F.FnMut f fold → AddsUp f
+            → IsSettled (by_number T.eq) F.FnMut T.eq f result }
+    {
+        StreamGroups {
+            judge: NumberJudge {},
+            fold,
+            start,
+            kept: None,
+        }
+    }
+}
+
+impl<T, V, F: FnMut(V, &[T]) -> V, P: FnMut(&T, &T) -> bool> StreamGroupBy<T, V, F, P> {
+    /// The same by a predicate.
+    #[inline]
+    pub fn new(start: V, fold: F, predicate: P) -> Self
+        requires fold { F.IsAlwaysCallable fold }
+        requires predicate { P.IsAlwaysCallable predicate }
+        ensures start { result.start ≡ start }
+        ensures kept { result.kept ≡ None }
+        ensures may_go_on { MayGoOn (by_predicate P.FnMut) F.FnMut result }
+        ensures settled { (p : T → T → Bool) (f : V → List T → V) → ComputesOnPairs P.FnMut p predicate
+            → Folds F.FnMut f fold → AddsUp f → IsSettled (by_predicate P.FnMut) F.FnMut p f result }
+    {
+        StreamGroups {
+            judge: PredicateJudge { predicate },
+            fold,
+            start,
+            kept: None,
+        }
+    }
+}
+
+impl<T, V, F, G, K: PartialEq + Drop> StreamGroupByKey<T, V, F, G, K>
+where
+    F: FnMut(V, &[T]) -> V,
+    G: FnMut(&T) -> K,
+{
+    /// The same by a key.
+    #[inline]
+    pub fn new(start: V, fold: F, key: G) -> Self
+        requires fold { F.IsAlwaysCallable fold }
+        requires key { G.IsAlwaysCallable key }
+        ensures start { result.start ≡ start }
+        ensures kept { result.kept ≡ None }
+        ensures may_go_on { MayGoOn (by_key G.FnMut K.eq) F.FnMut result }
+        ensures settled { (k : T → K) (f : V → List T → V) → ComputesKey G.FnMut k key → Folds F.FnMut f fold → AddsUp f
+            → IsSettled (by_key G.FnMut K.eq) F.FnMut (λ x y. K.eq (k x) (k y)) f result }
+    {
+        StreamGroups {
+            judge: KeyJudge::new(key),
+            fold,
+            start,
+            kept: None,
+        }
+    }
+}

@@ -1,0 +1,130 @@
+//! Groups that go on over the blocks of a stream.
+ghost use Rattle.std.specs.Prelude.{◌≡◌, ◌≢◌, ℕ, ◌+◌, ◌-◌, ◌<◌, Bool, not, false, List, [], ◌++◌, length, IsSome, MatchOption, None};
+ghost use Rattle.sgb_search.specs.Judges.{IsRunOf};
+ghost use Rattle.sgb_stream_group.specs.Streams.{Gives, GivesLast, GoesOn, IsOpen, IsSettled, MayGoOn, TakesPart, due};
+
+use sgb_numbers::number_judge::NumberJudge;
+use sgb_search::judge::{EqualityJudge, Judge, KeyJudge, PredicateJudge};
+
+/// The groups of equal elements of a stream that comes in blocks, by `==` of neighbours.
+///
+/// ```
+/// let mut groups = StreamGroup::new(0usize, |len, part: &[u8]| len.saturating_add(part.len()));
+/// let mut first = b"aab".as_slice();
+/// groups.next(&mut first);  // Some((b'a', 2))
+/// groups.next(&mut first);  // None: the b may go on
+/// let mut second = b"bc".as_slice();
+/// groups.next(&mut second); // Some((b'b', 2))
+/// groups.next(&mut second); // None
+/// groups.finish();          // Some((b'c', 1))
+/// ```
+pub type StreamGroup<T, V, F> = StreamGroups<T, V, EqualityJudge, F>;
+
+/// The groups of equal numbers of a stream, found by vectors.
+pub type StreamNumberGroup<T, V, F> = StreamGroups<T, V, NumberJudge, F>;
+
+/// The groups of a stream by a predicate, which is asked about neighbours, the left one first.
+pub type StreamGroupBy<T, V, F, P> = StreamGroups<T, V, PredicateJudge<P>, F>;
+
+/// The groups of a stream by a key: a question is a call of the key function on the left element, then one on the right, then
+/// `==` of the keys.
+pub type StreamGroupByKey<T, V, F, G, K> = StreamGroups<T, V, KeyJudge<G, K>, F>;
+
+/// The groups of a stream that comes in blocks: it gives each group once it is known to end, as its last element and a fold over
+/// its elements, and keeps the same of the group that is open at the end of a block.
+#[derive(Drop)]
+pub struct StreamGroups<T, V, J, F> {
+    pub judge: J,
+    pub fold: F,
+    pub start: V,
+    pub kept: Option<(T, V)>,
+}
+
+impl<T: Copy, V: Copy, J: Judge<T>, F: FnMut(V, &[T]) -> V> StreamGroups<T, V, J, F> {
+    /// The next group that ends in the block, of which `rest` is what is left. `None` where the block is at its end: whether the
+    /// group that is open then goes on, the next block tells, and `finish` gives it where none comes.
+    #[inline]
+    pub fn next(&mut self, rest: &mut &[T]) -> Option<(T, V)>
+        requires { MayGoOn J.Judge F.FnMut self.old }
+        ensures may_go_on { MayGoOn J.Judge F.FnMut self.new }
+        ensures settled { (p : T → T → Bool) (f : V → List T → V) → IsSettled J.Judge F.FnMut p f self.old
+            → IsSettled J.Judge F.FnMut p f self.new }
+        ensures start { self.new.start ≡ self.old.start }
+        ensures gives { (p : T → T → Bool) (f : V → List T → V) → IsSettled J.Judge F.FnMut p f self.old
+            → (group : List T) → IsOpen p f self.old.start group self.old.kept
+            → Gives p f self.old.start (group ++ rest.old.now) result rest.new.now self.new.kept }
+        ensures asks { (n : ℕ) × IsRunOf J.may_ask J.answers n self.old.judge self.new.judge
+            × (n + due self.new.kept rest.new.now ≡ due self.old.kept rest.old.now) }
+        ensures fewer { IsSome result → due self.new.kept rest.new.now < due self.old.kept rest.old.now }
+    {
+        let first = rest.first()?;
+        if self.ends_before(first) {
+            return self.kept.take();
+        }
+        self.take_part(rest);
+        if rest.is_empty() {
+            None
+        } else {
+            self.kept.take()
+        }
+    }
+
+    // Whether there is an open group, and the element does not go on with it: one question, where there is one.
+    #[inline]
+    fn ends_before(&mut self, element: &T) -> bool
+        requires { MayGoOn J.Judge F.FnMut self.old }
+        ensures may_go_on { MayGoOn J.Judge F.FnMut self.new }
+        ensures settled { (p : T → T → Bool) (f : V → List T → V) → IsSettled J.Judge F.FnMut p f self.old
+            → IsSettled J.Judge F.FnMut p f self.new }
+        ensures start { self.new.start ≡ self.old.start }
+        ensures kept { self.new.kept ≡ self.old.kept }
+        ensures says { (p : T → T → Bool) (f : V → List T → V) → IsSettled J.Judge F.FnMut p f self.old
+            → MatchOption self.old.kept (result ≡ false) (λ kept. result ≡ not (p kept.0 element.now)) }
+        ensures asks { MatchOption self.old.kept ((result ≡ false) × (self.new.judge ≡ self.old.judge))
+            (λ kept. IsRunOf J.may_ask J.answers 1 self.old.judge self.new.judge) }
+    {
+        match self.kept {
+            Some((last, _)) => !self.judge.ask(&last, element),
+            None => false,
+        }
+    }
+
+    // Takes the first group off what is left of the block, and adds it to the open one.
+    #[inline]
+    fn take_part(&mut self, rest: &mut &[T])
+        requires may_go_on { MayGoOn J.Judge F.FnMut self.old }
+        requires some { rest.old.now ≢ [] }
+        ensures may_go_on { MayGoOn J.Judge F.FnMut self.new }
+        ensures settled { (p : T → T → Bool) (f : V → List T → V) → IsSettled J.Judge F.FnMut p f self.old
+            → IsSettled J.Judge F.FnMut p f self.new }
+        ensures start { self.new.start ≡ self.old.start }
+        ensures takes { (p : T → T → Bool) (f : V → List T → V) → IsSettled J.Judge F.FnMut p f self.old
+            → (group : List T) → IsOpen p f self.old.start group self.old.kept → GoesOn p self.old.kept rest.old.now
+            → TakesPart p f self.old.start group rest.old.now rest.new.now self.new.kept }
+        ensures some { IsSome self.new.kept }
+        ensures asks { (n : ℕ) × IsRunOf J.may_ask J.answers n self.old.judge self.new.judge
+            × (n + (length rest.new.now - 1) ≡ length rest.old.now - 1) }
+        ensures fewer { length rest.new.now < length rest.old.now }
+    {
+        let value = match self.kept {
+            Some((_, value)) => value,
+            None => self.start,
+        };
+        let len = self.judge.first_len(rest, 0, rest.len());
+        let (part, others) = rest.split_at(len);
+        *rest = others;
+        self.kept = Some((part[len - 1], (self.fold)(value, part)));
+    }
+
+    /// The last group of the stream, where it has one. The next block then begins a stream of its own.
+    pub fn finish(&mut self) -> Option<(T, V)>
+        ensures gives { (p : T → T → Bool) (f : V → List T → V) (group : List T) → IsOpen p f self.old.start group self.old.kept
+            → GivesLast p f self.old.start group result }
+        ensures kept { self.new.kept ≡ None }
+        ensures judge { self.new.judge ≡ self.old.judge }
+        ensures fold { self.new.fold ≡ self.old.fold }
+        ensures start { self.new.start ≡ self.old.start }
+    {
+        self.kept.take()
+    }
+}
