@@ -1,7 +1,7 @@
 -- The lines of what bytes are coded as, one after another.
 use Rattle.std.proofs.Common.{◌≡◌, ◌≢◌, ◌&&◌, ℕ, suc, cond, ◌+◌, ◌<◌, ◌^◌, Bool, true, false, List}
 use Rattle.std.proofs.Common.{[], ◌∷◌, ◌++◌, length, replicate, nat_eq, flat_map, decimal, codes, refl, ap, sym, subst}
-use Rattle.std.proofs.Common.{◌∙◌, arith, get_or, take, ltb, length-append, ◌-◌, Option, Some, IfSome, append_assoc}
+use Rattle.std.proofs.Common.{◌∙◌, arith, take, ltb, length-append, ◌-◌, Option, Some, IfSome, append_assoc}
 use Rattle.std.specs.List.{All}
 use Rattle.std.specs.Io.KnownBytes.{Appends}
 use Rattle.std.proofs.KnownBytes.{Appends-nil}
@@ -10,7 +10,6 @@ use borrow.Author.Tests.{ne_eqb}
 use Rattle.std.proofs.lemmas.Bool.Decides.{nat_tests}
 use Rattle.std.proofs.lemmas.List.{length-replicate}
 use Rattle.std.proofs.lemmas.List.Elements.{All-append, All-from_get_or, All-nil, All-push}
-use Rattle.std.proofs.Math.Seq.{take-append_seam, get_or-append_seam}
 use Rattle.std.proofs.lemmas.Bool.{eqb-true}
 use Rattle.std.specs.Io.BufRead.{take_through, drop_through, strip_last, ends_with_byte, first_line, DropsThrough}
 use Rattle.std.specs.Char.{digit_value}

@@ -32,15 +32,8 @@ impl fmt::Display for RunError {
 impl Run {
     ghost use Rattle.std.specs.Prelude.{◌≡◌, ℕ, ◌<◌, ◌^◌, ◌++◌, codes, decimal, IfErr, IfOk, IsOkAnd, OnOk};
     ghost use Rattle.std.specs.Io.KnownBytes.{Appends};
-    ghost use Rattle.run_length_coder.specs.Coding.{copies, line};
+    ghost use Rattle.run_length_coder.specs.Coding.{copies};
     ghost use Rattle.run_length_coder.specs.Lines.{Says, IsWrong};
-
-    /// Writes the line of the run: its count, a space, its byte as a number, and a line feed.
-    pub fn write<W: Write>(self, out: &mut W) -> io::Result<()>
-        ensures { OnOk result (Appends (W.contents out.old) (W.contents out.new) (line (copies self))) }
-    {
-        writeln!(out, "{} {}", self.count, self.byte)
-    }
 
     /// Writes the bytes of the run, at most 64 KiB at once.
     pub fn write_bytes<W: Write>(self, alloc: Global, out: &mut W) -> io::Result<()>

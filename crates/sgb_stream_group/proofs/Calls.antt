@@ -5,7 +5,11 @@ use Rattle.std.proofs.lemmas.List.{append-nil}
 use Rattle.sgb_search.specs.Judges.{IsRunOf}
 use Rattle.sgb_search.specs.Split.{first}
 use Rattle.sgb_search.proofs.Questions.Runs.{run_of_more}
-use Rattle.sgb_stream_group.specs.Streams.{IsOpen, Gives, GivesFirst, GoesOn, TakesPart, due}
+use Rattle.std.specs.Borrow.{Bor}
+use Rattle.std.specs.Fn.{Mut}
+use Rattle.sgb_search.specs.declared.judge.Judge.{Ghosts}
+use Rattle.sgb_stream_group.specs.declared.stream_group.StreamGroups.{StreamGroups}
+use Rattle.sgb_stream_group.specs.Streams.{Gives, IsSettled, IsOpen, GivesFirst, GoesOn, TakesPart, due}
 use Rattle.sgb_stream_group.proofs.Parts.{closed}
 
 refused : (b : Bool) → true ≡ not b → b ≡ false
@@ -42,6 +46,11 @@ module _ {T V : Type 0} (p : T → T → Bool) where
   goes_on (Some k) x block is s = λ y e. let same : Some x ≡ Some y = sym is ∙ e in let xy : x ≡ y = cc same in rw (← xy) (accepted _ s)
 
   module _ (f : V → List T → V) (start : V) (group block : List T) where
+    -- the first piece is given
+    abbrev pub Ends : Option (T × V) → List T → Type 0
+    Ends None after = ⊥
+    Ends (Some given) after = GivesFirst p f start (group ++ block) after given
+
     -- the part is taken from the state after the question, which keeps the same
     pub taken : (asked_start : V) (kept asked : Option (T × V)) (x : T) (after : List T) (now : Option (T × V)) → asked_start ≡ start
         → asked ≡ kept → first block ≡ Some x → Says kept false x → IsOpen p f start group kept
@@ -52,11 +61,11 @@ module _ {T V : Type 0} (p : T → T → Bool) where
         (step (subst (λ v. IsOpen p f v group asked) (sym e) (rw k o)) (rw k (goes_on kept x block is s)))
 
     pub ended_before : (kept : Option (T × V)) (x : T) → first block ≡ Some x → Says kept true x → IsOpen p f start group kept
-        → Gives p f start (group ++ block) kept block None
+        → Ends kept block
     ended_before None x is s o = cc s
     ended_before (Some k) x is s o =
         let b = begins block x is in
-        (subst (λ l. GivesFirst p f start (group ++ l) l k) b.1 (closed p f start group x b.0 k o (refused _ s)), refl)
+        subst (λ l. GivesFirst p f start (group ++ l) l k) b.1 (closed p f start group x b.0 k o (refused _ s))
 
     pub still_open : (after : List T) (kept : Option (T × V)) → after ≡ [] → TakesPart p f start group block after kept
         → IsOpen p f start (group ++ block) kept
@@ -64,12 +73,12 @@ module _ {T V : Type 0} (p : T → T → Bool) where
         subst (λ l. IsOpen p f start (group ++ l) kept) (sym (t.cut ∙ rw e (append-nil t.part))) t.is_open
 
     pub ended_in : (after : List T) (kept : Option (T × V)) → after ≢ [] → IsSome kept → TakesPart p f start group block after kept
-        → Gives p f start (group ++ block) kept after None
+        → Ends kept after
     ended_in after None some is t = cc is
     ended_in [] (Some k) some is t = absurd (some refl)
     ended_in (y ∷ ys) (Some k) some is t =
-        (subst (λ l. Gives p f start l (Some k) (y ∷ ys) None) (append_assoc group t.part (y ∷ ys) ∙ ap (λ l. group ++ l) (sym t.cut))
-        (closed p f start (group ++ t.part) y ys k t.is_open (t.refused k.0 y t.is_open.element refl), refl))
+        subst (λ l. GivesFirst p f start l (y ∷ ys) k) (append_assoc group t.part (y ∷ ys) ∙ ap (λ l. group ++ l) (sym t.cut))
+        (closed p f start (group ++ t.part) y ys k t.is_open (t.refused k.0 y t.is_open.element refl))
 
 -- the questions of both steps
 module _ {J Q V T : Type 0} (may : J → Q → Type 0) (gives : J → Q → Bool → J → Type 0) where
@@ -86,3 +95,20 @@ pub due_open : {T V : Type 0} (kept : Option (T × V)) (after : List T) (n m : �
     → n + due kept after ≡ m
 due_open None after n m is nil e = cc is
 due_open (Some k) after n m is nil e = let l : length after ≡ 0 = ap length nil in omega (arith, l, e)
+
+-- what a call gives that takes what is kept
+module _ {T V J F : Type 0} (g : Ghosts J T) (h : Mut F (V × (Bor (List T) × Unit {0})) V) (p : T → T → Bool) (f : V → List T → V)
+    (start : V) where
+  pub gives : (group block after : List T) (given kept : Option (T × V)) (s t : StreamGroups T V J F) → Ends p f start group block kept after
+      → IsSettled g h p f s → s.start ≡ start → given ≡ kept → t.judge ≡ s.judge → t.fold ≡ s.fold → t.start ≡ s.start → t.kept ≡ None
+      → Gives g h p f start (group ++ block) given after t
+  gives group block after given None s t ends m b is judge fold begins none = absurd ends
+  gives group block after given (Some k) s t ends m b is judge fold begins none =
+      rw is (
+        ends,
+        record {
+          settled = record { judge = rw judge m.judge; fold = rw fold m.fold; adds_up = m.adds_up };
+          begins = begins ∙ b;
+          is_open = rw none refl;
+        },
+      )

@@ -1,5 +1,5 @@
 -- Groups that go on over the blocks of a stream. A group is given as its last element and a fold over its elements.
-use Rattle.std.specs.Prelude.{◌≡◌, ℕ, ◌-◌, Bool, true, List, [], ◌∷◌, ◌++◌, length, Option, None, Some, ⊤}
+use Rattle.std.specs.Prelude.{◌≡◌, ℕ, ◌+◌, ◌-◌, cond, nat_lt, Bool, true, List, [], ◌∷◌, ◌++◌, length, Option, None, Some, ⊤}
 use Rattle.std.specs.Borrow.{Bor}
 use Rattle.std.specs.Fn.{AlwaysReturns, Mut, always_mut}
 use Rattle.sgb_search.specs.declared.judge.Judge.{Ghosts}
@@ -26,11 +26,17 @@ module _ {T V : Type 0} (p : T → T → Bool) (f : V → List T → V) (start :
     pub cut : before ≡ group ++ after
     pub first : (more : List T) → split p (before ++ more) ≡ group ∷ split p (after ++ more)
 
-  -- a call on the elements of the open group and those of the block: it gives their first piece, and no group is open then; or the block
-  -- is at its end, and all are open
-  abbrev pub Gives : List T → Option (T × V) → List T → Option (T × V) → Type 0
-  Gives before None after kept = (after ≡ []) × IsOpen before kept
-  Gives before (Some given) after kept = GivesFirst before after given × (kept ≡ None)
+  -- the groups are given so, in their order
+  abbrev pub AreGivenAs : List (List T) → List (T × V) → Type 0
+  AreGivenAs [] [] = ⊤
+  AreGivenAs (group ∷ groups) (g ∷ given) = IsGivenAs group g × AreGivenAs groups given
+  AreGivenAs groups given = ⊥
+
+  -- the first pieces of the elements before are given, call after call, and those after are left, whatever more comes
+  pub record GivesAll (before after : List T) (given : List (T × V)) : Type 0 where
+    pub groups : List (List T)
+    pub are_given : AreGivenAs groups given
+    pub first : (more : List T) → split p (before ++ more) ≡ groups ++ split p (after ++ more)
 
   -- a part at the front of the block goes to the open group, which then is refused towards what is left
   pub record TakesPart (group block after : List T) (kept : Option (T × V)) : Type 0 where
@@ -58,6 +64,11 @@ due (Some kept) block = length block
 abbrev pub AddsUp : {T V : Type 0} → (V → List T → V) → Type 0
 AddsUp {T} {V} f = (v : V) (xs ys : List T) → f v (xs ++ ys) ≡ f (f v xs) ys
 
+-- the sum, where it is below the limit
+abbrev pub checked_add : ℕ → Option ℕ → ℕ → Option ℕ
+checked_add limit None k = None
+checked_add limit (Some n) k = cond (nat_lt (n + k) limit) (Some (n + k)) None
+
 -- each call of the fold, from now on, gives what f does
 abbrev pub Folds : {T V F : Type 0} → Mut F (V × (Bor (List T) × Unit {0})) V → (V → List T → V) → F → Type 0
 Folds h f fold = AlwaysReturns h (λ a r. r ≡ f a.0 a.1.0.now) fold
@@ -73,3 +84,16 @@ module _ {T V J F : Type 0} (g : Ghosts J T) (h : Mut F (V × (Bor (List T) × U
     pub judge : Computes g.may_ask g.answers (λ q. ⊤) (on_pairs p) s.judge
     pub fold : Folds h f s.fold
     pub adds_up : AddsUp f
+
+  module _ (p : T → T → Bool) (f : V → List T → V) (start : V) where
+    -- the judge answers p, the fold adds to `start` as f does, and these are the elements of the open group
+    pub record HasOpen (s : StreamGroups T V J F) (group : List T) : Type 0 where
+      pub settled : IsSettled p f s
+      pub begins : s.start ≡ start
+      pub is_open : IsOpen p f start group s.kept
+
+    -- a call on the elements of the open group and those of the block: it gives their first piece, and then none is open; or the block is
+    -- at its end, and all are open
+    abbrev pub Gives : List T → Option (T × V) → List T → StreamGroups T V J F → Type 0
+    Gives before None after s = (after ≡ []) × HasOpen s before
+    Gives before (Some given) after s = GivesFirst p f start before after given × HasOpen s []

@@ -1,9 +1,9 @@
 //! Groups of a stream by equality, by a predicate and by a key.
-ghost use Rattle.std.specs.Prelude.{◌≡◌, Bool, List, None};
+ghost use Rattle.std.specs.Prelude.{Bool, List, []};
 ghost use Rattle.std.specs.Fn.{ComputesKey, ComputesOnPairs};
 ghost use Rattle.sgb_numbers.specs.Numbers.{by_number};
 ghost use Rattle.sgb_search.specs.Judges.{by_equality, by_key, by_predicate};
-ghost use Rattle.sgb_stream_group.specs.Streams.{AddsUp, Folds, IsSettled, MayGoOn};
+ghost use Rattle.sgb_stream_group.specs.Streams.{AddsUp, Folds, HasOpen, MayGoOn};
 
 use crate::stream_group::{
     StreamGroup, StreamGroupBy, StreamGroupByKey, StreamGroups, StreamNumberGroup,
@@ -17,11 +17,9 @@ impl<T: PartialEq, V, F: FnMut(V, &[T]) -> V> StreamGroup<T, V, F> {
     #[inline]
     pub fn new(start: V, fold: F) -> Self
         requires { F.IsAlwaysCallable fold }
-        ensures start { result.start ≡ start }
-        ensures kept { result.kept ≡ None }
         ensures may_go_on { MayGoOn (by_equality T.eq) F.FnMut result }
-        ensures settled { (f : V → List T → V) → Folds F.FnMut f fold → AddsUp f
-            → IsSettled (by_equality T.eq) F.FnMut T.eq f result }
+        ensures begins { (f : V → List T → V) → Folds F.FnMut f fold → AddsUp f
+            → HasOpen (by_equality T.eq) F.FnMut T.eq f start result [] }
     {
         StreamGroups {
             judge: EqualityJudge::new(),
@@ -37,11 +35,9 @@ impl<T: Lanes, V, F: FnMut(V, &[T]) -> V> StreamNumberGroup<T, V, F> {
     #[inline]
     pub fn new(start: V, fold: F) -> Self
         requires { F.IsAlwaysCallable fold }
-        ensures start { result.start ≡ start }
-        ensures kept { result.kept ≡ None }
         ensures may_go_on { MayGoOn (by_number T.eq) F.FnMut result }
-        ensures settled { (f : V → List T → V) → Folds F.FnMut f fold → AddsUp f
-            → IsSettled (by_number T.eq) F.FnMut T.eq f result }
+        ensures begins { (f : V → List T → V) → Folds F.FnMut f fold → AddsUp f
+            → HasOpen (by_number T.eq) F.FnMut T.eq f start result [] }
     {
         StreamGroups {
             judge: NumberJudge {},
@@ -58,11 +54,9 @@ impl<T, V, F: FnMut(V, &[T]) -> V, P: FnMut(&T, &T) -> bool> StreamGroupBy<T, V,
     pub fn new(start: V, fold: F, predicate: P) -> Self
         requires fold { F.IsAlwaysCallable fold }
         requires predicate { P.IsAlwaysCallable predicate }
-        ensures start { result.start ≡ start }
-        ensures kept { result.kept ≡ None }
         ensures may_go_on { MayGoOn (by_predicate P.FnMut) F.FnMut result }
-        ensures settled { (p : T → T → Bool) (f : V → List T → V) → ComputesOnPairs P.FnMut p predicate
-            → Folds F.FnMut f fold → AddsUp f → IsSettled (by_predicate P.FnMut) F.FnMut p f result }
+        ensures begins { (p : T → T → Bool) (f : V → List T → V) → ComputesOnPairs P.FnMut p predicate
+            → Folds F.FnMut f fold → AddsUp f → HasOpen (by_predicate P.FnMut) F.FnMut p f start result [] }
     {
         StreamGroups {
             judge: PredicateJudge { predicate },
@@ -83,11 +77,9 @@ where
     pub fn new(start: V, fold: F, key: G) -> Self
         requires fold { F.IsAlwaysCallable fold }
         requires key { G.IsAlwaysCallable key }
-        ensures start { result.start ≡ start }
-        ensures kept { result.kept ≡ None }
         ensures may_go_on { MayGoOn (by_key G.FnMut K.eq) F.FnMut result }
-        ensures settled { (k : T → K) (f : V → List T → V) → ComputesKey G.FnMut k key → Folds F.FnMut f fold → AddsUp f
-            → IsSettled (by_key G.FnMut K.eq) F.FnMut (λ x y. K.eq (k x) (k y)) f result }
+        ensures begins { (k : T → K) (f : V → List T → V) → ComputesKey G.FnMut k key → Folds F.FnMut f fold → AddsUp f
+            → HasOpen (by_key G.FnMut K.eq) F.FnMut (λ x y. K.eq (k x) (k y)) f start result [] }
     {
         StreamGroups {
             judge: KeyJudge::new(key),

@@ -1,7 +1,7 @@
 //! Groups that go on over the blocks of a stream.
 ghost use Rattle.std.specs.Prelude.{◌≡◌, ◌≢◌, ℕ, ◌+◌, ◌-◌, ◌<◌, Bool, not, false, List, [], ◌++◌, length, IsSome, MatchOption, None};
 ghost use Rattle.sgb_search.specs.Judges.{IsRunOf};
-ghost use Rattle.sgb_stream_group.specs.Streams.{Gives, GivesLast, GoesOn, IsOpen, IsSettled, MayGoOn, TakesPart, due};
+ghost use Rattle.sgb_stream_group.specs.Streams.{Gives, GivesLast, GoesOn, HasOpen, IsOpen, IsSettled, MayGoOn, TakesPart, due};
 
 use sgb_numbers::number_judge::NumberJudge;
 use sgb_search::judge::{EqualityJudge, Judge, KeyJudge, PredicateJudge};
@@ -47,12 +47,9 @@ impl<T: Copy, V: Copy, J: Judge<T>, F: FnMut(V, &[T]) -> V> StreamGroups<T, V, J
     pub fn next(&mut self, rest: &mut &[T]) -> Option<(T, V)>
         requires { MayGoOn J.Judge F.FnMut self.old }
         ensures may_go_on { MayGoOn J.Judge F.FnMut self.new }
-        ensures settled { (p : T → T → Bool) (f : V → List T → V) → IsSettled J.Judge F.FnMut p f self.old
-            → IsSettled J.Judge F.FnMut p f self.new }
-        ensures start { self.new.start ≡ self.old.start }
-        ensures gives { (p : T → T → Bool) (f : V → List T → V) → IsSettled J.Judge F.FnMut p f self.old
-            → (group : List T) → IsOpen p f self.old.start group self.old.kept
-            → Gives p f self.old.start (group ++ rest.old.now) result rest.new.now self.new.kept }
+        ensures gives { (p : T → T → Bool) (f : V → List T → V) (start : V) (group : List T)
+            → HasOpen J.Judge F.FnMut p f start self.old group
+            → Gives J.Judge F.FnMut p f start (group ++ rest.old.now) result rest.new.now self.new }
         ensures asks { (n : ℕ) × IsRunOf J.may_ask J.answers n self.old.judge self.new.judge
             × (n + due self.new.kept rest.new.now ≡ due self.old.kept rest.old.now) }
         ensures fewer { IsSome result → due self.new.kept rest.new.now < due self.old.kept rest.old.now }
@@ -118,12 +115,11 @@ impl<T: Copy, V: Copy, J: Judge<T>, F: FnMut(V, &[T]) -> V> StreamGroups<T, V, J
 
     /// The last group of the stream, where it has one. The next block then begins a stream of its own.
     pub fn finish(&mut self) -> Option<(T, V)>
-        ensures gives { (p : T → T → Bool) (f : V → List T → V) (group : List T) → IsOpen p f self.old.start group self.old.kept
-            → GivesLast p f self.old.start group result }
-        ensures kept { self.new.kept ≡ None }
+        ensures may_go_on { MayGoOn J.Judge F.FnMut self.old → MayGoOn J.Judge F.FnMut self.new }
+        ensures gives { (p : T → T → Bool) (f : V → List T → V) (start : V) (group : List T)
+            → HasOpen J.Judge F.FnMut p f start self.old group
+            → GivesLast p f start group result × HasOpen J.Judge F.FnMut p f start self.new [] }
         ensures judge { self.new.judge ≡ self.old.judge }
-        ensures fold { self.new.fold ≡ self.old.fold }
-        ensures start { self.new.start ≡ self.old.start }
     {
         self.kept.take()
     }

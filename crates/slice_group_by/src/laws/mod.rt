@@ -32,6 +32,7 @@ pub mod queue;
 pub mod queues;
 pub mod ranks;
 pub mod sorted;
+pub mod streams;
 
 pub use crate::join::{
     joins_may_go_on, merges_agree, pairs_ascend, pairs_count, pairs_match, partners_are_unique,
@@ -65,6 +66,7 @@ pub use sgb_search::laws::{
     splits_join,
 };
 pub use sorted::{is_sorted_for_groups, sorted_by_key_ascends, sorts_ascend};
+pub use streams::{folds_add_up, streams_give};
 
 /// One call on a queue that is settled for a test: it gives the outermost piece of the split of what remained, or `None`
 /// where there is no piece; the other pieces are the split of what remains; and the queue is settled again.

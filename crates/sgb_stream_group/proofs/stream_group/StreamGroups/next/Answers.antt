@@ -1,33 +1,35 @@
-use Rattle.sgb_stream_group.proofs.Calls.{is_first, ended_before, still_open, ended_in, asked_in_both, taken, is_nil, is_some, due_open}
+use Rattle.std.proofs.Common.{refl, ◌∙◌}
+use Rattle.sgb_stream_group.proofs.Calls.{is_first, ended_before, still_open, ended_in, asked_in_both, taken, is_nil, is_some, due_open, gives}
 use Rattle.sgb_stream_group.proofs.stream_group.StreamGroups.next.Goals as goal
 
-pub returns-then-ends_before-clause-settled : goal.returns-then-ends_before-clause-settled
-returns-then-ends_before-clause-settled g c p f m =
-    let s = c.ends_before.ensures.settled p f m in record { judge = s.judge; fold = s.fold; adds_up = s.adds_up }
-
 pub returns-then-ends_before-clause-gives : goal.returns-then-ends_before-clause-gives
-returns-then-ends_before-clause-gives g c p f m group o =
-    let block = c.args.rest.now.now in
-    let is = is_first block c.in_ok-first.first.now c.in_ok-first.ensures.item.3.0 c.in_ok-first.ensures.item.1 in
-    rw (c.take.ensures.value, c.take.ensures.after, c.ends_before.ensures.kept)
-    (ended_before p f c.args.self.now.start group block c.args.self.now.kept c.in_ok-first.first.now is
-    (rw c.if-ends_before.true at c.ends_before.ensures.says p f m) o)
-
-pub returns-then-is_empty-clause-settled : goal.returns-then-is_empty-clause-settled
-returns-then-is_empty-clause-settled g c p f m = c.take_part.ensures.settled p f (c.ends_before.ensures.settled p f m)
-
-pub returns-then-is_empty-clause-gives : goal.returns-then-is_empty-clause-gives
-returns-then-is_empty-clause-gives g c p f m group o =
+returns-then-ends_before-clause-gives g c p f start group o =
     let block = c.args.rest.now.now in
     let x = c.in_ok-first.first.now in
     let is = is_first block x c.in_ok-first.ensures.item.3.0 c.in_ok-first.ensures.item.1 in
+    gives g.J.Judge g.F.FnMut p f start group block block _ c.args.self.now.kept c.ends_before.new.self _
+    (ended_before p f start group block c.args.self.now.kept x is (rw c.if-ends_before.true at c.ends_before.ensures.says p f o.settled) o.is_open)
+    (c.ends_before.ensures.settled p f o.settled) (c.ends_before.ensures.start ∙ o.begins)
+    (c.take.ensures.value ∙ c.ends_before.ensures.kept) refl refl refl c.take.ensures.after
+
+pub returns-then-is_empty-clause-gives : goal.returns-then-is_empty-clause-gives
+returns-then-is_empty-clause-gives g c p f start group o =
+    let block = c.args.rest.now.now in
+    let x = c.in_ok-first.first.now in
+    let is = is_first block x c.in_ok-first.ensures.item.3.0 c.in_ok-first.ensures.item.1 in
+    let settled = c.ends_before.ensures.settled p f o.settled in
     let step =
-    taken p f c.args.self.now.start group block c.ends_before.new.self.start c.args.self.now.kept c.ends_before.new.self.kept x
-    c.take_part.new.rest.now c.take_part.new.self.kept c.ends_before.ensures.start c.ends_before.ensures.kept is
-    (rw c.if-ends_before.false at c.ends_before.ensures.says p f m) o
-    (c.take_part.ensures.takes p f (c.ends_before.ensures.settled p f m) group) in
-    let none = is_nil c.take_part.new.rest.now c.if-is_empty.ensures in
-    (none, still_open p f c.args.self.now.start group block c.take_part.new.rest.now c.take_part.new.self.kept none step)
+    taken p f start group block c.ends_before.new.self.start c.args.self.now.kept c.ends_before.new.self.kept x
+    c.take_part.new.rest.now c.take_part.new.self.kept (c.ends_before.ensures.start ∙ o.begins) c.ends_before.ensures.kept is
+    (rw c.if-ends_before.false at c.ends_before.ensures.says p f o.settled) o.is_open (c.take_part.ensures.takes p f settled group) in
+    let none = is_nil c.take_part.new.rest.now c.if-is_empty.ensures in (
+      none,
+      record {
+        settled = c.take_part.ensures.settled p f settled;
+        begins = c.take_part.ensures.start ∙ (c.ends_before.ensures.start ∙ o.begins);
+        is_open = still_open p f start group block c.take_part.new.rest.now c.take_part.new.self.kept none step;
+      },
+    )
 
 pub returns-then-is_empty-clause-asks : goal.returns-then-is_empty-clause-asks
 returns-then-is_empty-clause-asks g c =
@@ -37,24 +39,21 @@ returns-then-is_empty-clause-asks g c =
     c.in_ok-first.ensures.item.3.0 c.ends_before.ensures.asks c.take_part.ensures.asks in
     (both.0, both.1, due_open c.take_part.new.self.kept c.take_part.new.rest.now both.0 _ c.take_part.ensures.some (is_nil _ c.if-is_empty.ensures) both.2)
 
-pub returns-else-is_empty-clause-settled : goal.returns-else-is_empty-clause-settled
-returns-else-is_empty-clause-settled g c p f m =
-    let s = c.take_part.ensures.settled p f (c.ends_before.ensures.settled p f m) in
-    record { judge = s.judge; fold = s.fold; adds_up = s.adds_up }
-
 pub returns-else-is_empty-clause-gives : goal.returns-else-is_empty-clause-gives
-returns-else-is_empty-clause-gives g c p f m group o =
+returns-else-is_empty-clause-gives g c p f start group o =
     let block = c.args.rest.now.now in
     let x = c.in_ok-first.first.now in
     let is = is_first block x c.in_ok-first.ensures.item.3.0 c.in_ok-first.ensures.item.1 in
+    let settled = c.ends_before.ensures.settled p f o.settled in
     let step =
-    taken p f c.args.self.now.start group block c.ends_before.new.self.start c.args.self.now.kept c.ends_before.new.self.kept x
-    c.take_part.new.rest.now c.take_part.new.self.kept c.ends_before.ensures.start c.ends_before.ensures.kept is
-    (rw c.if-ends_before.false at c.ends_before.ensures.says p f m) o
-    (c.take_part.ensures.takes p f (c.ends_before.ensures.settled p f m) group) in
-    rw (c.take-else-is_empty.ensures.value, c.take-else-is_empty.ensures.after)
-    (ended_in p f c.args.self.now.start group block c.take_part.new.rest.now c.take_part.new.self.kept
+    taken p f start group block c.ends_before.new.self.start c.args.self.now.kept c.ends_before.new.self.kept x
+    c.take_part.new.rest.now c.take_part.new.self.kept (c.ends_before.ensures.start ∙ o.begins) c.ends_before.ensures.kept is
+    (rw c.if-ends_before.false at c.ends_before.ensures.says p f o.settled) o.is_open (c.take_part.ensures.takes p f settled group) in
+    gives g.J.Judge g.F.FnMut p f start group block c.take_part.new.rest.now _ c.take_part.new.self.kept c.take_part.new.self _
+    (ended_in p f start group block c.take_part.new.rest.now c.take_part.new.self.kept
     (is_some c.take_part.new.rest.now c.if-is_empty.ensures) c.take_part.ensures.some step)
+    (c.take_part.ensures.settled p f settled) (c.take_part.ensures.start ∙ (c.ends_before.ensures.start ∙ o.begins))
+    c.take-else-is_empty.ensures.value refl refl refl c.take-else-is_empty.ensures.after
 
 pub returns-else-is_empty-clause-asks : goal.returns-else-is_empty-clause-asks
 returns-else-is_empty-clause-asks g c =
