@@ -12,6 +12,7 @@ mod offsets;
 mod rest;
 mod returned;
 mod searches;
+mod streams;
 
 use std::io;
 
@@ -24,6 +25,7 @@ fn main(rt: HostRuntime) -> io::Result<()> {
     searches::print_all(&rt)?;
     closures::print_all(&rt)?;
     rest::print_all(&rt)?;
+    streams::print_all(&rt)?;
     bytes::print_all(&rt)?;
     first_page::print_all(&rt)
 }

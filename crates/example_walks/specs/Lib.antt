@@ -1,1 +1,2 @@
 pub mod LongGroups
+pub mod Runs

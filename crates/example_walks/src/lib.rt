@@ -9,5 +9,6 @@ pub mod families;
 pub mod folds;
 pub mod loops;
 pub mod offsets;
+pub mod streams;
 pub mod texts;
 pub mod writers;

@@ -17,6 +17,8 @@ pub fn of_lists<T, U>() {
     range_parts::<T>();
     equal_pieces_are_copies::<T>();
     pieces_add_up::<T>();
+    folds_add_up::<T>();
+    streams_give::<T, T>();
     pairs_count::<T, U>();
     merge_is_unique::<T, U>();
     semi_joins_are_filters::<T, U>();

@@ -6,4 +6,5 @@ pub mod groups;
 pub mod iterators;
 pub mod laws;
 pub mod searches;
+pub mod streams;
 pub mod tokens;

@@ -16,6 +16,8 @@ mod reading;
 #[cfg(test)]
 mod searches;
 #[cfg(test)]
+mod streams;
+#[cfg(test)]
 mod surface;
 #[cfg(test)]
 mod texts;
