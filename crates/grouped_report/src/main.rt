@@ -14,13 +14,17 @@ mod run;
 mod sums;
 
 use program_parts::arguments::arguments;
+use program_parts::input::open_input;
 use std::io;
 use std::io::{BufReader, BufWriter};
 use std::process::ExitCode;
 
 fn main(rt: HostRuntime) -> io::Result<ExitCode> {
-    let words = arguments(&rt)?;
-    let input = BufReader::new(rt.alloc(), rt.reader())?;
+    let mut words = arguments(&rt)?;
+    let Some(input) = open_input(&rt, "grouped_report", &mut words, &[]) else {
+        return Ok(ExitCode::from(1));
+    };
+    let input = BufReader::new(rt.alloc(), input)?;
     let mut out = BufWriter::new(rt.alloc(), io::writer(&rt))?;
     let status = program::run(rt.alloc(), &words, input, &mut out, &mut rt.stderr());
     Ok(ExitCode::from(status))

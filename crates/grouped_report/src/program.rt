@@ -14,14 +14,14 @@ use std::io::{BufRead, Write};
 
 /// What `--help` writes.
 pub const USAGE: &str = "\
-usage: grouped_report [--help]
+usage: grouped_report [--help] [FILE]
 
-Reads rows `department,amount` from standard input, in any order, and writes a line for each
-department, in ascending order, with the sum of its amounts, and the total at the end. A
-department is a number of 32 bits and an amount one of 64 bits; a plus sign may stand before
-either.
+Reads rows `department,amount` from FILE, or from standard input, in any order, and writes a
+line for each department, in ascending order, with the sum of its amounts, and the total at the
+end. A department is an unsigned number of 32 bits and an amount one of 64 bits; a plus sign may
+stand before either. A `\\r` before a line feed is dropped.
 
-A line that is no row is left out, and standard error says why. The status is then 1, and so
+A line that is no row, as one that is not UTF-8, is left out, and standard error says why. The status is then 1, and so
 it is where reading or writing fails. It is 2 where an argument is not known.
 ";
 

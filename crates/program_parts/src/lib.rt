@@ -4,6 +4,7 @@
 
 pub mod arguments;
 pub mod blocks;
+pub mod input;
 pub mod lines;
 pub mod pairs;
 pub mod status;

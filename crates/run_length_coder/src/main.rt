@@ -11,13 +11,17 @@ mod program;
 mod runs;
 
 use program_parts::arguments::arguments;
+use program_parts::input::open_input;
 use std::io;
 use std::io::{BufReader, BufWriter};
 use std::process::ExitCode;
 
 fn main(rt: HostRuntime) -> io::Result<ExitCode> {
-    let words = arguments(&rt)?;
-    let mut input = BufReader::with_capacity(rt.alloc(), 65536, rt.stdin())?;
+    let mut words = arguments(&rt)?;
+    let Some(input) = open_input(&rt, "run_length_coder", &mut words, &["decode"]) else {
+        return Ok(ExitCode::from(1));
+    };
+    let mut input = BufReader::with_capacity(rt.alloc(), 65536, input)?;
     let mut out = BufWriter::new(rt.alloc(), rt.stdout())?;
     let status = program::run(rt.alloc(), &words, &mut input, &mut out, &mut rt.stderr());
     Ok(ExitCode::from(status))

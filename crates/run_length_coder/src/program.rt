@@ -17,9 +17,10 @@ use std::io;
 use std::io::{BufRead, Write};
 
 /// What `--help` writes.
-pub const USAGE: &str = "usage: run_length_coder [decode | --help] < INPUT
-Writes each run of equal bytes of standard input as a line `COUNT BYTE`, two decimal numbers.
-With `decode` it reads such lines and writes the bytes again. A line that says no run is named, and left out.
+pub const USAGE: &str = "usage: run_length_coder [decode | --help] [FILE]
+Writes each run of equal bytes of FILE, or of standard input, as a line `COUNT BYTE`, two decimal numbers.
+With `decode` it reads such lines, with or without a `\\r` at their ends, and writes the bytes again. A line that says no run is
+named, and left out.
 ";
 
 /// Does what the arguments ask for, and gives back the status: 0, or 1 where it failed or a line is no run, or 2

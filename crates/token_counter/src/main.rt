@@ -13,15 +13,19 @@ mod report;
 mod tally;
 
 use program_parts::arguments::arguments;
+use program_parts::input::open_input;
 use std::io;
 use std::process::ExitCode;
 
 fn main(rt: HostRuntime) -> io::Result<ExitCode> {
-    let words = arguments(&rt)?;
+    let mut words = arguments(&rt)?;
+    let Some(mut input) = open_input(&rt, "token_counter", &mut words, &[]) else {
+        return Ok(ExitCode::from(1));
+    };
     let status = program::run(
         rt.alloc(),
         &words,
-        &mut rt.stdin(),
+        &mut input,
         &mut rt.stdout(),
         &mut rt.stderr(),
     );

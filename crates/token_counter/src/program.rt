@@ -18,8 +18,9 @@ use std::io;
 use std::io::{Read, Write};
 
 /// What `--help` writes.
-pub const USAGE: &str = "usage: token_counter [--help] < INPUT
-Counts the tokens of standard input, the longest runs of letters, of digits, of white space, each of ASCII, and of all else.
+pub const USAGE: &str = "usage: token_counter [--help] [FILE]
+Counts the tokens of FILE, or of standard input: the longest runs of letters, of digits, of white space, each of ASCII, and of
+all else. A `\\r` is white space. A byte of 128 or more is all else, whether the input is UTF-8 or not.
 ";
 
 /// Does what the arguments ask for, and gives back the status: 0, or 1 where it failed, or 2 where the arguments are

@@ -1,4 +1,4 @@
-//! Counts equal neighbouring lines of standard input, as `uniq -c` does, and writes the counts with no columns: input of any size.
+//! Counts equal neighbouring lines of a file or of standard input, as `uniq -c` does, and writes the counts with no columns: input of any size.
 //! What is kept in memory is a block of lines, or one that is longer, a slice for each of them, and one line that may go on. Lines
 //! are bytes up to a line feed; the last needs none. `program.rt` has what it does.
 #![tactic(auto)]
@@ -9,13 +9,17 @@ mod program;
 mod repeated;
 
 use program_parts::arguments::arguments;
+use program_parts::input::open_input;
 use std::io;
 use std::io::{BufReader, BufWriter};
 use std::process::ExitCode;
 
 fn main(rt: HostRuntime) -> io::Result<ExitCode> {
-    let words = arguments(&rt)?;
-    let mut input = BufReader::with_capacity(rt.alloc(), 65536, rt.stdin())?;
+    let mut words = arguments(&rt)?;
+    let Some(input) = open_input(&rt, "uniq_count", &mut words, &[]) else {
+        return Ok(ExitCode::from(1));
+    };
+    let mut input = BufReader::with_capacity(rt.alloc(), 65536, input)?;
     let mut out = BufWriter::new(rt.alloc(), rt.stdout())?;
     let status = program::run(rt.alloc(), &words, &mut input, &mut out, &mut rt.stderr());
     Ok(ExitCode::from(status))

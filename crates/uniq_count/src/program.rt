@@ -14,8 +14,9 @@ use std::io;
 use std::io::{BufRead, Write};
 
 /// What `--help` writes.
-pub const USAGE: &str = "usage: uniq_count [--help] < INPUT
-Writes an entry `COUNT LINE` for each longest stretch of equal neighbouring lines of standard input.
+pub const USAGE: &str = "usage: uniq_count [--help] [FILE]
+Writes an entry `COUNT LINE` for each run of equal neighbouring lines of FILE, or of standard input.
+Lines are compared byte by byte: they need not be UTF-8, and a `\\r` belongs to its line.
 ";
 
 /// Does what the arguments ask for, and gives back the status: 0, or 1 where it failed, or 2 where the arguments are

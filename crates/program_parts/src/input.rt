@@ -1,0 +1,55 @@
+//! What a program reads: a file that is named, or standard input.
+
+use std::fs::File;
+use std::io;
+use std::io::{Read, Stdin, Write};
+
+/// A file, or standard input.
+#[derive(Drop)]
+pub enum Input {
+    Stdin(Stdin),
+    File(File),
+}
+
+impl Read for Input {
+    fn read(&mut self, buf: &mut [u8]) -> io::Result<usize> {
+        match self {
+            Input::Stdin(stdin) => stdin.read(buf),
+            Input::File(file) => file.read(buf),
+        }
+    }
+}
+
+/// The file that the last word names, which is taken off the words, or standard input: where that word is a dash, begins with
+/// `--`, is one of the modes, or there is none. `None` where the file cannot be opened, and a line of complaint says why.
+pub fn open_input(
+    rt: &HostRuntime,
+    program: &str,
+    words: &mut Vec<String>,
+    modes: &[&str],
+) -> Option<Input> {
+    let Some(name) = pop_file(words, modes) else {
+        return Some(Input::Stdin(rt.stdin()));
+    };
+    match File::open(rt, &name) {
+        Ok(file) => Some(Input::File(file)),
+        Err(error) => {
+            let _ = writeln!(rt.stderr(), "{program}: {name}: {error}");
+            None
+        }
+    }
+}
+
+// Takes the last word off where it names a file or is a dash, and gives it back where it names a file.
+fn pop_file(words: &mut Vec<String>, modes: &[&str]) -> Option<String> {
+    let last = words.last()?.as_str();
+    if last.starts_with("--") || modes.contains(&last) {
+        return None;
+    }
+    let name = words.pop()?;
+    if name.as_str() == "-" {
+        None
+    } else {
+        Some(name)
+    }
+}
