@@ -1,13 +1,11 @@
 -- How many tokens a text has, by where they begin.
-use Rattle.std.proofs.Common.{◌≡◌, ◌≢◌, ℕ, ◌+◌, ◌<◌, Bool, true, false, cond, List, [], ◌∷◌, ◌++◌, length, refl, ap, sym, ◌∙◌, arith, Option, None, Some, get_or}
-use Rattle.std.specs.Prelude.{count_by, option_map}
+use Rattle.std.proofs.Common.{◌≡◌, ℕ, ◌+◌, Bool, true, false, cond, List, [], ◌∷◌, ◌++◌, refl, ap, sym, ◌∙◌, arith, Option, None, Some}
+use Rattle.std.specs.Prelude.{count_by}
 use Rattle.std.proofs.lemmas.List.Sums.{sum_by-cons}
-use Rattle.slice_group_by.specs.Split.{put_before, last}
+use Rattle.slice_group_by.specs.Split.{put_before}
 use Rattle.token_counter.specs.declared.class.Class.{Class}
 use Rattle.token_counter.specs.declared.class.Class.TheVariants.{Letter, Digit, Space, Other}
-use Rattle.token_counter.specs.declared.tally.Tally.{Tally}
 use Rattle.token_counter.specs.Classes.{class_of, is_class, IsOfClass, class_of_token, tokens, token_count}
-use Rattle.token_counter.specs.Tallies.{IsTally, count_of}
 
 pub is_class_same : (c : Class) → is_class c c ≡ true
 is_class_same Letter = refl
@@ -55,14 +53,6 @@ starts-append k before (x ∷ xs) ys = omega (arith, starts-append k (Some (clas
 after-append : (before : Option Class) (xs ys : List ℕ) → after before (xs ++ ys) ≡ after (after before xs) ys
 after-append before [] ys = refl
 after-append before (x ∷ xs) ys = after-append (Some (class_of x)) xs ys
-
-after-last : (before : Option Class) (x : ℕ) (xs : List ℕ) → after before (x ∷ xs) ≡ option_map class_of (last (x ∷ xs))
-after-last before x [] = refl
-after-last before x (y ∷ ys) = after-last (Some (class_of x)) y ys
-
-last_class : (xs : List ℕ) → after None xs ≡ option_map class_of (last xs)
-last_class [] = refl
-last_class (x ∷ xs) = after-last None x xs
 
 -- in a stretch of one class a token begins at most at its first character
 starts_inside : (k c : Class) (xs : List ℕ) → IsOfClass c xs → starts k (Some c) xs ≡ 0
@@ -136,45 +126,3 @@ held-starts k (x ∷ y ∷ ys) =
 pub counts_starts : (k : Class) (xs : List ℕ) → token_count k xs ≡ starts k None xs
 unfolding held
 counts_starts k xs = held-starts k xs
-
--- ---- one more token
-
--- a token of the class that is open goes on with the open one
-pub IsTally-same : (text token : List ℕ) (tally : Tally) (c : Class) → 0 < length token → IsOfClass c token → tally.open_class ≡ Some c
-    → IsTally text tally → IsTally (text ++ token) tally
-IsTally-same text [] tally c some h opened t = absurd (omega arith)
-IsTally-same text (x ∷ xs) tally c some h opened t =
-    let before : after None text ≡ Some c = last_class text ∙ sym t.open_class ∙ opened in
-    record {
-      counts = λ k. t.counts k ∙ counts_starts k text ∙ sym (counts_starts k (text ++ x ∷ xs) ∙ starts-append k None text (x ∷ xs)
-          ∙ ap (λ n. starts k None text + n) (ap (λ o. starts k o (x ∷ xs)) before ∙ starts_inside k c (x ∷ xs) h) ∙ omega arith);
-      open_class = opened ∙ sym (sym (last_class (text ++ x ∷ xs)) ∙ after-append None text (x ∷ xs) ∙ after_of_class (after None text) c x xs h);
-    }
-
-begins_other : (k : Class) (before : Option Class) (c : Class) → before ≢ Some c → begins k before c ≡ cond (is_class c k) 1 0
-begins_other k None c other = refl
-begins_other k (Some p) c other = at_test (is_class p c) refl where
-  at_test : (b : Bool) → is_class p c ≡ b → begins k (Some p) c ≡ cond (is_class c k) 1 0
-  at_test true e = absurd (other (ap Some (same_class p c e)))
-  at_test false e = rw e refl
-
--- one of another class is counted
-pub IsTally-other : (text token : List ℕ) (old new : Tally) (c : Class) → 0 < length token → IsOfClass c token → old.open_class ≢ Some c
-    → ((k : Class) → count_of k new ≡ count_of k old + cond (is_class c k) 1 0) → new.open_class ≡ Some c
-    → IsTally text old → IsTally (text ++ token) new
-IsTally-other text [] old new c some h other counted opened t = absurd (omega arith)
-IsTally-other text (x ∷ xs) old new c some h other counted opened t =
-    let before : after None text ≡ old.open_class = last_class text ∙ sym t.open_class in
-    record {
-      counts = λ k.
-          let one : starts k (after None text) (x ∷ xs) ≡ cond (is_class c k) 1 0 =
-          starts_of_class k (after None text) c x xs h ∙ begins_other k (after None text) c (λ e. other (sym before ∙ e)) in
-          counted k ∙ ap (λ n. n + cond (is_class c k) 1 0) (t.counts k ∙ counts_starts k text)
-          ∙ ap (λ n. starts k None text + n) (sym one) ∙ sym (counts_starts k (text ++ x ∷ xs) ∙ starts-append k None text (x ∷ xs));
-      open_class = opened ∙ sym (sym (last_class (text ++ x ∷ xs)) ∙ after-append None text (x ∷ xs) ∙ after_of_class (after None text) c x xs h);
-    }
-
--- the class of a token is that of the byte at 0
-pub class_at_first : (token : List ℕ) → 0 < length token → class_of_token token ≡ class_of (get_or token 0 0)
-class_at_first [] some = absurd (omega arith)
-class_at_first (x ∷ xs) some = refl
