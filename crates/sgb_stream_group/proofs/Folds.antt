@@ -1,5 +1,5 @@
 -- Folds that add the sizes of parts.
-use Rattle.std.proofs.Common.{◌≡◌, ℕ, ◌+◌, ◌<◌, Bool, true, false, cond, min, nat_lt, List, ◌++◌, length, Option, None, Some, refl, ap, ◌∙◌, arith}
+use Rattle.std.proofs.Common.{◌≡◌, ℕ, ◌+◌, Bool, true, false, cond, min, nat_lt, List, ◌++◌, None, Some, refl, ap, arith}
 use Rattle.std.proofs.lemmas.Bool.Decides.{nat_tests}
 use Rattle.sgb_stream_group.specs.Streams.{AddsUp, checked_add}
 
@@ -16,6 +16,7 @@ module _ {T : Type 0} (size : List T → ℕ) (adds : (xs ys : List T) → size 
     where
       sum : n + size (xs ++ ys) ≡ n + size xs + size ys
       sum = omega (arith, adds xs ys)
+
       by : (b : Bool) → nat_lt (n + size xs) limit ≡ b
           → checked_add limit (Some n) (size (xs ++ ys)) ≡ checked_add limit (cond b (Some (n + size xs)) None) (size ys)
       by true e = ap (λ m. cond (nat_lt m limit) (Some m) None) sum

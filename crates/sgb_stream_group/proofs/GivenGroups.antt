@@ -1,5 +1,5 @@
 -- Groups that are given one after another.
-use Rattle.std.proofs.Common.{◌≡◌, Bool, List, [], ◌∷◌, ◌++◌, Option, None, Some, refl, sym, ap, ◌∙◌, append_assoc, append-nil}
+use Rattle.std.proofs.Common.{◌≡◌, Bool, List, [], ◌∷◌, ◌++◌, None, Some, refl, sym, ap, ◌∙◌, append_assoc, append-nil}
 use Rattle.sgb_search.specs.Split.{split}
 use Rattle.sgb_stream_group.specs.Streams.{IsGivenAs, AreGivenAs, GivesFirst, GivesAll, GivesLast}
 
@@ -36,14 +36,14 @@ module _ {T V : Type 0} (p : T → T → Bool) (f : V → List T → V) (start :
       → GivesLast p f start after (Some s) → AreGivenAs p f start (split p before) (given ++ s ∷ [])
   gives_end before after given s a l =
       let pieces : split p before ≡ a.groups ++ after ∷ [] =
-          ap (split p) (sym (append-nil before)) ∙ a.first [] ∙ ap (λ l. a.groups ++ split p l) (append-nil after)
-          ∙ ap (λ l. a.groups ++ l) l.0 in
+      ap (split p) (sym (append-nil before)) ∙ a.first [] ∙ ap (λ l. a.groups ++ split p l) (append-nil after)
+      ∙ ap (λ l. a.groups ++ l) l.0 in
       rw pieces (given_more a.groups given after s a.are_given l.1)
 
   pub gives_nothing_more : (before after : List T) (given : List (T × V)) → GivesAll p f start before after given
       → GivesLast p f start after None → AreGivenAs p f start (split p before) given
   gives_nothing_more before after given a l =
       let pieces : split p before ≡ a.groups =
-          ap (split p) (sym (append-nil before)) ∙ a.first [] ∙ ap (λ l. a.groups ++ split p l) (append-nil after)
-          ∙ ap (λ l. a.groups ++ split p l) l ∙ append-nil a.groups in
+      ap (split p) (sym (append-nil before)) ∙ a.first [] ∙ ap (λ l. a.groups ++ split p l) (append-nil after)
+      ∙ ap (λ l. a.groups ++ split p l) l ∙ append-nil a.groups in
       rw pieces a.are_given

@@ -58,11 +58,13 @@ impl<T: Copy, V: Copy, J: Judge<T>, F: FnMut(V, &[T]) -> V> StreamGroups<T, V, J
         if self.ends_before(first) {
             return self.kept.take();
         }
-        self.take_part(rest);
+        let group = self.take_part(rest);
         if rest.is_empty() {
+            self.kept = Some(group);
             None
         } else {
-            self.kept.take()
+            self.kept = None;
+            Some(group)
         }
     }
 
@@ -86,9 +88,10 @@ impl<T: Copy, V: Copy, J: Judge<T>, F: FnMut(V, &[T]) -> V> StreamGroups<T, V, J
         }
     }
 
-    // Takes the first group off what is left of the block, and adds it to the open one.
+    // Takes the first group off what is left of the block, and gives the open one with it. What is kept stays: a group that ends in
+    // its block is not written there first, to be read again.
     #[inline]
-    fn take_part(&mut self, rest: &mut &[T])
+    fn take_part(&mut self, rest: &mut &[T]) -> (T, V)
         requires may_go_on { MayGoOn J.Judge F.FnMut self.old }
         requires some { rest.old.now ≢ [] }
         ensures may_go_on { MayGoOn J.Judge F.FnMut self.new }
@@ -97,8 +100,8 @@ impl<T: Copy, V: Copy, J: Judge<T>, F: FnMut(V, &[T]) -> V> StreamGroups<T, V, J
         ensures start { self.new.start ≡ self.old.start }
         ensures takes { (p : T → T → Bool) (f : V → List T → V) → IsSettled J.Judge F.FnMut p f self.old
             → (group : List T) → IsOpen p f self.old.start group self.old.kept → GoesOn p self.old.kept rest.old.now
-            → TakesPart p f self.old.start group rest.old.now rest.new.now self.new.kept }
-        ensures some { IsSome self.new.kept }
+            → TakesPart p f self.old.start group rest.old.now rest.new.now (Some result) }
+        ensures kept { self.new.kept ≡ self.old.kept }
         ensures asks { (n : ℕ) × IsRunOf J.may_ask J.answers n self.old.judge self.new.judge
             × (n + (length rest.new.now - 1) ≡ length rest.old.now - 1) }
         ensures fewer { length rest.new.now < length rest.old.now }
@@ -110,7 +113,7 @@ impl<T: Copy, V: Copy, J: Judge<T>, F: FnMut(V, &[T]) -> V> StreamGroups<T, V, J
         let len = self.judge.first_len(rest, 0, rest.len());
         let (part, others) = rest.split_at(len);
         *rest = others;
-        self.kept = Some((part[len - 1], (self.fold)(value, part)));
+        (part[len - 1], (self.fold)(value, part))
     }
 
     /// The last group of the stream, where it has one. The next block then begins a stream of its own.
