@@ -23,6 +23,7 @@ fn main(rt: HostRuntime) -> io::Result<ExitCode> {
     };
     let mut input = BufReader::with_capacity(rt.alloc(), 65536, input)?;
     let mut out = BufWriter::new(rt.alloc(), rt.stdout())?;
-    let status = program::run(rt.alloc(), &words, &mut input, &mut out, &mut rt.stderr());
+    let mut complaints = BufWriter::new(rt.alloc(), rt.stderr())?;
+    let status = program::run(rt.alloc(), &words, &mut input, &mut out, &mut complaints);
     Ok(ExitCode::from(status))
 }

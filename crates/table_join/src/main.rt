@@ -21,6 +21,7 @@ fn main(rt: HostRuntime) -> io::Result<ExitCode> {
     let words = arguments(&rt)?;
     let input = BufReader::new(rt.alloc(), rt.reader())?;
     let mut out = BufWriter::new(rt.alloc(), io::writer(&rt))?;
-    let status = program::run(rt.alloc(), &words, input, &mut out, &mut rt.stderr());
+    let mut complaints = BufWriter::new(rt.alloc(), rt.stderr())?;
+    let status = program::run(rt.alloc(), &words, input, &mut out, &mut complaints);
     Ok(ExitCode::from(status))
 }

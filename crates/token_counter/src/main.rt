@@ -15,6 +15,7 @@ mod tally;
 use program_parts::arguments::arguments;
 use program_parts::input::open_input;
 use std::io;
+use std::io::BufWriter;
 use std::process::ExitCode;
 
 fn main(rt: HostRuntime) -> io::Result<ExitCode> {
@@ -22,12 +23,13 @@ fn main(rt: HostRuntime) -> io::Result<ExitCode> {
     let Some(mut input) = open_input(&rt, "token_counter", &mut words, &[]) else {
         return Ok(ExitCode::from(1));
     };
+    let mut complaints = BufWriter::new(rt.alloc(), rt.stderr())?;
     let status = program::run(
         rt.alloc(),
         &words,
         &mut input,
         &mut rt.stdout(),
-        &mut rt.stderr(),
+        &mut complaints,
     );
     Ok(ExitCode::from(status))
 }

@@ -1,5 +1,5 @@
-use Rattle.std.proofs.Common.{rules, ◌≡◌, ℕ, ◌+◌, ◌<◌, List, Bor, length, get_or, ◌-◌, ◌^◌, [], ◌∷◌, ◌++◌, flat_map, take, nat_eq, sym, ap, ◌∙◌, append-nil, arith, Some, None}
-use Rattle.std.proofs.lemmas.Grind.{flat_map-append, common_steps}
+use Rattle.std.proofs.Common.{rules, ◌≡◌, ℕ, ◌+◌, ◌<◌, List, Bor, length, get_or, ◌-◌, ◌^◌, [], ◌∷◌, ◌++◌, flat_map, take, nat_eq, sym, ap, ◌∙◌, append-nil}
+use Rattle.std.proofs.lemmas.Grind.{flat_map-append}
 use Rattle.std.proofs.lemmas.List.{take_more, take_all}
 use Rattle.example_walks.specs.Runs.{longer}
 use Rattle.example_walks.proofs.streams.runs_folded.Goals as goal
@@ -24,9 +24,12 @@ loop-block-init g c = (
 pub loop-block-preserved : goal.loop-block-preserved
 loop-block-preserved g c =
     let (may, left, o, given) = c.loop-block.invariant in
-    let step = c.in_ok-push_ended.ensures.gives _ left o given in
-    (c.push_ended.ensures.may_go_on, step.0, step.1,
-    rw (blocks_more c.args.blocks.now c.loop-block.block-index _ (search rules)) at step.2)
+    let step = c.in_ok-push_ended.ensures.gives _ left o given in (
+      c.push_ended.ensures.may_go_on,
+      step.0,
+      step.1,
+      rw (blocks_more c.args.blocks.now c.loop-block.block-index _ (search rules)) at step.2,
+    )
 
 pub returns : goal.returns
 returns g c =
@@ -34,7 +37,7 @@ returns g c =
     let last = (c.finish.ensures.gives nat_eq longer 0 left o).0 in
     let all : take c.loop-block.block-index c.args.blocks.now ≡ c.args.blocks.now = take_all _ _ (search rules) in
     elim c.match-finish.branch [
-      in-Some+in_ok-push w ↦
+      | in-Some+in_ok-push w ↦
           let items : c.match-finish.runs.items ≡ c.loop-block.runs.items ++ w.in-Some.run' ∷ [] = search (rules, w.runs-is, w.push.ensures.items, w.in_ok-push.was) in
           rw items (rw all at (c.streams_give.ensures.last nat_eq longer 0 _ left _ w.in-Some.run' given (rw w.in-Some.is at last)))
       | in_default w ↦
