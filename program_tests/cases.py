@@ -1,9 +1,8 @@
-"""What the programs write and say, written out by hand: the program, its arguments, its input, its status, what it writes, and what it
+"""What the programs write and say, written out by hand: the program, its arguments, its input (two of them where it reads two files), its status, what it writes, and what it
 says on standard error."""
 
 LEFT_OUT = b"line %d is left out: %s\n"
 NO_JOIN_DIVIDER = b"there is no line `--`: it has to stand between the left rows and the right ones\n"
-NO_INDEX_DIVIDER = b"there is no line `--`: it has to stand between the entries and the queries\n"
 NO_COMMA = b"it has no comma"
 NO_TEXT = b"it is not UTF-8"
 
@@ -70,17 +69,16 @@ CASES = [
     ("table_join", [], b"a,1\n", 1, b"", NO_JOIN_DIVIDER),
     ("table_join", [], b"", 1, b"", NO_JOIN_DIVIDER),
     ("table_join", [], b"--\n--\n", 1, b"", said((2, NO_COMMA))),
-    ("index_reader", [], b"3,30\n5,51\r\n5,50\n--\r\n5\n4\n+3", 0, b"5: 51 50\n4: none\n3: 30\n3 queries\n", b""),
-    ("index_reader", [], b"--\n", 0, b"0 queries\n", b""),
+    ("index_reader", [], (b"3,30\n5,51\r\n5,50\n", b"5\n4\n+3"), 0, b"5: 51 50\n4: none\n3: 30\n3 queries\n", b""),
+    ("index_reader", [], (b"", b""), 0, b"0 queries\n", b""),
+    ("index_reader", [], (b"1,2\n", b"1\n"), 0, b"1: 2\n1 query\n", b""),
     (
-        "index_reader", [], b"5,1\nno\n\xff,2\n-5,3\n6,x\n4,4\n--\n--\n\xff\n", 1, b"0 queries\n",
+        "index_reader", [], (b"5,1\nno\n\xff,2\n-5,3\n6,x\n4,4\n--\n", b"--\n\xff\n"), 1, b"0 queries\n",
         said(
             (2, NO_COMMA), (3, NO_TEXT), (4, b"its key is no number of 32 bits"), (5, b"its place is no number of 64 bits"),
-            (6, (LOWER % (4, 5)).encode()), (8, b"it is no number of 32 bits"), (9, NO_TEXT),
+            (6, (LOWER % (4, 5)).encode()), (7, NO_COMMA), (1, b"the query is no number of 32 bits"), (2, b"the query is not UTF-8"),
         ),
     ),
-    ("index_reader", [], b"5,1\n5\n", 1, b"", said((2, NO_COMMA)) + NO_INDEX_DIVIDER),
-    ("index_reader", [], b"", 1, b"", NO_INDEX_DIVIDER),
     # lines are read without their end, of which the last has none
     ("table_join", ["anti"], b"a,\r\r\nb,\xc3\xa9\n--", 0, b"a,\r\nb,\xc3\xa9\n", b""),
 ]

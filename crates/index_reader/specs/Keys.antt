@@ -6,9 +6,8 @@ use Rattle.std.specs.List.Sorted.{IsNonDecreasingBy}
 use Rattle.std.specs.Str.{IsUtf8}
 use Rattle.program_parts.specs.Pairs as pairs
 use Rattle.program_parts.specs.Pairs.{Says, IsNoNumber}
-use Rattle.program_parts.specs.declared.pairs.PairError.TheVariants.{NoText}
 use Rattle.index_reader.specs.declared.entry.Problem.{Problem}
-use Rattle.index_reader.specs.declared.entry.Problem.TheVariants.{NoEntry, Lower, NoQuery}
+use Rattle.index_reader.specs.declared.entry.Problem.TheVariants.{NoEntry, Lower, NoQuery, QueryNoText}
 use Rattle.index_reader.specs.declared.entry.Entry.{Entry}
 
 -- the keys ascend, where one may stand several times
@@ -36,9 +35,10 @@ abbrev pub IsWrong : List Entry → List ℕ → Problem → Type 0
 IsWrong index line (NoEntry error) = pairs.IsWrong line error
 IsWrong index line (Lower key most) = (place : ℕ) × Says line key place × (key < most) × (greatest index ≡ Some most)
 IsWrong index line NoQuery = ⊥
+IsWrong index line QueryNoText = ⊥
 
 -- and this is wrong with it as a query: it is no text, or no number
 abbrev pub IsWrongQuery : List ℕ → Problem → Type 0
-IsWrongQuery line (NoEntry NoText) = IsUtf8 line → ⊥
+IsWrongQuery line QueryNoText = IsUtf8 line → ⊥
 IsWrongQuery line NoQuery = IsUtf8 line × IsNoNumber 32 line
 IsWrongQuery line _ = ⊥

@@ -1,8 +1,7 @@
 -- What a run reads and writes.
-use Rattle.std.specs.Prelude.{◌≡◌, ℕ, ◌+◌, ◌-◌, ◌^◌, List, [], ◌∷◌, ◌++◌, Bool, Option, codes, decimal, flat_map, length, min}
+use Rattle.std.specs.Prelude.{◌≡◌, ℕ, ◌-◌, ◌^◌, List, [], ◌∷◌, ◌++◌, Bool, ◌&&◌, cond, nat_eq, Option, codes, decimal, flat_map, length, min}
 use Rattle.std.specs.Io.KnownBytes.{Appends}
 use Rattle.program_parts.specs.Complaints.{LeftOut, none_left_out, Complains}
-use Rattle.program_parts.specs.Divided.{divider, Undivided}
 use Rattle.program_parts.specs.Lines.{AreLines}
 use Rattle.program_parts.specs.Kept.{AreKept}
 use Rattle.program_parts.specs.Pairs.{Says, IsNumber}
@@ -30,32 +29,32 @@ IsNoQuery before line problem = IsWrongQuery line problem
 abbrev pub answers : List Entry → List ℕ → List ℕ
 answers index keys = flat_map (λ key. answer_line key (of_key key index)) keys
 
+abbrev pub count_text : ℕ → List ℕ
+count_text n = cond (nat_eq n 1) (codes "1 query\n") (decimal n ++ codes " queries\n")
+
 abbrev pub count_line : List ℕ → List ℕ
-count_line keys = decimal (min (length keys) (2 ^ 64 - 1)) ++ codes " queries\n"
+count_line keys = count_text (min (length keys) (2 ^ 64 - 1))
 
--- The answers are written to the queries that are kept of the lines behind the first divider, by the entries that are kept of those
--- before it; each other line is complained of, and `is_whole` says whether there is none.
-pub record Answers (bytes : List ℕ) (is_whole : Bool) (before after said_before said_after : Option (List ℕ)) : Type 0 where
-  pub entry_lines : List (List ℕ)
-  pub query_lines : List (List ℕ)
-  pub are_lines : AreLines bytes (entry_lines ++ divider ∷ query_lines)
-  pub divided_first : Undivided entry_lines
-  pub index : List Entry
-  pub entry_problems : List (LeftOut Problem)
-  pub are_entries : AreKept SaysEntry IsNoEntry [] 1 entry_lines index entry_problems
-  pub keys : List ℕ
-  pub query_problems : List (LeftOut Problem)
-  pub are_queries : AreKept SaysQuery IsNoQuery [] (length entry_lines + 2) query_lines keys query_problems
-  pub writes : Appends before after (answers index keys ++ count_line keys)
-  pub complains : Complains words (entry_problems ++ query_problems) said_before said_after
-  pub whole : is_whole ≡ none_left_out (entry_problems ++ query_problems)
+-- These are kept of the lines of the bytes; each other line is complained of, and `is_whole` says whether there is none.
+pub record AreRead {A : Type 0} (Says : List A → List ℕ → A → Type 0) (IsWrong : List A → List ℕ → Problem → Type 0)
+    (bytes : List ℕ) (kept : List A) (is_whole : Bool) (said_before said_after : Option (List ℕ)) : Type 0 where
+  pub lines : List (List ℕ)
+  pub are_lines : AreLines bytes lines
+  pub left_out : List (LeftOut Problem)
+  pub are_kept : AreKept Says IsWrong [] 1 lines kept left_out
+  pub complains : Complains words left_out said_before said_after
+  pub whole : is_whole ≡ none_left_out left_out
 
--- These are the queries that are kept of the lines of the bytes, the line before the first of which has the number n.
-pub record AreQueries (n : ℕ) (bytes : List ℕ) (keys : List ℕ) (is_whole : Bool) (said_before said_after : Option (List ℕ)) : Type 0
+-- The answers are written to the queries that are kept of the lines of the one file, by the entries that are kept of those of the other;
+-- each other line is complained of, first those of the index, and `is_whole` says whether there is none.
+pub record Answers (entries queries : List ℕ) (is_whole : Bool) (before after said_before said_after : Option (List ℕ)) : Type 0
   where
-    pub lines : List (List ℕ)
-    pub are_lines : AreLines bytes lines
-    pub left_out : List (LeftOut Problem)
-    pub are_queries : AreKept SaysQuery IsNoQuery [] (n + 1) lines keys left_out
-    pub complains : Complains words left_out said_before said_after
-    pub whole : is_whole ≡ none_left_out left_out
+    pub index : List Entry
+    pub keys : List ℕ
+    pub are_entries : Bool
+    pub are_queries : Bool
+    pub said : Option (List ℕ)
+    pub reads_index : AreRead SaysEntry IsNoEntry entries index are_entries said_before said
+    pub reads_queries : AreRead SaysQuery IsNoQuery queries keys are_queries said said_after
+    pub writes : Appends before after (answers index keys ++ count_line keys)
+    pub whole : is_whole ≡ (are_entries && are_queries)

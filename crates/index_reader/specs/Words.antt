@@ -2,7 +2,7 @@
 use Rattle.std.specs.Prelude.{ℕ, List, ◌++◌, codes, decimal, Option, Some}
 use Rattle.program_parts.specs.declared.pairs.PairError.TheVariants.{NoText, NoComma, First, Second}
 use Rattle.index_reader.specs.declared.entry.Problem.{Problem}
-use Rattle.index_reader.specs.declared.entry.Problem.TheVariants.{NoEntry, Lower, NoQuery}
+use Rattle.index_reader.specs.declared.entry.Problem.TheVariants.{NoEntry, Lower, NoQuery, QueryNoText}
 
 -- what is wrong with it
 abbrev pub words : Problem → Option (List ℕ)
@@ -12,8 +12,5 @@ words (NoEntry First) = Some (codes "its key is no number of 32 bits")
 words (NoEntry Second) = Some (codes "its place is no number of 64 bits")
 words (Lower key most) =
     Some (codes "its key " ++ (decimal key ++ (codes " is lower than " ++ (decimal most ++ codes ", the greatest before it"))))
-words NoQuery = Some (codes "it is no number of 32 bits")
-
--- what is told where no line divides entries and queries
-abbrev pub no_divider : List ℕ
-no_divider = codes "there is no line `--`: it has to stand between the entries and the queries\n"
+words NoQuery = Some (codes "the query is no number of 32 bits")
+words QueryNoText = Some (codes "the query is not UTF-8")

@@ -1,4 +1,4 @@
-//! Looks keys up in a sorted index, both from standard input: `program.rt` has what is read and what is written.
+//! Looks keys up in a sorted index: `program.rt` has what is read and what is written.
 //!
 //! What is kept in memory is the index and the longest line. A query takes time in proportion to the logarithm of the length of
 //! the index, and to what it finds.
@@ -12,15 +12,31 @@ mod program;
 mod run;
 
 use program_parts::arguments::arguments;
+use program_parts::input::open_named;
 use std::io;
 use std::io::{BufReader, BufWriter};
 use std::process::ExitCode;
 
 fn main(rt: HostRuntime) -> io::Result<ExitCode> {
     let words = arguments(&rt)?;
-    let input = BufReader::new(rt.alloc(), rt.reader())?;
-    let mut out = BufWriter::new(rt.alloc(), io::writer(&rt))?;
+    let mut out = BufWriter::new(rt.alloc(), rt.stdout())?;
     let mut complaints = BufWriter::new(rt.alloc(), rt.stderr())?;
-    let status = program::run(rt.alloc(), &words, input, &mut out, &mut complaints);
+    let (index, queries) = match words.as_slice() {
+        [index] if !index.starts_with("--") => (index.as_str(), "-"),
+        [index, queries] => (index.as_str(), queries.as_str()),
+        _ => {
+            let status = program::explain(&words, &mut out, &mut complaints);
+            return Ok(ExitCode::from(status));
+        }
+    };
+    let Some(index) = open_named(&rt, "index_reader", index) else {
+        return Ok(ExitCode::from(1));
+    };
+    let Some(queries) = open_named(&rt, "index_reader", queries) else {
+        return Ok(ExitCode::from(1));
+    };
+    let index = BufReader::with_capacity(rt.alloc(), 65536, index)?;
+    let queries = BufReader::with_capacity(rt.alloc(), 65536, queries)?;
+    let status = program::run(rt.alloc(), index, queries, &mut out, &mut complaints);
     Ok(ExitCode::from(status))
 }

@@ -1,5 +1,5 @@
-//! What the program does by its arguments, what it says, and its status.
-ghost use Rattle.std.specs.Prelude.{◌≡◌, ◌≢◌, [], true, IfSome, codes};
+//! What the program does, what it says, and its status.
+ghost use Rattle.std.specs.Prelude.{◌≡◌, true, IfSome, codes};
 ghost use Rattle.std.specs.Io.KnownBytes.{Appends};
 ghost use Rattle.program_parts.specs.Arguments.{IsOnly};
 ghost use Rattle.index_reader.specs.Runs.{Answers};
@@ -14,43 +14,49 @@ use std::io::{BufRead, Write};
 
 /// What `--help` writes.
 pub const USAGE: &str = "\
-usage: index_reader [--help]
+usage: index_reader [--help] INDEX [QUERIES]
 
-Reads a sorted index from standard input, a line `key,place` for each entry, then a line `--`,
-then queries, a key a line. Writes for each query the places of all entries of that key, in
-the order of the index, or `none`, and the number of queries at the end. A key is a number of
-32 bits and a place one of 64 bits; a plus sign may stand before either. The keys of the index
-ascend, and one may stand several times. The queries come in any order.
+Reads a sorted index from the file INDEX, a line `key,place` for each entry, and queries from the
+file QUERIES, a key a line. A dash is standard input, and so it is where QUERIES is not named.
+Writes for each query the places of all entries of that key, in the order of the index, or
+`none`, and the number of queries at the end. A key is an unsigned number of 32 bits and a place
+one of 64 bits; a plus sign may stand before either. The keys of the index ascend, and one may
+stand several times. The queries come in any order. A `\\r` before a line feed is dropped.
 
-A line that is no entry, or whose key is lower than a key before it, or that is no query, is
-left out, and standard error says why. The status is then 1, and so it is where the line `--`
-is not there or where reading or writing fails. It is 2 where an argument is not known.
+A line that is no entry, or whose key is lower than a key before it, or that is no query, is left
+out, and standard error says why; so is one that is not UTF-8. The status is then 1, and so it is
+where reading or writing fails. It is 2 where an argument is not known.
 ";
 
-/// Does what the arguments ask for, and gives back the status: 0, or 1 where it failed or a line is left
-/// out, or 2 where the arguments are not known. What went wrong is said in lines of complaint.
-pub fn run<R: BufRead + Drop, W: Write, E: Write>(
+/// Answers the queries by the index, and gives back the status: 0, or 1 where it failed or a line is left out. What went
+/// wrong is said in lines of complaint.
+pub fn run<I: BufRead + Drop, Q: BufRead + Drop, W: Write, E: Write>(
     alloc: Global,
-    words: &[String],
-    input: R,
+    index: I,
+    queries: Q,
     out: &mut W,
     complaints: &mut E,
 ) -> u8
-    ensures whole { words.now ≡ [] → result ≡ 0 → IfSome (R.remaining input)
-        (λ bytes. Answers bytes true (W.contents out.old) (W.contents out.new)
-        (E.contents complaints.old) (E.contents complaints.new)) }
+    ensures { result ≡ 0 → IfSome (I.remaining index) (λ entries. IfSome (Q.remaining queries)
+        (λ asked. Answers entries asked true (W.contents out.old) (W.contents out.new)
+        (E.contents complaints.old) (E.contents complaints.new))) }
+{
+    let done = answer_all(alloc, index, queries, out, complaints);
+    status_of("index_reader", done, complaints)
+}
+
+/// Writes what `--help` asks for, and gives back the status: 0, or 1 where it failed. Of other arguments it is 2, and the same
+/// goes to the complaints.
+pub fn explain<W: Write, E: Write>(words: &[String], out: &mut W, complaints: &mut E) -> u8
     ensures help { IsOnly words.now (codes "--help") → result ≡ 0
         → Appends (W.contents out.old) (W.contents out.new) USAGE.now }
-    ensures unknown { words.now ≢ [] → (IsOnly words.now (codes "--help") → ⊥)
+    ensures unknown { (IsOnly words.now (codes "--help") → ⊥)
         → (result ≡ 2) × (W.contents out.new ≡ W.contents out.old) }
 {
-    let done = if words.is_empty() {
-        answer_all(alloc, input, out, complaints)
-    } else if is_only(words, "--help") {
-        write_all(out, USAGE).and(Ok(true))
-    } else {
+    if !is_only(words, "--help") {
         let _ = write_all(complaints, USAGE);
         return 2;
-    };
+    }
+    let done = write_all(out, USAGE).and(Ok(true));
     status_of("index_reader", done, complaints)
 }

@@ -28,10 +28,18 @@ pub fn open_input(
     words: &mut Vec<String>,
     modes: &[&str],
 ) -> Option<Input> {
-    let Some(name) = pop_file(words, modes) else {
+    match pop_file(words, modes) {
+        Some(name) => open_named(rt, program, &name),
+        None => Some(Input::Stdin(rt.stdin())),
+    }
+}
+
+/// The file of this name, or standard input if the name is a dash. `None` where it cannot be opened, and a line of complaint says why.
+pub fn open_named(rt: &HostRuntime, program: &str, name: &str) -> Option<Input> {
+    if name == "-" {
         return Some(Input::Stdin(rt.stdin()));
-    };
-    match File::open(rt, &name) {
+    }
+    match File::open(rt, name) {
         Ok(file) => Some(Input::File(file)),
         Err(error) => {
             let _ = writeln!(rt.stderr(), "{program}: {name}: {error}");
@@ -40,16 +48,11 @@ pub fn open_input(
     }
 }
 
-// Takes the last word off where it names a file or is a dash, and gives it back where it names a file.
+// Takes the last word off and gives it back, where it names a file or is a dash.
 fn pop_file(words: &mut Vec<String>, modes: &[&str]) -> Option<String> {
     let last = words.last()?.as_str();
     if last.starts_with("--") || modes.contains(&last) {
         return None;
     }
-    let name = words.pop()?;
-    if name.as_str() == "-" {
-        None
-    } else {
-        Some(name)
-    }
+    words.pop()
 }

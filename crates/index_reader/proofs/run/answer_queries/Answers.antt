@@ -7,12 +7,12 @@ use Rattle.index_reader.specs.Answers.{answer_line}
 use Rattle.index_reader.specs.Keys.{of_key}
 use Rattle.index_reader.specs.Runs.{SaysQuery, IsNoQuery, answers, count_line}
 use Rattle.index_reader.specs.Words.{words}
-use Rattle.index_reader.proofs.Reading.{are_queries}
+use Rattle.index_reader.proofs.Reading.{are_read}
 use Rattle.index_reader.proofs.run.answer_queries.Goals as goal
 use Rattle.index_reader.proofs.run.answer_queries.Goals.{in-Ok+in_ok-write_answer-in-Ok, in-Err+in_ok-complain-in-Err}
 
 pub loop-init : goal.loop-init
-loop-init g c = ([], Appends-nil _, refl, none_so_far SaysQuery IsNoQuery words _ c.args.lines.now.number _ c.requires)
+loop-init g c = ([], Appends-nil _, refl, rw c.requires (none_so_far SaysQuery IsNoQuery words _ 0 _ (omega arith)))
 
 pub returns-then-not-branch : goal.returns-then-not-branch
 returns-then-not-branch g c =
@@ -20,8 +20,8 @@ returns-then-not-branch g c =
     let end = none_found _ c.in_ok-advance.field-0 c.in_ok-advance.ensures.found c.if-not-branch.true in (
       keys,
       appends_both _ _ _ (answers c.args.index.now keys) (count_line keys) writes
-          (rw count at c.in_ok-writeln.ensures.bytes),
-      are_queries _ _ _ _ _ _ keys c.loop.is_whole s end,
+          (rw count at c.in_ok-write_count.ensures),
+      are_read SaysQuery IsNoQuery _ _ _ _ _ keys c.loop.is_whole s end,
     )
 
 pub loop-preserved : goal.loop-preserved

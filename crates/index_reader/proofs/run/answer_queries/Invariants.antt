@@ -10,4 +10,4 @@ invariant-loop g l =
     (keys : List ℕ) × Appends (g.W.Write.contents l.initial.out) (g.W.Write.contents l.out) (answers l.index keys)
     × (l.queries ≡ min (length keys) (2 ^ 64 - 1))
     × KeptSoFar SaysQuery IsNoQuery words (g.R.Read.remaining l.initial.lines.reader) (g.R.Read.remaining l.lines.reader)
-    l.initial.lines.number l.lines.number (g.E.Write.contents l.initial.complaints) (g.E.Write.contents l.complaints) keys l.is_whole
+    0 l.lines.number (g.E.Write.contents l.initial.complaints) (g.E.Write.contents l.complaints) keys l.is_whole

@@ -1,10 +1,9 @@
-use Rattle.std.proofs.Common.{true}
-use Rattle.program_parts.proofs.Parts.{PartSoFar}
+use Rattle.program_parts.proofs.KeptSoFar.{KeptSoFar}
 use Rattle.index_reader.specs.Runs.{SaysEntry, IsNoEntry}
 use Rattle.index_reader.specs.Words.{words}
 use Rattle.index_reader.proofs.run.read_index.Given as goal
 
 abbrev pub invariant-loop : goal.invariant-loop
 invariant-loop g l =
-    PartSoFar SaysEntry IsNoEntry words true (g.R.Read.remaining l.initial.lines.reader) (g.R.Read.remaining l.lines.reader) 0
+    KeptSoFar SaysEntry IsNoEntry words (g.R.Read.remaining l.initial.lines.reader) (g.R.Read.remaining l.lines.reader) 0
     l.lines.number (g.E.Write.contents l.initial.complaints) (g.E.Write.contents l.complaints) l.index l.is_whole
