@@ -1,4 +1,4 @@
-//! The examples of the README.
+//! Both ends of a slice and of a text, for reading and for writing.
 use slice_group_by::{GroupBy, LinearGroupMut, StrGroupBy};
 use std::io;
 

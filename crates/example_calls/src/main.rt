@@ -1,5 +1,5 @@
-//! Small programs over groups, each proved with no proof file, which the README and `docs/CALLING.md` show. Each line that
-//! is printed belongs to one module.
+//! Small programs over groups, each proved with no proof file: `docs/CALLING.md` and the README show some, and name the
+//! others. Each module prints what its own give.
 #![tactic(auto)]
 
 mod bytes;
