@@ -1,5 +1,5 @@
-"""What the programs write and say, written out by hand: the program, its arguments, its input (two of them where it reads two files), its status, what it writes, and what it
-says on standard error."""
+"""What the programs write and say, written out by hand: the program, its arguments, its input (two where it reads two files), its
+status, what it writes, and what it says on standard error."""
 
 LEFT_OUT = b"line %d is left out: %s\n"
 NO_JOIN_DIVIDER = b"there is no line `--`: it has to stand between the left rows and the right ones\n"

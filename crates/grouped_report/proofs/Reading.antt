@@ -1,16 +1,13 @@
 -- What sums say of the rows so far.
 use Rattle.std.proofs.Common.{ℕ, ◌+◌, List, [], ◌∷◌, ◌++◌, Bool, cond, nat_eq, sum_by}
 use Rattle.std.proofs.Common.{flat_map, Option, None, Some, IfSome, refl, sym, ap, ◌∙◌, arith}
-use Rattle.std.specs.Io.KnownBytes.{Appends, IsAtEnd, Keeps}
+use Rattle.std.specs.Io.KnownBytes.{Appends, Keeps}
 use Rattle.std.proofs.lemmas.List.Sums.{sum_by-append}
 use Rattle.program_parts.proofs.Appended.{appends_kept}
-use Rattle.program_parts.proofs.Given.{gives_all}
-use Rattle.program_parts.proofs.KeptSoFar.{KeptSoFar, are_kept}
 use Rattle.grouped_report.specs.declared.entry.Entry.{Entry}
 use Rattle.grouped_report.specs.Departments.{amount, IsReport, SaysTheSame}
 use Rattle.grouped_report.specs.Report.{sum_line, total_line}
-use Rattle.grouped_report.specs.Runs.{SaysRow, IsNoRow, AreRows, Reports}
-use Rattle.grouped_report.specs.Words.{words}
+use Rattle.grouped_report.specs.Runs.{AreRows, Reports}
 
 -- entries say what they say themselves, and what others do that say the same
 pub same_self : (xs : List Entry) → SaysTheSame xs xs
@@ -39,20 +36,6 @@ same_more xs ys row p = record {
       sum_by-append f ys (row ∷ []) ∙ ap (λ n. n + sum_by f (row ∷ [])) (p.amounts d) ∙ sym (sum_by-append f xs (row ∷ []));
   total =
       sum_by-append amount ys (row ∷ []) ∙ ap (λ n. n + sum_by amount (row ∷ [])) p.total ∙ sym (sum_by-append amount xs (row ∷ []));
-}
-
--- the rows are those of the lines where no more come
-pub are_rows : (a b : Option (List ℕ)) (n : ℕ) (c d : Option (List ℕ)) (rows : List Entry) (w : Bool)
-    → KeptSoFar SaysRow IsNoRow words a b 0 n c d rows w → IsAtEnd b
-    → IfSome a (λ bytes. AreRows bytes rows w c d)
-are_rows None b n c d rows w s end = tt
-are_rows (Some bytes) b n c d rows w s end = record {
-  lines = s.lines;
-  are_lines = gives_all (Some bytes) b s.lines s.gives end;
-  left_out = s.left_out;
-  are_rows = are_kept SaysRow IsNoRow words (Some bytes) b 0 n c d rows w s;
-  complains = s.complains;
-  whole = s.whole;
 }
 
 -- their report is written

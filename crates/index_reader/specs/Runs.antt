@@ -1,9 +1,7 @@
 -- What a run reads and writes.
-use Rattle.std.specs.Prelude.{◌≡◌, ℕ, ◌-◌, ◌^◌, List, [], ◌∷◌, ◌++◌, Bool, ◌&&◌, cond, nat_eq, Option, codes, decimal, flat_map, length, min}
+use Rattle.std.specs.Prelude.{◌≡◌, ℕ, ◌-◌, ◌^◌, nat_eq, min, List, [], ◌∷◌, ◌++◌, length, flat_map, Bool, ◌&&◌, cond, Option, codes, decimal}
 use Rattle.std.specs.Io.KnownBytes.{Appends}
-use Rattle.program_parts.specs.Complaints.{LeftOut, none_left_out, Complains}
-use Rattle.program_parts.specs.Lines.{AreLines}
-use Rattle.program_parts.specs.Kept.{AreKept}
+use Rattle.program_parts.specs.Read.{AreRead}
 use Rattle.program_parts.specs.Pairs.{Says, IsNumber}
 use Rattle.index_reader.specs.Keys.{IsAscending, IsWrong, IsWrongQuery, of_key}
 use Rattle.index_reader.specs.Answers.{answer_line}
@@ -35,16 +33,6 @@ count_text n = cond (nat_eq n 1) (codes "1 query\n") (decimal n ++ codes " queri
 abbrev pub count_line : List ℕ → List ℕ
 count_line keys = count_text (min (length keys) (2 ^ 64 - 1))
 
--- These are kept of the lines of the bytes; each other line is complained of, and `is_whole` says whether there is none.
-pub record AreRead {A : Type 0} (Says : List A → List ℕ → A → Type 0) (IsWrong : List A → List ℕ → Problem → Type 0)
-    (bytes : List ℕ) (kept : List A) (is_whole : Bool) (said_before said_after : Option (List ℕ)) : Type 0 where
-  pub lines : List (List ℕ)
-  pub are_lines : AreLines bytes lines
-  pub left_out : List (LeftOut Problem)
-  pub are_kept : AreKept Says IsWrong [] 1 lines kept left_out
-  pub complains : Complains words left_out said_before said_after
-  pub whole : is_whole ≡ none_left_out left_out
-
 -- The answers are written to the queries that are kept of the lines of the one file, by the entries that are kept of those of the other;
 -- each other line is complained of, first those of the index, and `is_whole` says whether there is none.
 pub record Answers (entries queries : List ℕ) (is_whole : Bool) (before after said_before said_after : Option (List ℕ)) : Type 0
@@ -54,7 +42,7 @@ pub record Answers (entries queries : List ℕ) (is_whole : Bool) (before after 
     pub are_entries : Bool
     pub are_queries : Bool
     pub said : Option (List ℕ)
-    pub reads_index : AreRead SaysEntry IsNoEntry entries index are_entries said_before said
-    pub reads_queries : AreRead SaysQuery IsNoQuery queries keys are_queries said said_after
+    pub reads_index : AreRead SaysEntry IsNoEntry words entries index are_entries said_before said
+    pub reads_queries : AreRead SaysQuery IsNoQuery words queries keys are_queries said said_after
     pub writes : Appends before after (answers index keys ++ count_line keys)
     pub whole : is_whole ≡ (are_entries && are_queries)

@@ -1,7 +1,9 @@
 //! Reads an index and queries, and answers them.
 ghost use Rattle.std.specs.Prelude.{◌≡◌, ℕ, List, ◌++◌, IfOk, IfSome, OnOk};
 ghost use Rattle.std.specs.Io.KnownBytes.{Appends};
-ghost use Rattle.index_reader.specs.Runs.{Answers, AreRead, IsNoEntry, IsNoQuery, SaysEntry, SaysQuery, answers, count_line, count_text};
+ghost use Rattle.program_parts.specs.Read.{AreRead};
+ghost use Rattle.index_reader.specs.Runs.{Answers, IsNoEntry, IsNoQuery, SaysEntry, SaysQuery, answers, count_line, count_text};
+ghost use Rattle.index_reader.specs.Words.{words};
 
 use crate::entry::{next_entry, parse_query};
 use crate::index::Index;
@@ -42,7 +44,7 @@ fn read_index<R: BufRead, E: Write>(
     complaints: &mut E,
 ) -> io::Result<(Index, bool)>
     requires { lines.old.number ≡ 0 }
-    ensures { IfOk result (λ read. IfSome (R.remaining lines.old.reader) (λ bytes. AreRead SaysEntry IsNoEntry bytes
+    ensures { IfOk result (λ read. IfSome (R.remaining lines.old.reader) (λ bytes. AreRead SaysEntry IsNoEntry words bytes
         read.0 read.1 (E.contents complaints.old) (E.contents complaints.new))) }
 {
     let mut index = Index::new(alloc);
@@ -72,7 +74,7 @@ fn answer_queries<R: BufRead, W: Write, E: Write>(
     requires { lines.old.number ≡ 0 }
     ensures { IfOk result (λ is_whole. (keys : List ℕ)
         × Appends (W.contents out.old) (W.contents out.new) (answers index.now keys ++ count_line keys)
-        × IfSome (R.remaining lines.old.reader) (λ bytes. AreRead SaysQuery IsNoQuery bytes keys
+        × IfSome (R.remaining lines.old.reader) (λ bytes. AreRead SaysQuery IsNoQuery words bytes keys
         is_whole (E.contents complaints.old) (E.contents complaints.new))) }
 {
     let mut queries = 0u64;

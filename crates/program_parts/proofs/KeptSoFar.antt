@@ -5,12 +5,13 @@ use Rattle.std.proofs.Common.{length-append}
 use Rattle.std.specs.Fmt.{◌++?◌}
 use Rattle.std.specs.Option.{option_map}
 use Rattle.std.specs.Io.BufRead.{first_line, DropsThrough}
-use Rattle.std.specs.Io.KnownBytes.{Appends}
+use Rattle.std.specs.Io.KnownBytes.{Appends, IsAtEnd}
 use Rattle.program_parts.specs.Complaints.{LeftOut, none_left_out, complaint, complaints, Complains}
 use Rattle.program_parts.specs.Kept.{AreKept, line_number}
 use Rattle.program_parts.specs.Lines.{GivesLines}
+use Rattle.program_parts.specs.Read.{AreRead}
 use Rattle.program_parts.proofs.Appended.{appends_nothing, appends_both}
-use Rattle.program_parts.proofs.Given.{gives_none, gives_more}
+use Rattle.program_parts.proofs.Given.{gives_none, gives_more, gives_all}
 
 -- no line is left out of either
 pub none_of_both : {P : Type 0} (xs ys : List (LeftOut P)) → (none_left_out xs && none_left_out ys) ≡ none_left_out (xs ++ ys)
@@ -112,6 +113,19 @@ module _ {A P : Type 0} (Says : List A → List ℕ → A → Type 0) (IsWrong :
         (s : KeptSoFar a b start number c d kept w) → AreKept Says IsWrong [] (start + 1) s.lines kept s.left_out
     are_kept a b start number c d kept w s =
         rw (append-nil s.lines, append-nil kept, append-nil s.left_out) at (s.goes_on [] [] [] (refl, refl))
+
+    -- they are all that is read at the end of the input
+    pub are_read : (a b : Option (List ℕ)) (number : ℕ) (c d : Option (List ℕ)) (kept : List A) (w : Bool)
+        → KeptSoFar a b 0 number c d kept w → IsAtEnd b → IfSome a (λ bytes. AreRead Says IsWrong words bytes kept w c d)
+    are_read None b number c d kept w s end = tt
+    are_read (Some bytes) b number c d kept w s end = record {
+      lines = s.lines;
+      are_lines = gives_all (Some bytes) b s.lines s.gives end;
+      left_out = s.left_out;
+      are_kept = are_kept (Some bytes) b 0 number c d kept w s;
+      complains = s.complains;
+      whole = s.whole;
+    }
 
     module _ (a b c : Option (List ℕ)) (start number next : ℕ) (said_before said : Option (List ℕ)) (kept : List A) (w : Bool)
         (line : List ℕ) (s : KeptSoFar a b start number said_before said kept w) (some : IfSome b (λ unread. unread ≢ []))

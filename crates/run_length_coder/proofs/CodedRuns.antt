@@ -1,5 +1,6 @@
 -- Runs that are given one after another, and what they are coded as.
-use Rattle.std.proofs.Common.{◌≡◌, ℕ, ◌+◌, ◌^◌, true, false, cond, List, [], ◌∷◌, ◌++◌, length, flat_map, codes, decimal, nat_eq, nat_lt, Option, None, Some, refl, ap, sym, ◌∙◌, append_assoc, append-nil, subst, arith}
+use Rattle.std.proofs.Common.{◌≡◌, ℕ, ◌+◌, ◌^◌, nat_eq, nat_lt, true, false, cond, List, [], ◌∷◌, ◌++◌, length, flat_map, codes, decimal}
+use Rattle.std.proofs.Common.{Option, None, Some, refl, ap, sym, ◌∙◌, append_assoc, append-nil, subst, arith}
 use Rattle.std.proofs.lemmas.Bool.{eqb-true}
 use Rattle.std.specs.Io.KnownBytes.{Appends}
 use Rattle.std.proofs.KnownBytes.{Appends-nil, Appends-trans}

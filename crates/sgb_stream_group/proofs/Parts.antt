@@ -1,11 +1,12 @@
 -- A part that goes on with the open group.
-use Rattle.std.proofs.Common.{◌≡◌, ℕ, suc, ◌+◌, ◌-◌, ◌<◌, ◌≤◌, length, take, drop, get_or, arith, length-drop, Bool, true, false, List, [], ◌∷◌, ◌++◌, Option, None, Some, refl, sym, ap, ◌∙◌, subst, append_assoc}
+use Rattle.std.proofs.Common.{◌≡◌, ℕ, suc, ◌-◌, ◌<◌, ◌≤◌, Bool, true, false, List, [], ◌∷◌, ◌++◌}
+use Rattle.std.proofs.Common.{length, take, drop, get_or, Option, None, Some, refl, sym, ap, ◌∙◌, subst, arith, append_assoc}
 use Rattle.std.proofs.lemmas.List.{take_all, take-append-drop, length-take-le}
 use Rattle.std.specs.List.{AllByRecursion, slice_range}
 use Rattle.sgb_search.specs.declared.end.End.TheVariants.{Front}
 use Rattle.sgb_search.specs.Questions.{questions}
-use Rattle.sgb_search.specs.Split.{first, last, on_pairs, split, IsAccepted, IsRefusedAcross}
-use Rattle.sgb_search.proofs.Lists.Pairs.{says, length-questions}
+use Rattle.sgb_search.specs.Split.{last, on_pairs, split, IsAccepted, IsRefusedAcross}
+use Rattle.sgb_search.proofs.Lists.Pairs.{says}
 use Rattle.sgb_search.proofs.Splits.Split.{split_first, split_alone}
 use Rattle.sgb_stream_group.specs.Streams.{IsOpen, GivesFirst, GivesLast, GoesOn, TakesPart, AddsUp}
 
@@ -14,9 +15,6 @@ module _ {T : Type 0} where
   last_append [] y ys = refl
   last_append (x ∷ []) y ys = refl
   last_append (x ∷ z ∷ zs) y ys = last_append (z ∷ zs) y ys
-
-  first_append : (x : T) (xs ys : List T) → first ((x ∷ xs) ++ ys) ≡ Some x
-  first_append x xs ys = refl
 
 module _ {T V : Type 0} (p : T → T → Bool) (f : V → List T → V) (start : V) where
   accepted_across : (group : List T) (x : T) (xs : List T) → ((a : T) → last group ≡ Some a → p a x ≡ true) → IsAccepted p group
@@ -64,7 +62,8 @@ module _ {T V : Type 0} (p : T → T → Bool) (f : V → List T → V) (start :
   across_kept group (Some kept) x xs o e a l =
       let same : Some a ≡ Some kept.0 = sym l ∙ o.element in let is : a ≡ kept.0 = cc same in rw is (e x refl)
 
-  refused_longer : (group : List T) (x : T) (xs after : List T) → IsRefusedAcross p (x ∷ xs, after) → IsRefusedAcross p (group ++ x ∷ xs, after)
+  refused_longer : (group : List T) (x : T) (xs after : List T) → IsRefusedAcross p (x ∷ xs, after)
+      → IsRefusedAcross p (group ++ x ∷ xs, after)
   refused_longer group x xs after r = λ a b i j. r a b (sym (last_append group x xs) ∙ i) j
 
   -- the part goes to the open group
@@ -96,17 +95,16 @@ module _ {T : Type 0} where
 
   -- a call for the first group of a block, of so many elements: the group and what is left
   module _ (block : List T) (n : ℕ) (some : 0 < n) (within : n ≤ length block) where
-    pub cut_block : take n block ++ drop n block ≡ block
-    cut_block = take-append-drop n block
-
     pub accepted_inside : (p : T → T → Bool) → AllByRecursion (λ r. r.1 ≡ on_pairs p r.0) (questions Front block n)
         → IsAccepted p (take n block) × IsRefusedAcross p (take n block, drop n block)
     accepted_inside p h =
         let l = length-take-le n block within in
-        says p Front (take n block) (drop n block) (omega (arith, l)) (rw (cut_block, l) h)
+        says p Front (take n block) (drop n block) (omega (arith, l)) (rw (take-append-drop n block, l) h)
 
-    pub asked : length (questions Front block n) + (length (drop n block) - 1) ≡ length block - 1
-    asked = omega (arith, length-questions Front block n some, length-drop n block)
+    pub last_taken : (y : T) → y ≡ get_or (take n block) (n - 1) y → last (take n block) ≡ Some y
+    last_taken y is =
+        let l = length-take-le n block within in
+        last_at (take n block) y (omega (arith, l)) (is ∙ ap (λ (m : ℕ). get_or (take n block) (m - 1) y) (sym l))
 
 -- which goes to the open group
 module _ {T V : Type 0} (block : List T) (n : ℕ) (some : 0 < n) (within : n ≤ length block) where
@@ -115,10 +113,9 @@ module _ {T V : Type 0} (block : List T) (n : ℕ) (some : 0 < n) (within : n �
       → AllByRecursion (λ r. r.1 ≡ on_pairs p r.0) (questions Front block n) → y ≡ get_or (take n block) (n - 1) y
       → v ≡ f value (take n block) → TakesPart p f start group block (drop n block) (Some (y, v))
   goes_to_group p f start group kept value v y o e so answers is folded =
-      let l = length-take-le n block within in
       let whole = take-append-drop n block in
       let says = accepted_inside block n some within p answers in
-      let is_last = last_at (take n block) y (omega (arith, l)) (is ∙ ap (λ (m : ℕ). get_or (take n block) (m - 1) y) (sym l)) in
+      let is_last = last_taken block n some within y is in
       rw folded
       (subst (λ b. TakesPart {T = T} {V = V} p f start group b (drop n block) (Some (y, f value (take n block)))) whole
       (takes_part p f start group kept (take n block) (drop n block) value y o (rw whole e) so is_last says.0 says.1))

@@ -13,7 +13,11 @@ use sgb_numbers::number_judge::NumberJudge;
 use sgb_search::judge::{EqualityJudge, KeyJudge, PredicateJudge};
 
 impl<T: PartialEq, V, F: FnMut(V, &[T]) -> V> StreamGroup<T, V, F> {
-    /// A stream of which no block has come yet. `fold` adds a part of a group to a value, which is `start` before the first part.
+    /// A stream of which no block has come yet. `fold` adds a part of a group to a value, which is `start` before its first part,
+    /// and may be called on any part.
+    ///
+    /// If `fold` computes a function that adds up, so that folding a part and then the next is folding both joined, each group
+    /// comes with the fold over its elements, however the blocks cut it (`laws::folds_add_up`).
     #[inline]
     pub fn new(start: V, fold: F) -> Self
         requires { F.IsAlwaysCallable fold }
@@ -31,7 +35,7 @@ impl<T: PartialEq, V, F: FnMut(V, &[T]) -> V> StreamGroup<T, V, F> {
 }
 
 impl<T: Lanes, V, F: FnMut(V, &[T]) -> V> StreamNumberGroup<T, V, F> {
-    /// The same of numbers, many of which are compared at a time.
+    /// A stream of numbers of which no block has come yet; `start` and `fold` are those of `StreamGroup`.
     #[inline]
     pub fn new(start: V, fold: F) -> Self
         requires { F.IsAlwaysCallable fold }
@@ -49,7 +53,8 @@ impl<T: Lanes, V, F: FnMut(V, &[T]) -> V> StreamNumberGroup<T, V, F> {
 }
 
 impl<T, V, F: FnMut(V, &[T]) -> V, P: FnMut(&T, &T) -> bool> StreamGroupBy<T, V, F, P> {
-    /// The same by a predicate.
+    /// A stream of which no block has come yet; `start` and `fold` are those of `StreamGroup`. The predicate may be called on any two
+    /// elements.
     #[inline]
     pub fn new(start: V, fold: F, predicate: P) -> Self
         requires fold { F.IsAlwaysCallable fold }
@@ -72,7 +77,8 @@ where
     F: FnMut(V, &[T]) -> V,
     G: FnMut(&T) -> K,
 {
-    /// The same by a key.
+    /// A stream of which no block has come yet; `start` and `fold` are those of `StreamGroup`. The key function may be called on any
+    /// element.
     #[inline]
     pub fn new(start: V, fold: F, key: G) -> Self
         requires fold { F.IsAlwaysCallable fold }

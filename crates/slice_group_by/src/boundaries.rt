@@ -44,8 +44,8 @@ fn first_len<'a, T: 'a, Q: SliceQueue<'a, T> + Drop>(mut groups: Q) -> usize
 
 /// The first place at or behind `index` where a group of equal elements begins, or the length of the slice.
 ///
-/// Cut there, the two parts have the groups of the whole, so that they can be walked apart. It costs the questions about the group
-/// that the element before `index` stands in, from that element on. It is to groups what `str::ceil_char_boundary` is to characters.
+/// Cut there, the two parts have the groups of the whole, so that they can be walked apart. It asks what one call of `LinearGroup`
+/// asks from the element before `index` on, and takes time by that. `str::ceil_char_boundary` does this for characters.
 ///
 /// ```
 /// let slice = [1, 1, 1, 3, 3, 2];
@@ -64,7 +64,7 @@ pub fn linear_boundary<T: PartialEq>(slice: &[T], index: usize) -> usize
     index - 1 + first_len(LinearGroup::new(rest))
 }
 
-/// The same by a predicate, as `LinearGroupBy` groups.
+/// `linear_boundary` by a predicate, for the groups of `LinearGroupBy`.
 ///
 /// ```
 /// linear_boundary_by(&[1, 2, 4, 3, 5], 1, |a, b| a < b); // 3
@@ -88,7 +88,7 @@ pub fn linear_boundary_by<T, P: FnMut(&T, &T) -> bool>(
     index - 1 + first_len(LinearGroupBy::new(rest, predicate))
 }
 
-/// The same by a key, as `LinearGroupByKey` groups.
+/// `linear_boundary` by a key, for the groups of `LinearGroupByKey`.
 ///
 /// ```
 /// linear_boundary_by_key(&[10, 11, 25, 26], 1, |x| x / 10); // 2
@@ -112,8 +112,8 @@ pub fn linear_boundary_by_key<T, K: PartialEq + Drop, F: FnMut(&T) -> K>(
     index - 1 + first_len(LinearGroupByKey::new(rest, func))
 }
 
-/// The same of a slice that is grouped for `==`, as a sorted one is, by galloping: at most `2 * digits(g) + 1` questions, g being how
-/// many elements lie from the one before `index` up to the result.
+/// `linear_boundary` by galloping, for a slice that is grouped for `==`, such as a sorted one. It asks at most `2 * digits(g) + 1`
+/// questions if the result lies g elements behind the one before `index`.
 ///
 /// ```
 /// exponential_boundary(&[1, 1, 1, 3, 3, 7], 4); // 5
@@ -130,7 +130,7 @@ pub fn exponential_boundary<T: PartialEq>(slice: &[T], index: usize) -> usize
     index - 1 + first_len(ExponentialGroup::new(rest))
 }
 
-/// The same by a predicate, of a slice that is grouped for it: `exponential_boundary` as `ExponentialGroupBy` groups.
+/// `exponential_boundary` by a predicate, for a slice that is grouped for it and the groups of `ExponentialGroupBy`.
 pub fn exponential_boundary_by<T, P: FnMut(&T, &T) -> bool>(
     slice: &[T],
     index: usize,
@@ -150,8 +150,8 @@ pub fn exponential_boundary_by<T, P: FnMut(&T, &T) -> bool>(
     index - 1 + first_len(ExponentialGroupBy::new(rest, predicate))
 }
 
-/// The same by a key, of a slice that is grouped by it, as one that ascends by it is: `exponential_boundary` as
-/// `ExponentialGroupByKey` groups.
+/// `exponential_boundary` by a key, for a slice that is grouped by it, such as one that ascends by it, and the groups of
+/// `ExponentialGroupByKey`.
 pub fn exponential_boundary_by_key<T, K: PartialEq + Drop, F: FnMut(&T) -> K>(
     slice: &[T],
     index: usize,

@@ -1,4 +1,4 @@
-//! Counts equal neighbouring lines of a file or of standard input, as `uniq -c` does, and writes the counts with no columns: input of any size.
+//! Counts equal neighbouring lines of a file or of standard input, of any size, as `uniq -c` does, and writes the counts with no columns.
 //! What is kept in memory is a block of lines, or one that is longer, a slice for each of them, and one line that may go on. Lines
 //! are bytes up to a line feed; the last needs none. `program.rt` has what it does.
 #![tactic(auto)]

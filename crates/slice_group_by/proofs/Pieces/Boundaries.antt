@@ -1,5 +1,6 @@
 -- A cut where a group begins: the parts have the groups of the whole.
-use Rattle.std.proofs.Common.{◌≡◌, ℕ, ◌+◌, ◌-◌, ◌<◌, ◌≤◌, Bool, true, false, List, [], ◌∷◌, ◌++◌, length, take, drop, refl, sym, ap, subst, ◌∙◌, arith, append_assoc}
+use Rattle.std.proofs.Common.{◌≡◌, ℕ, ◌+◌, ◌-◌, ◌<◌, ◌≤◌, Bool, true, false, List, [], ◌∷◌, ◌++◌, length, take, drop}
+use Rattle.std.proofs.Common.{refl, sym, ap, subst, ◌∙◌, arith, append_assoc}
 use Rattle.std.specs.Prelude.{◌≢◌, slice_range}
 use Rattle.std.proofs.lemmas.List.{append-nil, take-append-drop, take_at, drop_at, take_all, drop-drop, length-take-le, length-drop}
 use Rattle.std.proofs.Math.Seq.{take-add}
@@ -70,10 +71,12 @@ module _ {A : Type 0} (p : A → A → Bool) where
           let on : drop (a + n) xs ≡ drop n (drop a xs) = sym (drop-drop n a xs) in
           rw (at, on) (from_parts xs (take a xs) (take n (drop a xs)) (drop n (drop a xs))
           (sym (take-append-drop a xs) ∙ ap (λ l. take a xs ++ l) (sym (take-append-drop n (drop a xs))))
-          (λ none. omega (arith, more, ap length none, length-take-le n (drop a xs) room)) (ap (split p) (take-append-drop n (drop a xs)) ∙ e))
+          (λ none. omega (arith, more, ap length none, length-take-le n (drop a xs) room))
+          (ap (split p) (take-append-drop n (drop a xs)) ∙ e))
 
   -- the same of a list that is those elements
-  pub parts_of : (xs rest : List A) (a n : ℕ) → rest ≡ drop a xs → n ≤ length rest → (rest ≢ [] → 0 < n) → PartsAt p rest n → PartsAt p xs (a + n)
+  pub parts_of : (xs rest : List A) (a n : ℕ) → rest ≡ drop a xs → n ≤ length rest → (rest ≢ [] → 0 < n) → PartsAt p rest n
+      → PartsAt p xs (a + n)
   parts_of xs rest a n is room some e =
       parts_of_all xs a n (subst (λ l. n ≤ length l) is room) (subst (λ l. l ≢ [] → 0 < n) is some) (subst (λ l. PartsAt p l n) is e)
 
@@ -83,4 +86,5 @@ module _ {A : Type 0} (p : A → A → Bool) where
 
   pub grouped_rest : (xs rest : List A) (a : ℕ) → rest ≡ drop a xs → IsGrouped p xs → IsGrouped p rest
   grouped_rest xs rest a is h =
-      grouped_part p (take a xs) rest [] (subst (IsGrouped p) (sym (ap (λ l. take a xs ++ l) (append-nil rest ∙ is) ∙ take-append-drop a xs)) h)
+      grouped_part p (take a xs) rest []
+      (subst (IsGrouped p) (sym (ap (λ l. take a xs ++ l) (append-nil rest ∙ is) ∙ take-append-drop a xs)) h)

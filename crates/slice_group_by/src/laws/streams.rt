@@ -3,8 +3,8 @@ ghost use Rattle.std.specs.Prelude.{ℕ, ◌+◌, Bool, List, [], ◌∷◌, ◌
 ghost use Rattle.sgb_search.specs.Split.{split};
 ghost use Rattle.sgb_stream_group.specs.Streams.{AddsUp, AreGivenAs, GivesAll, GivesFirst, GivesLast, checked_add};
 
-/// Folding over a list is folding over one part of it and then over the rest, for folds that add lengths, or the sum of a number of each
-/// element: as they are, up to a limit, or checked against one. Where a type of a stream asks whether its fold adds up, this answers.
+/// Folds of a stream that add up: folding over a list is folding over one part of it and then over the rest. They add the length of a
+/// part, or a sum over its elements, without a limit, up to a limit, or to `None` behind one.
 pub fn folds_add_up<T>()
     ensures lengths { AddsUp (λ (n : ℕ) (xs : List T). n + length xs) }
     ensures lengths_saturating { (limit : ℕ) → AddsUp (λ (n : ℕ) (xs : List T). min (n + length xs) limit) }
@@ -15,8 +15,8 @@ pub fn folds_add_up<T>()
         → AddsUp (λ (n : Option ℕ) (xs : List T). checked_add limit n (sum_by f xs)) }
 {}
 
-/// What a stream gives, call after call and block after block, is its pieces. A loop keeps `GivesAll` of the elements that have come,
-/// those that are open, and what was given so far; at the end `finish` gives the last piece.
+/// A stream gives the pieces of all its elements, call after call and block after block. A loop keeps `GivesAll` of the elements that
+/// have come, those that are open, and what was given so far; behind it `last` and `no_last` say what all that was given is.
 pub fn streams_give<T, V>()
     ensures none { (p : T → T → Bool) (f : V → List T → V) (start : V) (before : List T) → GivesAll p f start before before [] }
     ensures more { (p : T → T → Bool) (f : V → List T → V) (start : V) (before mid after : List T) (given : List (T × V)) (s : T × V)

@@ -1,4 +1,5 @@
-use Rattle.std.proofs.Common.{rules, ◌≡◌, ℕ, ◌+◌, ◌<◌, List, Bor, length, get_or, ◌-◌, ◌^◌, [], ◌∷◌, ◌++◌, flat_map, take, nat_eq, sym, ap, ◌∙◌, append-nil}
+use Rattle.std.proofs.Common.{rules, ◌≡◌, ℕ, ◌+◌, ◌-◌, ◌^◌, ◌<◌, nat_eq, List, [], ◌∷◌, ◌++◌, length, get_or, take, flat_map, Bor}
+use Rattle.std.proofs.Common.{sym, ap, ◌∙◌, append-nil}
 use Rattle.std.proofs.lemmas.Grind.{flat_map-append}
 use Rattle.std.proofs.lemmas.List.{take_more, take_all}
 use Rattle.example_walks.specs.Runs.{longer}
@@ -38,7 +39,8 @@ returns g c =
     let all : take c.loop-block.block-index c.args.blocks.now ≡ c.args.blocks.now = take_all _ _ (search rules) in
     elim c.match-finish.branch [
       | in-Some+in_ok-push w ↦
-          let items : c.match-finish.runs.items ≡ c.loop-block.runs.items ++ w.in-Some.run' ∷ [] = search (rules, w.runs-is, w.push.ensures.items, w.in_ok-push.was) in
+          let items : c.match-finish.runs.items ≡ c.loop-block.runs.items ++ w.in-Some.run' ∷ [] =
+          search (rules, w.runs-is, w.push.ensures.items, w.in_ok-push.was) in
           rw items (rw all at (c.streams_give.ensures.last nat_eq longer 0 _ left _ w.in-Some.run' given (rw w.in-Some.is at last)))
       | in_default w ↦
           rw w.runs-is (rw all at (c.streams_give.ensures.no_last nat_eq longer 0 _ left _ given (rw w.in_default.is at last)))

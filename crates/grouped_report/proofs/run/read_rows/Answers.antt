@@ -1,9 +1,9 @@
 use Rattle.std.proofs.Common.{◌∷◌, [], ◌++◌, append_assoc, append-nil, arith}
 use Rattle.program_parts.proofs.Given.{none_found, some_found}
-use Rattle.program_parts.proofs.KeptSoFar.{none_so_far, one_kept, one_left}
+use Rattle.program_parts.proofs.KeptSoFar.{none_so_far, one_kept, one_left, are_read}
 use Rattle.grouped_report.specs.Runs.{SaysRow, IsNoRow}
 use Rattle.grouped_report.specs.Words.{words}
-use Rattle.grouped_report.proofs.Reading.{same_self, same_then, same_more, are_rows}
+use Rattle.grouped_report.proofs.Reading.{same_self, same_then, same_more}
 use Rattle.grouped_report.proofs.run.read_rows.Goals as goal
 use Rattle.grouped_report.proofs.run.read_rows.Goals.{in-Ok+in_ok-add-in-Ok, in-Err+in_ok-complain-in-Err}
 
@@ -14,7 +14,7 @@ pub returns-then-not-branch : goal.returns-then-not-branch
 returns-then-not-branch g c =
     let so_far = c.loop.invariant in
     let end = none_found _ c.in_ok-advance.field-0 c.in_ok-advance.ensures.found c.if-not-branch.true in
-    (so_far.0, so_far.1, are_rows _ _ _ _ _ so_far.0 c.loop.is_whole so_far.2 end)
+    (so_far.0, so_far.1, are_read SaysRow IsNoRow words _ _ _ _ _ so_far.0 c.loop.is_whole so_far.2 end)
 
 pub loop-preserved : goal.loop-preserved
 loop-preserved g c =

@@ -2,12 +2,11 @@ use Rattle.std.proofs.Common.{arith, refl, ◌∷◌, [], ◌++◌, length-appen
 use Rattle.std.proofs.KnownBytes.{Appends-nil}
 use Rattle.program_parts.proofs.Appended.{appends_both, appends_last}
 use Rattle.program_parts.proofs.Given.{none_found, some_found}
-use Rattle.program_parts.proofs.KeptSoFar.{none_so_far, one_kept, one_left}
+use Rattle.program_parts.proofs.KeptSoFar.{none_so_far, one_kept, one_left, are_read}
 use Rattle.index_reader.specs.Answers.{answer_line}
 use Rattle.index_reader.specs.Keys.{of_key}
 use Rattle.index_reader.specs.Runs.{SaysQuery, IsNoQuery, answers, count_line}
 use Rattle.index_reader.specs.Words.{words}
-use Rattle.index_reader.proofs.Reading.{are_read}
 use Rattle.index_reader.proofs.run.answer_queries.Goals as goal
 use Rattle.index_reader.proofs.run.answer_queries.Goals.{in-Ok+in_ok-write_answer-in-Ok, in-Err+in_ok-complain-in-Err}
 
@@ -21,7 +20,7 @@ returns-then-not-branch g c =
       keys,
       appends_both _ _ _ (answers c.args.index.now keys) (count_line keys) writes
           (rw count at c.in_ok-write_count.ensures),
-      are_read SaysQuery IsNoQuery _ _ _ _ _ keys c.loop.is_whole s end,
+      are_read SaysQuery IsNoQuery words _ _ _ _ _ keys c.loop.is_whole s end,
     )
 
 pub loop-preserved : goal.loop-preserved

@@ -1,9 +1,8 @@
 use Rattle.std.proofs.Common.{arith}
 use Rattle.program_parts.proofs.Given.{none_found, some_found}
-use Rattle.program_parts.proofs.KeptSoFar.{none_so_far, one_kept, one_left}
+use Rattle.program_parts.proofs.KeptSoFar.{none_so_far, one_kept, one_left, are_read}
 use Rattle.index_reader.specs.Runs.{SaysEntry, IsNoEntry}
 use Rattle.index_reader.specs.Words.{words}
-use Rattle.index_reader.proofs.Reading.{are_read}
 use Rattle.index_reader.proofs.run.read_index.Goals as goal
 use Rattle.index_reader.proofs.run.read_index.Goals.{in-Ok+in_ok-push-in-Ok, in-Err+in_ok-complain-in-Err}
 
@@ -12,7 +11,7 @@ loop-init g c = rw c.new-index.ensures (rw c.requires (none_so_far SaysEntry IsN
 
 pub returns-then-not-branch : goal.returns-then-not-branch
 returns-then-not-branch g c =
-    are_read SaysEntry IsNoEntry _ _ _ _ _ c.loop.index c.loop.is_whole c.loop.invariant
+    are_read SaysEntry IsNoEntry words _ _ _ _ _ c.loop.index c.loop.is_whole c.loop.invariant
     (none_found _ c.in_ok-advance.field-0 c.in_ok-advance.ensures.found c.if-not-branch.true)
 
 pub loop-preserved : goal.loop-preserved

@@ -8,7 +8,15 @@ use Rattle.run_length_coder.proofs.CodedRuns.{Codes-none, Codes-more, Codes-tran
 use Rattle.run_length_coder.proofs.encoder.encode_runs.Goals as goal
 
 pub loop-init : goal.loop-init
-loop-init g c = ([], [], Consumes-nil _, c.new-runs.ensures.begins longer_len c.requires.folds (c.folds_add_up.ensures.lengths_checked (2 ^ 64)), c.new-runs.ensures.may_go_on, Codes-none _ [], search rules)
+loop-init g c = (
+  [],
+  [],
+  Consumes-nil _,
+  c.new-runs.ensures.begins longer_len c.requires.folds (c.folds_add_up.ensures.lengths_checked (2 ^ 64)),
+  c.new-runs.ensures.may_go_on,
+  Codes-none _ [],
+  search rules,
+)
 
 pub write_ended-requires : goal.write_ended-requires
 write_ended-requires g c = let (bytes, left, read, open_bytes, may, so_far, room) = c.loop.invariant in may
@@ -33,7 +41,8 @@ returns-then-len-eq0 g c =
     let (block, end) = c.in_ok-len.ensures.bytes in
     let none = c.if-len-eq0.true in
     on_ok_weaker c.write_last.result
-    (λ written. Consumes-whole _ _ bytes (λ l. Appends (g.W.Write.contents c.args.out.now) (g.W.Write.contents c.write_last.new.out) (coded l))
+    (λ written. Consumes-whole _ _ bytes
+    (λ l. Appends (g.W.Write.contents c.args.out.now) (g.W.Write.contents c.write_last.new.out) (coded l))
     (rw append-nil at (Consumes-trans _ _ _ bytes [] read (rw none at block))) (end none (omega (arith, room)))
     (coded_at_end _ _ _ bytes left so_far (written left open_bytes)))
     c.write_last.ensures

@@ -33,7 +33,8 @@ module _ (g : Over) (c : goal.After-flush g) where
 
 pub returns-clause-bytes : goal.returns-clause-bytes
 returns-clause-bytes g c =
-    on_ok c.flush.result (where_known _ (λ text. IsTally text c.in_ok-tally.tally) _ (λ text t. printed g c text t.counts) c.in_ok-tally.ensures)
+    on_ok c.flush.result
+    (where_known _ (λ text. IsTally text c.in_ok-tally.tally) _ (λ text t. printed g c text t.counts) c.in_ok-tally.ensures)
 
 pub returns-clause-characters : goal.returns-clause-characters
 returns-clause-characters g c =

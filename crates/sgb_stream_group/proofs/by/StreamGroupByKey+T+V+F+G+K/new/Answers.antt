@@ -9,7 +9,11 @@ returns-clause-may_go_on g c =
 pub returns-clause-begins : goal.returns-clause-begins
 returns-clause-begins g c k f computes folds adds =
     record {
-      settled = record { judge = rw c.new.ensures (key_settled g.G.FnMut g.K.PartialEq.eq k _ c.args.key computes); fold = folds; adds_up = adds };
+      settled = record {
+        judge = rw c.new.ensures (key_settled g.G.FnMut g.K.PartialEq.eq k _ c.args.key computes);
+        fold = folds;
+        adds_up = adds;
+      };
       begins = refl;
       is_open = refl;
     }

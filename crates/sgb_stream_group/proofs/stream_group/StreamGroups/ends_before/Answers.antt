@@ -1,5 +1,6 @@
 use Rattle.std.proofs.Common.{not, [], ◌∷◌, refl, ap}
 use Rattle.sgb_search.proofs.Questions.Runs.{may_now}
+use Rattle.sgb_stream_group.proofs.Calls.{not_not}
 use Rattle.sgb_stream_group.proofs.States.{callable_after, computes_after, answered}
 use Rattle.sgb_stream_group.proofs.stream_group.StreamGroups.ends_before.Goals as goal
 
@@ -10,7 +11,8 @@ pub returns-in-Some-clause-may_go_on : goal.returns-in-Some-clause-may_go_on
 returns-in-Some-clause-may_go_on g c = record {
   judge =
       callable_after g.J.Judge c.args.self.now.judge c.ask.new.self (((c.in-Some.last, c.args.element.now), c.ask.result) ∷ [])
-      (may_now g.J.Judge.may_ask g.J.Judge.answers _ c.args.self.now.judge _ c.requires.judge tt, (_, c.ask.ensures, refl)) c.requires.judge;
+      (may_now g.J.Judge.may_ask g.J.Judge.answers _ c.args.self.now.judge _ c.requires.judge tt, (_, c.ask.ensures, refl))
+      c.requires.judge;
   fold = c.requires.fold;
 }
 
@@ -31,4 +33,5 @@ returns-in-Some-clause-says g c p f m =
 
 pub returns-in-Some-clause-asks : goal.returns-in-Some-clause-asks
 returns-in-Some-clause-asks g c =
-    rw c.in-Some.is (((c.in-Some.last, c.args.element.now), c.ask.result) ∷ [], (may_now g.J.Judge.may_ask g.J.Judge.answers _ c.args.self.now.judge _ c.requires.judge tt, (_, c.ask.ensures, refl)), refl)
+    rw (c.in-Some.is, not_not c.ask.result)
+    (may_now g.J.Judge.may_ask g.J.Judge.answers _ c.args.self.now.judge _ c.requires.judge tt, (_, c.ask.ensures, refl))

@@ -1,21 +1,27 @@
-use Rattle.std.proofs.Common.{◌≤◌, length, refl, arith}
+use Rattle.std.proofs.Common.{◌≤◌, length, arith}
 use Rattle.sgb_search.specs.declared.end.End.TheVariants.{Front}
 use Rattle.sgb_search.specs.Questions.{questions, IsRun}
-use Rattle.sgb_stream_group.proofs.Parts.{folded_nothing, folded_so_far, whole_range, goes_to_group, asked, HasFolded}
+use Rattle.sgb_stream_group.proofs.Parts.{folded_nothing, folded_so_far, whole_range, goes_to_group, last_taken, HasFolded}
 use Rattle.sgb_stream_group.proofs.States.{callable_after, computes_after, answered, takes_after, returns_after}
 use Rattle.sgb_stream_group.proofs.stream_group.StreamGroups.take_part.Goals as goal
 use Rattle.sgb_stream_group.proofs.stream_group.StreamGroups.take_part.Goals.{in-Some, in-None}
 
 pub returns-clause-may_go_on : goal.returns-clause-may_go_on
 returns-clause-may_go_on g c = record {
-  judge = callable_after g.J.Judge c.args.self.now.judge c.first_len-len.new.self _ c.first_len-len.ensures.asked c.requires.may_go_on.judge;
-  fold = takes_after g.F.FnMut c.args.self.now.fold (c.match-self.value, (c.split_at.result.0, tt)) c.fold.result c.fold.new.self c.fold.ensures c.requires.may_go_on.fold;
+  judge =
+      callable_after g.J.Judge c.args.self.now.judge c.first_len-len.new.self _ c.first_len-len.ensures.asked
+      c.requires.may_go_on.judge;
+  fold =
+      takes_after g.F.FnMut c.args.self.now.fold (c.match-self.value, (c.split_at.result.0, tt)) c.fold.result c.fold.new.self
+      c.fold.ensures c.requires.may_go_on.fold;
 }
 
 pub returns-clause-settled : goal.returns-clause-settled
 returns-clause-settled g c p f m = record {
   judge = computes_after g.J.Judge c.args.self.now.judge c.first_len-len.new.self _ c.first_len-len.ensures.asked p m.judge;
-  fold = (returns_after g.F.FnMut c.args.self.now.fold (c.match-self.value, (c.split_at.result.0, tt)) c.fold.result c.fold.new.self c.fold.ensures _ m.fold).1;
+  fold =
+      (returns_after g.F.FnMut c.args.self.now.fold (c.match-self.value, (c.split_at.result.0, tt)) c.fold.result c.fold.new.self
+      c.fold.ensures _ m.fold).1;
   adds_up = m.adds_up;
 }
 
@@ -45,5 +51,11 @@ returns-clause-asks g c =
     let n = c.first_len-len.result in
     let within : n ≤ length block = omega (arith, c.first_len-len.ensures.within) in
     let run : IsRun g.J.Judge.may_ask g.J.Judge.answers c.args.self.now.judge (questions Front block n) c.first_len-len.new.self =
-    rw (whole_range block) at c.first_len-len.ensures.asked in
-    (length (questions Front block n), (questions Front block n, run, refl), rw c.split_at.ensures.back (asked block n c.first_len-len.ensures.nonempty within))
+    rw (whole_range block) at c.first_len-len.ensures.asked in (
+      n,
+      c.first_len-len.ensures.nonempty,
+      within,
+      run,
+      c.split_at.ensures.back,
+      last_taken block n c.first_len-len.ensures.nonempty within c.index-part-len.result (rw c.split_at.ensures.front at c.index-part-len.is),
+    )
