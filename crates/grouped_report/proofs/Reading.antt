@@ -39,12 +39,12 @@ same_more xs ys row p = record {
 }
 
 -- their report is written
-pub reports : (a before written after c d : Option (List ℕ)) (rows sums : List Entry) (w : Bool)
-    → IfSome a (λ bytes. AreRows bytes rows w c d) → SaysTheSame rows sums → IsReport sums
+pub reports : (name : List ℕ) (a before written after c d : Option (List ℕ)) (rows sums : List Entry) (w : Bool)
+    → IfSome a (λ bytes. AreRows name bytes rows w c d) → SaysTheSame rows sums → IsReport sums
     → Appends before written (flat_map sum_line sums ++ total_line sums) → Keeps written after
-    → IfSome a (λ bytes. Reports bytes w before after c d)
-reports None before written after c d rows sums w read same is_report writes keeps = tt
-reports (Some bytes) before written after c d rows sums w read same is_report writes keeps = record {
+    → IfSome a (λ bytes. Reports name bytes w before after c d)
+reports name None before written after c d rows sums w read same is_report writes keeps = tt
+reports name (Some bytes) before written after c d rows sums w read same is_report writes keeps = record {
   rows = rows;
   are_rows = read;
   sums = sums;

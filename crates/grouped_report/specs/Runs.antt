@@ -16,14 +16,14 @@ SaysRow before line row = Says line row.department row.amount
 abbrev pub IsNoRow : List Entry → List ℕ → PairError → Type 0
 IsNoRow before line problem = IsWrong line problem
 
--- these are the rows that the lines of the bytes say; each other line is complained of, and `is_whole` says whether there is none
-abbrev pub AreRows : List ℕ → List Entry → Bool → Option (List ℕ) → Option (List ℕ) → Type 0
-AreRows = AreRead SaysRow IsNoRow words
+-- these are the rows that the lines of a file of this name say; each other line is complained of, and `is_whole` says whether there is none
+abbrev pub AreRows : List ℕ → List ℕ → List Entry → Bool → Option (List ℕ) → Option (List ℕ) → Type 0
+AreRows name = AreRead SaysRow IsNoRow name words
 
 -- the report of these rows is written
-pub record Reports (bytes : List ℕ) (is_whole : Bool) (before after said_before said_after : Option (List ℕ)) : Type 0 where
+pub record Reports (name bytes : List ℕ) (is_whole : Bool) (before after said_before said_after : Option (List ℕ)) : Type 0 where
   pub rows : List Entry
-  pub are_rows : AreRows bytes rows is_whole said_before said_after
+  pub are_rows : AreRows name bytes rows is_whole said_before said_after
   pub sums : List Entry
   pub same : SaysTheSame rows sums
   pub is_report : IsReport sums

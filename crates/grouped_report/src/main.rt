@@ -21,12 +21,19 @@ use std::process::ExitCode;
 
 fn main(rt: HostRuntime) -> io::Result<ExitCode> {
     let mut words = arguments(&rt)?;
-    let Some(input) = open_input(&rt, "grouped_report", &mut words, &[]) else {
+    let Some((name, input)) = open_input(&rt, "grouped_report", &mut words, &[])? else {
         return Ok(ExitCode::from(1));
     };
     let input = BufReader::new(rt.alloc(), input)?;
     let mut out = BufWriter::new(rt.alloc(), io::writer(&rt))?;
     let mut complaints = BufWriter::new(rt.alloc(), rt.stderr())?;
-    let status = program::run(rt.alloc(), &words, input, &mut out, &mut complaints);
+    let status = program::run(
+        rt.alloc(),
+        &words,
+        &name,
+        input,
+        &mut out,
+        &mut complaints,
+    );
     Ok(ExitCode::from(status))
 }

@@ -30,12 +30,13 @@ it is where reading or writing fails. It is 2 where an argument is not known.
 pub fn run<R: BufRead + Drop, W: Write, E: Write>(
     alloc: Global,
     words: &[String],
+    name: &str,
     input: R,
     out: &mut W,
     complaints: &mut E,
 ) -> u8
     ensures whole { words.now ≡ [] → result ≡ 0 → IfSome (R.remaining input)
-        (λ bytes. Reports bytes true (W.contents out.old) (W.contents out.new)
+        (λ bytes. Reports name.now bytes true (W.contents out.old) (W.contents out.new)
         (E.contents complaints.old) (E.contents complaints.new)) }
     ensures help { IsOnly words.now (codes "--help") → result ≡ 0
         → Appends (W.contents out.old) (W.contents out.new) USAGE.now }
@@ -43,7 +44,7 @@ pub fn run<R: BufRead + Drop, W: Write, E: Write>(
         → (result ≡ 2) × (W.contents out.new ≡ W.contents out.old) }
 {
     let done = if words.is_empty() {
-        report_rows(alloc, input, out, complaints)
+        report_rows(alloc, name, input, out, complaints)
     } else if is_only(words, "--help") {
         write_all(out, USAGE).and(Ok(true))
     } else {

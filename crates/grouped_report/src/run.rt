@@ -16,17 +16,18 @@ use std::io::{BufRead, Write};
 /// the end. What is left out goes to the complaints, and `false` says that there is some.
 pub fn report_rows<R: BufRead + Drop, W: Write, E: Write>(
     alloc: Global,
+    name: &str,
     input: R,
     out: &mut W,
     complaints: &mut E,
 ) -> io::Result<bool>
     ensures { IfOk result (λ is_whole. IfSome (R.remaining input)
-        (λ bytes. Reports bytes is_whole (W.contents out.old) (W.contents out.new)
+        (λ bytes. Reports name.now bytes is_whole (W.contents out.old) (W.contents out.new)
         (E.contents complaints.old) (E.contents complaints.new))) }
 {
     let mut lines = Lines::new(alloc, input);
     let mut sums = Sums::new(alloc);
-    let is_whole = read_rows(alloc, &mut lines, &mut sums, complaints)?;
+    let is_whole = read_rows(alloc, name, &mut lines, &mut sums, complaints)?;
     write_report(&sums.report(alloc)?, out)?;
     out.flush()?;
     Ok(is_whole)
@@ -35,13 +36,14 @@ pub fn report_rows<R: BufRead + Drop, W: Write, E: Write>(
 // Adds each row up to the end of the input. Whether each line was one.
 fn read_rows<R: BufRead, E: Write>(
     alloc: Global,
+    name: &str,
     lines: &mut Lines<R>,
     sums: &mut Sums,
     complaints: &mut E,
 ) -> io::Result<bool>
     requires { lines.old.number ≡ 0 }
     ensures { IfOk result (λ is_whole. (rows : List Entry) × SaysTheSame (sums.old ++ rows) sums.new
-        × IfSome (R.remaining lines.old.reader) (λ bytes. AreRows bytes rows is_whole
+        × IfSome (R.remaining lines.old.reader) (λ bytes. AreRows name.now bytes rows is_whole
         (E.contents complaints.old) (E.contents complaints.new))) }
 {
     let mut is_whole = true;
@@ -52,7 +54,7 @@ fn read_rows<R: BufRead, E: Write>(
         match parse_row(&lines.line) {
             Ok(row) => sums.add(alloc, row)?,
             Err(problem) => {
-                complain(complaints, lines.number, problem)?;
+                complain(complaints, name, lines.number, problem)?;
                 is_whole = false;
             }
         }

@@ -8,16 +8,16 @@ use Rattle.index_reader.specs.Runs.{SaysEntry, IsNoEntry, SaysQuery, IsNoQuery, 
 use Rattle.index_reader.specs.Words.{words}
 
 -- the answers to the queries, by the index
-pub answered : (a b before written after c d e : Option (List ℕ)) (index : List Entry) (w v is_whole : Bool)
-    → IfSome a (λ bytes. AreRead SaysEntry IsNoEntry words bytes index w c d)
+pub answered : (l r : List ℕ) (a b before written after c d e : Option (List ℕ)) (index : List Entry) (w v is_whole : Bool)
+    → IfSome a (λ bytes. AreRead SaysEntry IsNoEntry l words bytes index w c d)
     → is_whole ≡ (w && v)
     → ((keys : List ℕ) × Appends before written (answers index keys ++ count_line keys)
-    × IfSome b (λ bytes. AreRead SaysQuery IsNoQuery words bytes keys v d e))
+    × IfSome b (λ bytes. AreRead SaysQuery IsNoQuery r words bytes keys v d e))
     → Keeps written after
-    → IfSome a (λ entries. IfSome b (λ asked. Answers entries asked is_whole before after c e))
-answered None b before written after c d e index w v is_whole i whole (keys, writes, read) keeps = tt
-answered (Some bytes) None before written after c d e index w v is_whole i whole (keys, writes, read) keeps = tt
-answered (Some bytes) (Some asked) before written after c d e index w v is_whole i whole (keys, writes, read) keeps = record {
+    → IfSome a (λ entries. IfSome b (λ asked. Answers l entries r asked is_whole before after c e))
+answered l r None b before written after c d e index w v is_whole i whole (keys, writes, read) keeps = tt
+answered l r (Some bytes) None before written after c d e index w v is_whole i whole (keys, writes, read) keeps = tt
+answered l r (Some bytes) (Some asked) before written after c d e index w v is_whole i whole (keys, writes, read) keeps = record {
   index = index;
   keys = keys;
   are_entries = w;

@@ -35,14 +35,14 @@ count_line keys = count_text (min (length keys) (2 ^ 64 - 1))
 
 -- The answers are written to the queries that are kept of the lines of the one file, by the entries that are kept of those of the other;
 -- each other line is complained of, first those of the index, and `is_whole` says whether there is none.
-pub record Answers (entries queries : List ℕ) (is_whole : Bool) (before after said_before said_after : Option (List ℕ)) : Type 0
+pub record Answers (index_name entries queries_name queries : List ℕ) (is_whole : Bool) (before after said_before said_after : Option (List ℕ)) : Type 0
   where
     pub index : List Entry
     pub keys : List ℕ
     pub are_entries : Bool
     pub are_queries : Bool
     pub said : Option (List ℕ)
-    pub reads_index : AreRead SaysEntry IsNoEntry words entries index are_entries said_before said
-    pub reads_queries : AreRead SaysQuery IsNoQuery words queries keys are_queries said said_after
+    pub reads_index : AreRead SaysEntry IsNoEntry index_name words entries index are_entries said_before said
+    pub reads_queries : AreRead SaysQuery IsNoQuery queries_name words queries keys are_queries said said_after
     pub writes : Appends before after (answers index keys ++ count_line keys)
     pub whole : is_whole ≡ (are_entries && are_queries)

@@ -21,7 +21,7 @@ fn main(rt: HostRuntime) -> io::Result<ExitCode> {
     let words = arguments(&rt)?;
     let mut out = BufWriter::new(rt.alloc(), rt.stdout())?;
     let mut complaints = BufWriter::new(rt.alloc(), rt.stderr())?;
-    let (index, queries) = match words.as_slice() {
+    let (index_name, queries_name) = match words.as_slice() {
         [index] if !index.starts_with("--") => (index.as_str(), "-"),
         [index, queries] => (index.as_str(), queries.as_str()),
         _ => {
@@ -29,14 +29,22 @@ fn main(rt: HostRuntime) -> io::Result<ExitCode> {
             return Ok(ExitCode::from(status));
         }
     };
-    let Some(index) = open_named(&rt, "index_reader", index) else {
+    let Some(index) = open_named(&rt, "index_reader", index_name) else {
         return Ok(ExitCode::from(1));
     };
-    let Some(queries) = open_named(&rt, "index_reader", queries) else {
+    let Some(queries) = open_named(&rt, "index_reader", queries_name) else {
         return Ok(ExitCode::from(1));
     };
     let index = BufReader::with_capacity(rt.alloc(), 65536, index)?;
     let queries = BufReader::with_capacity(rt.alloc(), 65536, queries)?;
-    let status = program::run(rt.alloc(), index, queries, &mut out, &mut complaints);
+    let status = program::run(
+        rt.alloc(),
+        index_name,
+        index,
+        queries_name,
+        queries,
+        &mut out,
+        &mut complaints,
+    );
     Ok(ExitCode::from(status))
 }

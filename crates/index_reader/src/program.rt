@@ -32,16 +32,18 @@ where reading or writing fails. It is 2 where an argument is not known.
 /// wrong is said in lines of complaint.
 pub fn run<I: BufRead + Drop, Q: BufRead + Drop, W: Write, E: Write>(
     alloc: Global,
+    index_name: &str,
     index: I,
+    queries_name: &str,
     queries: Q,
     out: &mut W,
     complaints: &mut E,
 ) -> u8
     ensures { result ≡ 0 → IfSome (I.remaining index) (λ entries. IfSome (Q.remaining queries)
-        (λ asked. Answers entries asked true (W.contents out.old) (W.contents out.new)
+        (λ asked. Answers index_name.now entries queries_name.now asked true (W.contents out.old) (W.contents out.new)
         (E.contents complaints.old) (E.contents complaints.new))) }
 {
-    let done = answer_all(alloc, index, queries, out, complaints);
+    let done = answer_all(alloc, index_name, index, queries_name, queries, out, complaints);
     status_of("index_reader", done, complaints)
 }
 

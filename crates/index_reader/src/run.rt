@@ -20,19 +20,21 @@ use std::io::{BufRead, Write};
 /// too high, up to a key that is no lower. Each complaint has both keys.
 pub fn answer_all<I: BufRead + Drop, Q: BufRead + Drop, W: Write, E: Write>(
     alloc: Global,
+    index_name: &str,
     index: I,
+    queries_name: &str,
     queries: Q,
     out: &mut W,
     complaints: &mut E,
 ) -> io::Result<bool>
     ensures { IfOk result (λ is_whole. IfSome (I.remaining index) (λ entries. IfSome (Q.remaining queries)
-        (λ asked. Answers entries asked is_whole (W.contents out.old) (W.contents out.new)
+        (λ asked. Answers index_name.now entries queries_name.now asked is_whole (W.contents out.old) (W.contents out.new)
         (E.contents complaints.old) (E.contents complaints.new)))) }
 {
     let mut entry_lines = Lines::new(alloc, index);
-    let (index, are_entries) = read_index(alloc, &mut entry_lines, complaints)?;
+    let (index, are_entries) = read_index(alloc, index_name, &mut entry_lines, complaints)?;
     let mut query_lines = Lines::new(alloc, queries);
-    let are_queries = answer_queries(&index, &mut query_lines, out, complaints)?;
+    let are_queries = answer_queries(&index, queries_name, &mut query_lines, out, complaints)?;
     out.flush()?;
     Ok(are_entries && are_queries)
 }
@@ -40,11 +42,12 @@ pub fn answer_all<I: BufRead + Drop, Q: BufRead + Drop, W: Write, E: Write>(
 // Reads entries up to the end. Whether each line was one.
 fn read_index<R: BufRead, E: Write>(
     alloc: Global,
+    name: &str,
     lines: &mut Lines<R>,
     complaints: &mut E,
 ) -> io::Result<(Index, bool)>
     requires { lines.old.number ≡ 0 }
-    ensures { IfOk result (λ read. IfSome (R.remaining lines.old.reader) (λ bytes. AreRead SaysEntry IsNoEntry words bytes
+    ensures { IfOk result (λ read. IfSome (R.remaining lines.old.reader) (λ bytes. AreRead SaysEntry IsNoEntry name.now words bytes
         read.0 read.1 (E.contents complaints.old) (E.contents complaints.new))) }
 {
     let mut index = Index::new(alloc);
@@ -56,7 +59,7 @@ fn read_index<R: BufRead, E: Write>(
         match next_entry(index.entries(), &lines.line) {
             Ok(entry) => index.push(entry)?,
             Err(problem) => {
-                complain(complaints, lines.number, problem)?;
+                complain(complaints, name, lines.number, problem)?;
                 is_whole = false;
             }
         }
@@ -67,6 +70,7 @@ fn read_index<R: BufRead, E: Write>(
 // Answers the queries up to the end, and writes how many there were. Whether each line was one.
 fn answer_queries<R: BufRead, W: Write, E: Write>(
     index: &Index,
+    name: &str,
     lines: &mut Lines<R>,
     out: &mut W,
     complaints: &mut E,
@@ -74,7 +78,7 @@ fn answer_queries<R: BufRead, W: Write, E: Write>(
     requires { lines.old.number ≡ 0 }
     ensures { IfOk result (λ is_whole. (keys : List ℕ)
         × Appends (W.contents out.old) (W.contents out.new) (answers index.now keys ++ count_line keys)
-        × IfSome (R.remaining lines.old.reader) (λ bytes. AreRead SaysQuery IsNoQuery words bytes keys
+        × IfSome (R.remaining lines.old.reader) (λ bytes. AreRead SaysQuery IsNoQuery name.now words bytes keys
         is_whole (E.contents complaints.old) (E.contents complaints.new))) }
 {
     let mut queries = 0u64;
@@ -90,7 +94,7 @@ fn answer_queries<R: BufRead, W: Write, E: Write>(
                 queries = queries.saturating_add(1);
             }
             Err(problem) => {
-                complain(complaints, lines.number, problem)?;
+                complain(complaints, name, lines.number, problem)?;
                 is_whole = false;
             }
         }

@@ -1,7 +1,7 @@
 -- The lines that a reader gave so far.
 use Rattle.std.proofs.Common.{◌≡◌, ◌≢◌, ◌↔◌, ℕ, Bool, true, false, IsTrue, List, [], ◌∷◌}
-use Rattle.std.proofs.Common.{◌++◌, codes, Option, None, Some, IfSome, refl, sym, subst, append_assoc, append-nil}
-use Rattle.std.specs.Io.BufRead.{first_line, DropsThrough}
+use Rattle.std.proofs.Common.{◌++◌, codes, Option, None, Some, IfSome, refl, sym, ap, ◌∙◌, subst, append_assoc, append-nil}
+use Rattle.std.specs.Io.BufRead.{first_line, drop_through, DropsThrough}
 use Rattle.std.specs.Io.KnownBytes.{IsAtEnd}
 use Rattle.program_parts.specs.Lines.{AreLines, GivesLines}
 
@@ -23,14 +23,6 @@ gives_more (Some bytes) None c given line p some first drops = absurd p
 gives_more (Some bytes) (Some unread) c given line p some first drops =
     rw drops (λ lines h. subst (AreLines bytes) (sym (append_assoc given (line ∷ []) lines)) (p (line ∷ lines) (some, first, h)))
 
--- one after another
-pub gives_both : (a b c : Option (List ℕ)) (xs ys : List (List ℕ)) → GivesLines a b xs → GivesLines b c ys → GivesLines a c (xs ++ ys)
-gives_both None b c xs ys p q = tt
-gives_both (Some bytes) None c xs ys p q = absurd p
-gives_both (Some bytes) (Some left) None xs ys p q = absurd q
-gives_both (Some bytes) (Some left) (Some rest) xs ys p q =
-    λ lines h. subst (AreLines bytes) (sym (append_assoc xs ys lines)) (p (ys ++ lines) (q lines h))
-
 -- they are all where nothing is left
 pub gives_all : (a b : Option (List ℕ)) (given : List (List ℕ)) → GivesLines a b given → IsAtEnd b → IfSome a
     (λ bytes. AreLines bytes given)
@@ -38,12 +30,14 @@ gives_all None b given p end = tt
 gives_all (Some bytes) None given p end = absurd p
 gives_all (Some bytes) (Some left) given p end = subst (AreLines bytes) (append-nil given) (p [] end)
 
--- and then these
-pub gives_then : (a b : Option (List ℕ)) (xs ys : List (List ℕ)) → GivesLines a b xs → IfSome b (λ left. AreLines left ys)
-    → IfSome a (λ bytes. AreLines bytes (xs ++ ys))
-gives_then None b xs ys p q = tt
-gives_then (Some bytes) None xs ys p q = absurd p
-gives_then (Some bytes) (Some left) xs ys p q = p ys q
+-- and stay all where one more is sought
+pub gives_same : (a b c : Option (List ℕ)) (given : List (List ℕ)) → GivesLines a b given → IsAtEnd b → DropsThrough b c 10
+    → GivesLines a c given × IfSome a (λ _. IsAtEnd c)
+gives_same None b c given p end drops = (tt, tt)
+gives_same (Some bytes) None c given p end drops = absurd p
+gives_same (Some bytes) (Some left) c given p end drops =
+    let ended : c ≡ Some [] = drops ∙ ap (λ l. Some (drop_through 10 l)) end in
+    rw ended (subst (λ l. GivesLines (Some bytes) (Some l) given) end p, refl)
 
 -- nothing is left where no line is found, and else something is
 pub none_found : (a : Option (List ℕ)) (found : Bool) → IfSome a (λ unread. IsTrue found ↔ (unread ≢ [])) → found ≡ false → IsAtEnd a

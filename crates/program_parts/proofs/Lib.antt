@@ -2,6 +2,5 @@ pub mod Appended
 pub mod Fed
 pub mod Given
 pub mod KeptSoFar
-pub mod Parts
 pub mod Written
 pub mod Yielded

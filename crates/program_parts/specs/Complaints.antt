@@ -14,16 +14,16 @@ abbrev pub none_left_out : {P : Type 0} → List (LeftOut P) → Bool
 none_left_out [] = true
 none_left_out (line ∷ lines) = false
 
--- the line of this number is left out, and why
-abbrev pub complaint : ℕ → List ℕ → List ℕ
-complaint number why = codes "line " ++ (decimal number ++ (codes " is left out: " ++ (why ++ 10 ∷ [])))
+-- the line of this number is left out of the file of this name, and why
+abbrev pub complaint : List ℕ → ℕ → List ℕ → List ℕ
+complaint name number why = name ++ (codes ": line " ++ (decimal number ++ (codes " is left out: " ++ (why ++ 10 ∷ []))))
 
--- words problem: what is said of it, if that is known
-module _ {P : Type 0} (words : P → Option (List ℕ)) where
+-- name problem: that of the file in which it is; words problem: what is said of it, if that is known
+module _ {P : Type 0} (name : P → List ℕ) (words : P → Option (List ℕ)) where
   -- the complaints of lines, one after another, if they are known
   abbrev pub complaints : List (LeftOut P) → Option (List ℕ)
   complaints [] = Some []
-  complaints (line ∷ lines) = option_map (complaint line.number) (words line.problem) ++? complaints lines
+  complaints (line ∷ lines) = option_map (complaint (name line.problem) line.number) (words line.problem) ++? complaints lines
 
   -- they are written, if they are known
   abbrev pub Complains : List (LeftOut P) → Option (List ℕ) → Option (List ℕ) → Type 0

@@ -1,6 +1,7 @@
 -- What is kept of lines, one after another, and which are left out.
-use Rattle.std.specs.Prelude.{◌≡◌, ℕ, ◌+◌, ◌-◌, ◌^◌, List, [], ◌∷◌, ◌++◌, ◌⊎◌, min}
+use Rattle.std.specs.Prelude.{◌≡◌, ℕ, ◌+◌, ◌-◌, ◌^◌, List, [], ◌∷◌, ◌++◌, ◌⊎◌, min, length, Option}
 use Rattle.program_parts.specs.Complaints.{LeftOut}
+use Rattle.program_parts.specs.Lines.{GivesLines}
 
 -- the number that a line has: all behind the line of the greatest number of 64 bits have this one too
 abbrev pub line_number : ℕ → ℕ
@@ -16,3 +17,12 @@ module _ {A P : Type 0} (Says : List A → List ℕ → A → Type 0) (IsWrong :
       × AreKept (before ++ x ∷ []) (n + 1) lines more left_out)
       ⊎ ((problem : P) × (more : List (LeftOut P)) × (left_out ≡ record { number = line_number n; problem = problem } ∷ more)
       × IsWrong before line problem × AreKept before (n + 1) lines kept more)
+
+  -- These are kept of the lines that a reader gave so far, and those are left out: whatever follows, what is kept of it comes after them.
+  -- The line that was read last has this number.
+  pub record KeptLines (before after : Option (List ℕ)) (number : ℕ) (kept : List A) (left_out : List (LeftOut P)) : Type 0 where
+    pub lines : List (List ℕ)
+    pub gives : GivesLines before after lines
+    pub counted : number ≡ line_number (length lines)
+    pub goes_on : (rest : List (List ℕ)) (more : List A) (others : List (LeftOut P)) → AreKept kept (length lines + 1) rest more others
+        → AreKept [] 1 (lines ++ rest) (kept ++ more) (left_out ++ others)

@@ -21,17 +21,22 @@ impl Read for Input {
 }
 
 /// The file that the last word names, which is taken off the words, or standard input: where that word is a dash, begins with
-/// `--`, is one of the modes, or there is none. `None` where the file cannot be opened, and a line of complaint says why.
+/// `--`, is one of the modes, or there is none. The name comes with it, a dash for standard input. `None` where the file cannot be
+/// opened, and a line of complaint says why.
 pub fn open_input(
     rt: &HostRuntime,
     program: &str,
     words: &mut Vec<String>,
     modes: &[&str],
-) -> Option<Input> {
-    match pop_file(words, modes) {
-        Some(name) => open_named(rt, program, &name),
-        None => Some(Input::Stdin(rt.stdin())),
-    }
+) -> io::Result<Option<(String, Input)>> {
+    let name = match pop_file(words, modes) {
+        Some(name) => name,
+        None => String::from_str(rt.alloc(), "-")?,
+    };
+    let Some(input) = open_named(rt, program, &name) else {
+        return Ok(None);
+    };
+    Ok(Some((name, input)))
 }
 
 /// The file of this name, or standard input if the name is a dash. `None` where it cannot be opened, and a line of complaint says why.

@@ -79,11 +79,17 @@ fn pop_if_last(bytes: &mut Vec<u8>, byte: u8) -> bool
     is_last
 }
 
-/// Says that a line is left out, and why, on a line of its own, which a buffered writer passes on in one write.
-pub fn complain<W: Write, P: Display + Drop>(out: &mut W, number: u64, problem: P) -> io::Result<()>
+/// Says that a line of the file of this name is left out, and why, on a line of its own, which a buffered writer passes on in one
+/// write.
+pub fn complain<W: Write, P: Display + Drop>(
+    out: &mut W,
+    name: &str,
+    number: u64,
+    problem: P,
+) -> io::Result<()>
     ensures { OnOk result (IfSome (P.output problem) (λ why.
-        Appends (W.contents out.old) (W.contents out.new) (complaint number why))) }
+        Appends (W.contents out.old) (W.contents out.new) (complaint name.now number why))) }
 {
-    writeln!(out, "line {number} is left out: {problem}")?;
+    writeln!(out, "{name}: line {number} is left out: {problem}")?;
     out.flush()
 }

@@ -1,9 +1,7 @@
 -- What is written of lines of runs, whatever lines they are.
-use Rattle.std.specs.Prelude.{◌≡◌, ℕ, List, [], Bool, Option, flat_map}
+use Rattle.std.specs.Prelude.{ℕ, List, Bool, Option, flat_map}
 use Rattle.std.specs.Io.KnownBytes.{Appends}
-use Rattle.program_parts.specs.Complaints.{LeftOut, none_left_out, Complains}
-use Rattle.program_parts.specs.Lines.{AreLines}
-use Rattle.program_parts.specs.Kept.{AreKept}
+use Rattle.program_parts.specs.Read.{AreRead}
 use Rattle.run_length_coder.specs.Coding.{copies}
 use Rattle.run_length_coder.specs.Lines.{Says, IsWrong}
 use Rattle.run_length_coder.specs.Words.{words}
@@ -17,14 +15,9 @@ SaysRun before line run = Says line run.count run.byte
 abbrev pub IsNoRun : List Run → List ℕ → RunError → Type 0
 IsNoRun before line error = IsWrong line error
 
--- The bytes of the runs that the lines of these bytes say are written; each other line is complained of, and `are_runs` says whether
+-- The bytes of the runs that the lines of a file of this name say are written; each other line is complained of, and `are_runs` says whether
 -- there is none.
-pub record Decodes (bytes : List ℕ) (are_runs : Bool) (before after said_before said_after : Option (List ℕ)) : Type 0 where
-  pub lines : List (List ℕ)
-  pub are_lines : AreLines bytes lines
+pub record Decodes (name bytes : List ℕ) (are_runs : Bool) (before after said_before said_after : Option (List ℕ)) : Type 0 where
   pub runs : List Run
-  pub left_out : List (LeftOut RunError)
-  pub are_kept : AreKept SaysRun IsNoRun [] 1 lines runs left_out
+  pub reads : AreRead SaysRun IsNoRun name words bytes runs are_runs said_before said_after
   pub writes : Appends before after (flat_map copies runs)
-  pub complains : Complains words left_out said_before said_after
-  pub whole : are_runs ≡ none_left_out left_out

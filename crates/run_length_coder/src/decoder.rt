@@ -11,16 +11,17 @@ use std::io;
 use std::io::{BufRead, Write};
 
 /// Writes the bytes of the runs that the lines of the input say, and gives back whether each line says one. One that
-/// says none is left out, and a line of complaint says so, and why. It keeps one line in memory,
+/// says none is left out, and a line of complaint says so, and why, with the name of the file. It keeps one line in memory,
 /// and a block of what is written.
 pub fn decode<R: BufRead, W: Write, E: Write>(
     alloc: Global,
+    name: &str,
     input: &mut R,
     out: &mut W,
     complaints: &mut E,
 ) -> io::Result<bool>
     ensures any { IfOk result (λ are_runs. IfSome (R.remaining input.old)
-        (λ bytes. Decodes bytes are_runs (W.contents out.old) (W.contents out.new)
+        (λ bytes. Decodes name.now bytes are_runs (W.contents out.old) (W.contents out.new)
         (E.contents complaints.old) (E.contents complaints.new))) }
 
     // Of what bytes were coded as, these bytes are written.
@@ -37,7 +38,7 @@ pub fn decode<R: BufRead, W: Write, E: Write>(
         match Run::parse(&lines.line) {
             Ok(run) => run.write_bytes(alloc, out)?,
             Err(error) => {
-                complain(complaints, lines.number, error)?;
+                complain(complaints, name, lines.number, error)?;
                 are_runs = false;
             }
         }

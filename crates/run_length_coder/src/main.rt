@@ -18,12 +18,19 @@ use std::process::ExitCode;
 
 fn main(rt: HostRuntime) -> io::Result<ExitCode> {
     let mut words = arguments(&rt)?;
-    let Some(input) = open_input(&rt, "run_length_coder", &mut words, &["decode"]) else {
+    let Some((name, input)) = open_input(&rt, "run_length_coder", &mut words, &["decode"])? else {
         return Ok(ExitCode::from(1));
     };
     let mut input = BufReader::with_capacity(rt.alloc(), 65536, input)?;
     let mut out = BufWriter::new(rt.alloc(), rt.stdout())?;
     let mut complaints = BufWriter::new(rt.alloc(), rt.stderr())?;
-    let status = program::run(rt.alloc(), &words, &mut input, &mut out, &mut complaints);
+    let status = program::run(
+        rt.alloc(),
+        &words,
+        &name,
+        &mut input,
+        &mut out,
+        &mut complaints,
+    );
     Ok(ExitCode::from(status))
 }

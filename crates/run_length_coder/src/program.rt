@@ -28,6 +28,7 @@ named, and left out.
 pub fn run<R: BufRead, W: Write, E: Write>(
     alloc: Global,
     words: &[String],
+    name: &str,
     input: &mut R,
     out: &mut W,
     complaints: &mut E,
@@ -37,7 +38,7 @@ pub fn run<R: BufRead, W: Write, E: Write>(
 
     // Of any input, where each line says a run.
     ensures decodes_any { IsOnly words.now (codes "decode") → result ≡ 0 → IfSome (R.remaining input.old)
-        (λ bytes. Decodes bytes true (W.contents out.old) (W.contents out.new)
+        (λ bytes. Decodes name.now bytes true (W.contents out.old) (W.contents out.new)
         (E.contents complaints.old) (E.contents complaints.new)) }
 
     // Of what bytes were coded as.
@@ -56,7 +57,7 @@ pub fn run<R: BufRead, W: Write, E: Write>(
     let done = if words.is_empty() {
         encode_all(alloc, input, out)
     } else if is_only(words, "decode") {
-        decode_all(alloc, input, out, complaints)
+        decode_all(alloc, name, input, out, complaints)
     } else if is_only(words, "--help") {
         write_all(out, USAGE).and(Ok(true))
     } else {
@@ -80,18 +81,19 @@ fn encode_all<R: BufRead, W: Write>(alloc: Global, input: &mut R, out: &mut W) -
 /// Decodes the input, and sees that all of it is written.
 fn decode_all<R: BufRead, W: Write, E: Write>(
     alloc: Global,
+    name: &str,
     input: &mut R,
     out: &mut W,
     complaints: &mut E,
 ) -> io::Result<bool>
     ensures any { IfOk result (λ are_runs. IfSome (R.remaining input.old)
-        (λ bytes. Decodes bytes are_runs (W.contents out.old) (W.contents out.new)
+        (λ bytes. Decodes name.now bytes are_runs (W.contents out.old) (W.contents out.new)
         (E.contents complaints.old) (E.contents complaints.new))) }
     ensures again { (bytes : List ℕ) → All (λ byte. byte < 2 ^ 8) bytes → length bytes < 2 ^ 64
         → R.remaining input.old ≡ Some (coded bytes)
         → IfOk result (λ are_runs. IsTrue are_runs × Appends (W.contents out.old) (W.contents out.new) bytes) }
 {
-    let are_runs = decode(alloc, input, out, complaints)?;
+    let are_runs = decode(alloc, name, input, out, complaints)?;
     out.flush()?;
     Ok(are_runs)
 }

@@ -1,6 +1,8 @@
 pub mod Input
 pub mod Joins
 pub mod Kinds
+pub mod Merging
 pub mod Rows
 pub mod Runs
+pub mod Tables
 pub mod Words

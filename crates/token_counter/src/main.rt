@@ -20,7 +20,7 @@ use std::process::ExitCode;
 
 fn main(rt: HostRuntime) -> io::Result<ExitCode> {
     let mut words = arguments(&rt)?;
-    let Some(mut input) = open_input(&rt, "token_counter", &mut words, &[]) else {
+    let Some((_, mut input)) = open_input(&rt, "token_counter", &mut words, &[])? else {
         return Ok(ExitCode::from(1));
     };
     let mut complaints = BufWriter::new(rt.alloc(), rt.stderr())?;

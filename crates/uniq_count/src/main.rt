@@ -16,7 +16,7 @@ use std::process::ExitCode;
 
 fn main(rt: HostRuntime) -> io::Result<ExitCode> {
     let mut words = arguments(&rt)?;
-    let Some(input) = open_input(&rt, "uniq_count", &mut words, &[]) else {
+    let Some((_, input)) = open_input(&rt, "uniq_count", &mut words, &[])? else {
         return Ok(ExitCode::from(1));
     };
     let mut input = BufReader::with_capacity(rt.alloc(), 65536, input)?;

@@ -8,13 +8,13 @@ use Rattle.grouped_report.proofs.run.read_rows.Goals as goal
 use Rattle.grouped_report.proofs.run.read_rows.Goals.{in-Ok+in_ok-add-in-Ok, in-Err+in_ok-complain-in-Err}
 
 pub loop-init : goal.loop-init
-loop-init g c = ([], rw (append-nil c.args.sums.now) (same_self c.args.sums.now), rw c.requires (none_so_far SaysRow IsNoRow words _ 0 _ (omega arith)))
+loop-init g c = ([], rw (append-nil c.args.sums.now) (same_self c.args.sums.now), rw c.requires (none_so_far SaysRow IsNoRow _ words _ _))
 
 pub returns-then-not-branch : goal.returns-then-not-branch
 returns-then-not-branch g c =
     let so_far = c.loop.invariant in
     let end = none_found _ c.in_ok-advance.field-0 c.in_ok-advance.ensures.found c.if-not-branch.true in
-    (so_far.0, so_far.1, are_read SaysRow IsNoRow words _ _ _ _ _ so_far.0 c.loop.is_whole so_far.2 end)
+    (so_far.0, so_far.1, are_read SaysRow IsNoRow _ words _ _ _ _ _ so_far.0 c.loop.is_whole so_far.2 end)
 
 pub loop-preserved : goal.loop-preserved
 loop-preserved g c =
@@ -32,14 +32,14 @@ loop-preserved g c =
           rw (w.sums-is, w.complaints-is, w.is_whole-is) (
             rows ++ row ∷ [],
             rw (← append_assoc c.args.sums.now rows (row ∷ [])) all,
-            one_kept SaysRow IsNoRow words _ _ _ _ _ _ _ _ rows whole line lines some found.line found.rest counts row says,
+            one_kept SaysRow IsNoRow _ words _ _ _ _ _ _ _ rows whole line lines some found.line found.rest counts row says,
           )
       | in-Err+in_ok-complain-in-Err w ↦
           let wrong = rw c.deref.ensures.value at w.in-Err.ensures.wrong in
           rw (w.sums-is, w.complaints-is, w.is_whole-is) (
             rows,
             same,
-            one_left SaysRow IsNoRow words _ _ _ _ _ _ _ _ rows whole line lines some found.line found.rest counts _ w.in-Err.problem.0 wrong
+            one_left SaysRow IsNoRow _ words _ _ _ _ _ _ _ rows whole line lines some found.line found.rest counts _ w.in-Err.problem.0 wrong
                 w.in_ok-complain-in-Err.ensures,
           )
     ]

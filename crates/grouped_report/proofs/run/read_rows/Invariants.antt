@@ -9,6 +9,6 @@ use Rattle.grouped_report.proofs.run.read_rows.Given as goal
 abbrev pub invariant-loop : goal.invariant-loop
 invariant-loop g l =
     (rows : List Entry) × SaysTheSame (l.initial.sums ++ rows) l.sums
-    × KeptSoFar SaysRow IsNoRow words (g.R.Read.remaining l.initial.lines.reader)
-    (g.R.Read.remaining l.lines.reader) 0 l.lines.number (g.E.Write.contents l.initial.complaints) (g.E.Write.contents l.complaints)
+    × KeptSoFar SaysRow IsNoRow l.name words (g.R.Read.remaining l.initial.lines.reader)
+    (g.R.Read.remaining l.lines.reader) l.lines.number (g.E.Write.contents l.initial.complaints) (g.E.Write.contents l.complaints)
     rows l.is_whole

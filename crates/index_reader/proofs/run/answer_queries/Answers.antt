@@ -11,7 +11,7 @@ use Rattle.index_reader.proofs.run.answer_queries.Goals as goal
 use Rattle.index_reader.proofs.run.answer_queries.Goals.{in-Ok+in_ok-write_answer-in-Ok, in-Err+in_ok-complain-in-Err}
 
 pub loop-init : goal.loop-init
-loop-init g c = ([], Appends-nil _, refl, rw c.requires (none_so_far SaysQuery IsNoQuery words _ 0 _ (omega arith)))
+loop-init g c = ([], Appends-nil _, refl, rw c.requires (none_so_far SaysQuery IsNoQuery _ words _ _))
 
 pub returns-then-not-branch : goal.returns-then-not-branch
 returns-then-not-branch g c =
@@ -20,7 +20,7 @@ returns-then-not-branch g c =
       keys,
       appends_both _ _ _ (answers c.args.index.now keys) (count_line keys) writes
           (rw count at c.in_ok-write_count.ensures),
-      are_read SaysQuery IsNoQuery words _ _ _ _ _ keys c.loop.is_whole s end,
+      are_read SaysQuery IsNoQuery _ words _ _ _ _ _ keys c.loop.is_whole s end,
     )
 
 pub loop-preserved : goal.loop-preserved
@@ -38,7 +38,7 @@ loop-preserved g c =
             appends_last _ _ _ (λ key. answer_line key (of_key key c.args.index.now)) keys w.in-Ok.key writes
                 (rw w.entries.ensures.entries at w.in_ok-write_answer-in-Ok.ensures),
             (let added = w.saturating_add-queries.ensures in omega (arith, count, added, length-append keys (w.in-Ok.key ∷ []))),
-            one_kept SaysQuery IsNoQuery words _ _ _ _ _ _ _ _ keys whole line s some found.line found.rest counts w.in-Ok.key
+            one_kept SaysQuery IsNoQuery _ words _ _ _ _ _ _ _ keys whole line s some found.line found.rest counts w.in-Ok.key
                 (rw c.deref.ensures.value at w.in-Ok.ensures.read),
           )
       | in-Err+in_ok-complain-in-Err w ↦
@@ -46,7 +46,7 @@ loop-preserved g c =
             keys,
             writes,
             count,
-            one_left SaysQuery IsNoQuery words _ _ _ _ _ _ _ _ keys whole line s some found.line found.rest counts _ w.in-Err.problem
+            one_left SaysQuery IsNoQuery _ words _ _ _ _ _ _ _ keys whole line s some found.line found.rest counts _ w.in-Err.problem
                 (rw c.deref.ensures.value at w.in-Err.ensures.wrong)
                 w.in_ok-complain-in-Err.ensures,
           )

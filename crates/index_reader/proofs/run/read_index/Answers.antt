@@ -7,11 +7,11 @@ use Rattle.index_reader.proofs.run.read_index.Goals as goal
 use Rattle.index_reader.proofs.run.read_index.Goals.{in-Ok+in_ok-push-in-Ok, in-Err+in_ok-complain-in-Err}
 
 pub loop-init : goal.loop-init
-loop-init g c = rw c.new-index.ensures (rw c.requires (none_so_far SaysEntry IsNoEntry words _ 0 _ (omega arith)))
+loop-init g c = rw c.new-index.ensures (rw c.requires (none_so_far SaysEntry IsNoEntry _ words _ _))
 
 pub returns-then-not-branch : goal.returns-then-not-branch
 returns-then-not-branch g c =
-    are_read SaysEntry IsNoEntry words _ _ _ _ _ c.loop.index c.loop.is_whole c.loop.invariant
+    are_read SaysEntry IsNoEntry _ words _ _ _ _ _ c.loop.index c.loop.is_whole c.loop.invariant
     (none_found _ c.in_ok-advance.field-0 c.in_ok-advance.ensures.found c.if-not-branch.true)
 
 pub loop-preserved : goal.loop-preserved
@@ -28,11 +28,11 @@ loop-preserved g c =
           let says = rw c.deref.ensures.value at w.in-Ok.ensures.says in
           let ascends = rw c.entries.ensures.entries at w.in-Ok.ensures.ascending in
           rw (w.index-is, w.complaints-is, w.is_whole-is, w.in_ok-push-in-Ok.ensures.ok)
-          (one_kept SaysEntry IsNoEntry words _ _ _ _ _ _ _ _ index whole line so_far some found.line found.rest counts
+          (one_kept SaysEntry IsNoEntry _ words _ _ _ _ _ _ _ index whole line so_far some found.line found.rest counts
           w.in-Ok.entry (says, ascends))
       | in-Err+in_ok-complain-in-Err w ↦
           let wrong = rw (c.deref.ensures.value, c.entries.ensures.entries) at w.in-Err.ensures.wrong in
           rw (w.index-is, w.complaints-is, w.is_whole-is)
-          (one_left SaysEntry IsNoEntry words _ _ _ _ _ _ _ _ index whole line so_far some found.line found.rest counts _
+          (one_left SaysEntry IsNoEntry _ words _ _ _ _ _ _ _ index whole line so_far some found.line found.rest counts _
           w.in-Err.problem wrong w.in_ok-complain-in-Err.ensures)
     ]

@@ -5,5 +5,5 @@ use Rattle.index_reader.proofs.run.read_index.Given as goal
 
 abbrev pub invariant-loop : goal.invariant-loop
 invariant-loop g l =
-    KeptSoFar SaysEntry IsNoEntry words (g.R.Read.remaining l.initial.lines.reader) (g.R.Read.remaining l.lines.reader) 0
+    KeptSoFar SaysEntry IsNoEntry l.name words (g.R.Read.remaining l.initial.lines.reader) (g.R.Read.remaining l.lines.reader)
     l.lines.number (g.E.Write.contents l.initial.complaints) (g.E.Write.contents l.complaints) l.index l.is_whole

@@ -3,7 +3,7 @@ use Rattle.std.specs.Io.KnownBytes.{Appends}
 use Rattle.std.proofs.KnownBytes.{Appends-nil}
 use Rattle.program_parts.proofs.Appended.{appends_last}
 use Rattle.program_parts.proofs.Given.{none_found, some_found}
-use Rattle.program_parts.proofs.KeptSoFar.{none_so_far, one_kept, one_left}
+use Rattle.program_parts.proofs.KeptSoFar.{none_so_far, one_kept, one_left, are_read}
 use Rattle.run_length_coder.specs.Coding.{copies}
 use Rattle.run_length_coder.specs.Decoded.{SaysRun, IsNoRun}
 use Rattle.run_length_coder.specs.Words.{words}
@@ -13,13 +13,13 @@ use Rattle.run_length_coder.proofs.decoder.decode.Goals as goal
 use Rattle.run_length_coder.proofs.decoder.decode.Goals.{in-Ok+in_ok-write_bytes-in-Ok, in-Err+in_ok-complain-in-Err}
 
 pub loop-init : goal.loop-init
-loop-init g c = (([], Appends-nil _, rw c.new-lines.ensures.number (none_so_far SaysRun IsNoRun words _ 0 _ (omega arith))), coded_none _ _)
+loop-init g c = (([], Appends-nil _, rw c.new-lines.ensures.number (none_so_far SaysRun IsNoRun _ words _ _)), coded_none _ _)
 
 pub returns-then-not-branch-clause-any : goal.returns-then-not-branch-clause-any
 returns-then-not-branch-clause-any g c =
     let ((runs, writes, s), again) = c.loop.invariant in
     let end = none_found _ c.in_ok-advance.field-0 c.in_ok-advance.ensures.found c.if-not-branch.true in
-    rw c.new-lines.ensures.reader at (decodes _ _ _ _ _ _ _ runs c.loop.are_runs writes s end)
+    rw c.new-lines.ensures.reader at (decodes _ _ _ _ _ _ runs c.loop.are_runs writes (are_read SaysRun IsNoRun _ words _ _ _ _ _ runs c.loop.are_runs s end))
 
 pub returns-then-not-branch-clause-again : goal.returns-then-not-branch-clause-again
 returns-then-not-branch-clause-again g c bytes small few known =
@@ -46,7 +46,7 @@ loop-preserved g c =
             (
               runs ++ run ∷ [],
               appends_last _ _ _ copies runs run writes copied,
-              one_kept SaysRun IsNoRun words _ _ _ _ _ _ _ _ runs whole line s some found.line found.rest counts run says,
+              one_kept SaysRun IsNoRun _ words _ _ _ _ _ _ _ runs whole line s some found.line found.rest counts run says,
             ),
             coded_more _ _ _ _ _ whole line again some found.line found.rest _ run
                 (rw (w.in-Ok.is, c.deref.ensures.value) at c.parse.ensures.written)
@@ -58,7 +58,7 @@ loop-preserved g c =
             (
               runs,
               writes,
-              one_left SaysRun IsNoRun words _ _ _ _ _ _ _ _ runs whole line s some found.line found.rest counts _ w.in-Err.error wrong
+              one_left SaysRun IsNoRun _ words _ _ _ _ _ _ _ runs whole line s some found.line found.rest counts _ w.in-Err.error wrong
                   w.in_ok-complain-in-Err.ensures,
             ),
             coded_wrong _ _ _ _ _ whole line again some found.line found.rest _ false

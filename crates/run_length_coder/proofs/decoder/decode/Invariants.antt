@@ -15,6 +15,6 @@ invariant-loop g l =
     let old = g.W.Write.contents l.initial.out in
     let new = g.W.Write.contents l.out in
     ((runs : List Run) × Appends old new (flat_map copies runs)
-    × KeptSoFar SaysRun IsNoRun words before left 0 l.lines.number (g.E.Write.contents l.initial.complaints)
+    × KeptSoFar SaysRun IsNoRun l.name words before left l.lines.number (g.E.Write.contents l.initial.complaints)
     (g.E.Write.contents l.complaints) runs l.are_runs)
     × DecodesCoded before left old new l.are_runs
