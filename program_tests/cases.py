@@ -1,20 +1,19 @@
-"""What the programs write and say, written out by hand: the program, its arguments, its input (two where it reads two files), its
-status, what it writes, and what it says on standard error."""
+"""What the programs write and say, written out by hand: the program, its arguments, its input, its status, what it writes, and what it
+says on standard error. Of two inputs the first is a file `first`, and the second standard input."""
 
-LEFT_OUT = b"line %d is left out: %s\n"
-NO_JOIN_DIVIDER = b"there is no line `--`: it has to stand between the left rows and the right ones\n"
+LEFT_OUT = b"%s: line %d is left out: %s\n"
 NO_COMMA = b"it has no comma"
 NO_TEXT = b"it is not UTF-8"
 
 
-def said(*lines):
-    """The complaints of these lines: a number and why each is left out."""
-    return b"".join(LEFT_OUT % line for line in lines)
+def said(*lines, file=b"-"):
+    """The complaints of these lines of a file: a number and why each is left out."""
+    return b"".join(LEFT_OUT % (file, *line) for line in lines)
 
 
-def utf8(*lines):
-    """The same of texts that are not ASCII."""
-    return said(*((number, why.encode()) for number, why in lines))
+def first(*lines):
+    """Those of the first file, of texts that need not be ASCII."""
+    return said(*((number, why.encode()) for number, why in lines), file=b"first")
 
 
 NO_RUN = b"it is no run: two numbers with a space between them"
@@ -26,9 +25,9 @@ WRONG_RUNS = said(
 )
 
 LOWER = 'its key %s is lower than %s, the greatest before it'
-TABLES = b"a,1\nb,2\n--\nb,3\nc,4\n"
-WRONG_TABLES = b"a,1\nno\nb,2\n--\nb,3\nnone\nc,4\n"
-WRONG_LINES = said((2, NO_COMMA), (6, NO_COMMA))
+TABLES = (b"a,1\nb,2\n", b"b,3\nc,4\n")
+WRONG_TABLES = (b"a,1\nno\nb,2\n", b"b,3\nnone\nc,4")
+WRONG_LINES = said((2, NO_COMMA)) + first((2, "it has no comma"))
 JOINED = {"inner": b"b,2,3\n", "left": b"a,1,\nb,2,3\n", "full": b"a,1,\nb,2,3\nc,,4\n", "semi": b"b,2\n", "anti": b"a,1\n"}
 
 CASES = [
@@ -52,41 +51,48 @@ CASES = [
         "grouped_report", [], b"5,6\nno\n\xff,2\n4294967296,3\n5,7\n1,\x00\n", 1, b"department 5: 13\ntotal: 13\n",
         said((2, NO_COMMA), (3, NO_TEXT), (4, b"its department is no number of 32 bits"), (6, b"its amount is no number of 64 bits")),
     ),
-    ("table_join", ["full"], b"a,1\nb,2\nb,x,y\n--\r\nb,3\r\nb,4\nc,5", 0, b"a,1,\nb,2,3\nb,2,4\nb,x,y,3\nb,x,y,4\nc,,5\n", b""),
+    ("table_join", ["full"], (b"a,1\nb,2\nb,x,y", b"b,3\r\nb,4\nc,5"), 0, b"a,1,\nb,2,3\nb,2,4\nb,x,y,3\nb,x,y,4\nc,,5\n", b""),
     *(("table_join", [kind], TABLES, 0, rows, b"") for kind, rows in JOINED.items()),
     *(("table_join", [kind], WRONG_TABLES, 1, rows, WRONG_LINES) for kind, rows in JOINED.items()),
+    ("table_join", [], TABLES, 0, JOINED["inner"], b""),
     (
-        "table_join", ["semi"], b"b,1\nno\n\xff,2\na\"\0,3\n--\nb,4\nwrong\n", 1, b"b,1\n",
-        said((2, NO_COMMA), (3, NO_TEXT), (4, (LOWER % (r'"a\"\0"', '"b"')).encode()), (7, NO_COMMA)),
+        "table_join", ["semi"], (b"b,1\nno\n\xff,2\na\"\0,3\n", b"b,4\nwrong\n"), 1, b"b,1\n",
+        said((2, NO_COMMA)) + first((2, "it has no comma"), (3, "it is not UTF-8"), (4, LOWER % (r'"a\"\0"', '"b"'))),
     ),
-    # a key is written as `{:?}` writes it
+    # a key is written as `{:?}` writes it, up to 80 bytes
     (
-        "table_join", ["anti"], "é,1\nä,2\na,3\nà\"\t\u200b,4\n--\nz,5\n".encode(), 1, "é,1\n".encode(),
-        utf8((2, LOWER % ('"ä"', '"é"')), (3, LOWER % ('"a"', '"é"')), (4, LOWER % (r'"à\"\t\u{200b}"', '"é"'))),
+        "table_join", ["anti"], ("é,1\nä,2\na,3\nà\"\t\u200b,4\n".encode(), b"z,5\n"), 1, "é,1\n".encode(),
+        first((2, LOWER % ('"ä"', '"é"')), (3, LOWER % ('"a"', '"é"')), (4, LOWER % (r'"à\"\t\u{200b}"', '"é"'))),
     ),
-    ("table_join", ["anti"], "é\"\x1b,1\na,2\n--\n".encode(), 1, "é\"\x1b,1\n".encode(), utf8((2, LOWER % ('"a"', r'"é\"\u{1b}"')))),
-    ("table_join", [], b"--\n", 0, b"", b""),
-    ("table_join", [], b"a,1\n", 1, b"", NO_JOIN_DIVIDER),
-    ("table_join", [], b"", 1, b"", NO_JOIN_DIVIDER),
-    ("table_join", [], b"--\n--\n", 1, b"", said((2, NO_COMMA))),
+    ("table_join", ["anti"], ("é\"\x1b,1\na,2\n".encode(), b""), 1, "é\"\x1b,1\n".encode(), first((2, LOWER % ('"a"', r'"é\"\u{1b}"')))),
+    (
+        "table_join", ["semi"], (b"b" * 80 + b",1\n" + b"a" * 81 + b",2\n" + "é".encode() * 41 + b",3\n" + b"c,4\n", b""), 1, b"",
+        first((2, LOWER % (f'"{"a" * 80}"..', f'"{"b" * 80}"')), (4, LOWER % ('"c"', f'"{"é" * 40}"..'))),
+    ),
+    ("table_join", [], (b"", b""), 0, b"", b""),
+    ("table_join", ["-", "-"], b"", 2, b"", b"table_join: both files cannot be standard input\n"),
     ("index_reader", [], (b"3,30\n5,51\r\n5,50\n", b"5\n4\n+3"), 0, b"5: 51 50\n4: none\n3: 30\n3 queries\n", b""),
     ("index_reader", [], (b"", b""), 0, b"0 queries\n", b""),
     ("index_reader", [], (b"1,2\n", b"1\n"), 0, b"1: 2\n1 query\n", b""),
     (
         "index_reader", [], (b"5,1\nno\n\xff,2\n-5,3\n6,x\n4,4\n--\n", b"--\n\xff\n"), 1, b"0 queries\n",
-        said(
-            (2, NO_COMMA), (3, NO_TEXT), (4, b"its key is no number of 32 bits"), (5, b"its place is no number of 64 bits"),
-            (6, (LOWER % (4, 5)).encode()), (7, NO_COMMA), (1, b"the query is no number of 32 bits"), (2, b"the query is not UTF-8"),
-        ),
+        first(
+            (2, "it has no comma"), (3, "it is not UTF-8"), (4, "its key is no number of 32 bits"), (5, "its place is no number of 64 bits"),
+            (6, LOWER % (4, 5)), (7, "it has no comma"),
+        ) + said((1, b"the query is no number of 32 bits"), (2, b"the query is not UTF-8")),
     ),
     # lines are read without their end, of which the last has none
-    ("table_join", ["anti"], b"a,\r\r\nb,\xc3\xa9\n--", 0, b"a,\r\nb,\xc3\xa9\n", b""),
+    ("table_join", ["anti"], (b"a,\r\r\nb,\xc3\xa9", b""), 0, b"a,\r\nb,\xc3\xa9\n", b""),
 ]
+
+ROWS = b"".join(b"%08d,a value of some length\n" % key for key in range(780_000))
 
 # Long inputs, and what is written of them.
 LONG = [
     ("run_length_coder", [], b"ab" * 4_000_000, b"1 97\n1 98\n" * 4_000_000),
     ("uniq_count", [], b"a line\n" * 8_000_000, b"8000000 a line\n"),
     ("grouped_report", [], b"1,1\n2,1\n" * 3_000_000, b"department 1: 3000000\ndepartment 2: 3000000\ntotal: 6000000\n"),
-    ("table_join", [], b"k,v\n" * 2000 + b"--\n" + b"k,w\n" * 2000, b"k,v,w\n" * 4_000_000),
+    ("table_join", [], (b"k,v\n" * 2000, b"k,w\n" * 2000), b"k,v,w\n" * 4_000_000),
+    # 25 MB and 25 MB
+    ("table_join", ["semi"], (ROWS, ROWS), ROWS),
 ]
