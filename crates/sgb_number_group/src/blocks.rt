@@ -3,24 +3,24 @@ ghost use Rattle.std.specs.Prelude.{◌≡◌, ◌+◌, ◌<◌, length, reverse
 ghost use Rattle.std.specs.Simd.Lanes.{mask_l, chunk};
 ghost use Rattle.sgb_numbers.specs.Boundaries.{boundaries};
 
-use sgb_numbers::lanes::Lanes;
+use sgb_numbers::masks::Masks;
 
 /// Which of 64 neighbouring pairs from the place `at` on differ.
 #[inline(always)]
-pub(crate) fn block<T: Lanes>(slice: &[T], at: usize) -> u64
+pub(crate) fn block<T, M: Masks<T>>(slice: &[T], at: usize) -> u64
     requires { at + 64 < length slice.now }
-    ensures { result ≡ mask_l (chunk at 64 (boundaries T.eq slice.now)) }
+    ensures { result ≡ mask_l (chunk at 64 (boundaries M.same slice.now)) }
 {
-    let upper = T::cuts(slice, at + 32) + 65536 * T::cuts(slice, at + 48);
-    T::cuts(slice, at) + 65536 * (T::cuts(slice, at + 16) + 65536 * upper)
+    let upper = M::cuts(slice, at + 32) + 65536 * M::cuts(slice, at + 48);
+    M::cuts(slice, at) + 65536 * (M::cuts(slice, at + 16) + 65536 * upper)
 }
 
 /// The same pairs, the last one first.
 #[inline(always)]
-pub(crate) fn block_back<T: Lanes>(slice: &[T], at: usize) -> u64
+pub(crate) fn block_back<T, M: Masks<T>>(slice: &[T], at: usize) -> u64
     requires { at + 64 < length slice.now }
-    ensures { result ≡ mask_l (reverse (chunk at 64 (boundaries T.eq slice.now))) }
+    ensures { result ≡ mask_l (reverse (chunk at 64 (boundaries M.same slice.now))) }
 {
-    let lower = T::cuts_back(slice, at + 16) + 65536 * T::cuts_back(slice, at);
-    T::cuts_back(slice, at + 48) + 65536 * (T::cuts_back(slice, at + 32) + 65536 * lower)
+    let lower = M::cuts_back(slice, at + 16) + 65536 * M::cuts_back(slice, at);
+    M::cuts_back(slice, at + 48) + 65536 * (M::cuts_back(slice, at + 32) + 65536 * lower)
 }

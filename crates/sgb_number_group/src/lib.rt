@@ -3,5 +3,6 @@
 #![tactic(auto)]
 
 mod blocks;
+pub mod by_number;
 mod fills;
 pub mod groups;

@@ -2,6 +2,7 @@
 #![tactic(auto)]
 
 pub mod lanes;
+pub mod masks;
 pub mod number_judge;
 pub mod scans;
 mod signed;

@@ -1,21 +1,19 @@
-//! The groups of equal numbers as a queue, as calls of linear groups, and with offsets.
+//! The groups by masks as a queue, as calls of linear groups, and with offsets.
 ghost use Rattle.std.specs.Prelude.{refl};
 
 use crate::laws::judged::Judged;
 use crate::laws::queue::{GroupQueue, SliceQueue};
 use crate::offsets::Offsets;
 use sgb_linear_group::linear_group::Linear;
-use sgb_number_group::groups::LinearNumberGroup;
-use sgb_numbers::lanes::Lanes;
-use sgb_numbers::number_judge::NumberJudge;
+use sgb_number_group::groups::MaskGroups;
+use sgb_numbers::masks::MaskJudge;
 
-impl<'a, T: Lanes> GroupQueue for LinearNumberGroup<'a, T> {
+impl<'a, T, J: MaskJudge<T> + Drop> GroupQueue for MaskGroups<'a, T, J> {
     type Item = &'a [T];
 
     ghost use Rattle.std.specs.Prelude.{true, length, option_copied};
     ghost use Rattle.sgb_number_group.proofs.Queue.{call};
     ghost use Rattle.sgb_number_group.specs.Gives.{groups_of, Gives};
-    ghost use Rattle.sgb_numbers.specs.Numbers.{by_number};
     ghost use Rattle.sgb_search.specs.Judges.{IsRunOf};
     ghost use Rattle.sgb_search.specs.Linear.{IsSettled, LinearQuestions};
     ghost use Rattle.sgb_search.specs.Split.{neighbours};
@@ -29,11 +27,11 @@ impl<'a, T: Lanes> GroupQueue for LinearNumberGroup<'a, T> {
 
     ghost shows = { λ group. group.now };
 
-    ghost is_settled = { λ q. IsSettled (by_number T.eq) (groups_of q) };
+    ghost is_settled = { λ q. IsSettled J.Judge (groups_of q) };
 
-    ghost gives = { Gives };
+    ghost gives = { Gives J.Judge };
 
-    ghost asked = { λ q r n. IsRunOf (by_number T.eq).may_ask (by_number T.eq).answers n (groups_of q).judge (groups_of r).judge };
+    ghost asked = { λ q r n. IsRunOf J.Judge.may_ask J.Judge.answers n (groups_of q).judge (groups_of r).judge };
 
     ghost due = { λ q. length (neighbours (groups_of q).remainder) };
 
@@ -49,39 +47,39 @@ impl<'a, T: Lanes> GroupQueue for LinearNumberGroup<'a, T> {
         self.next_back()
     }
 
-    ghost part = { λ e s group t h. part (LinearQuestions (by_number T.eq)) e (groups_of s) (option_copied group) (groups_of t)
-        (call e s group t h) };
+    ghost part = { λ e s group t h. part (LinearQuestions J.Judge) e (groups_of s) (option_copied group) (groups_of t)
+        (call J.Judge e s group t h) };
 
     ghost none = { λ _ _ _ h. h.1 };
 
-    ghost piece = { λ e s group t p h. laws.piece (by_number T.eq) e (groups_of s) (option_copied group) (groups_of t) p
-        (call e s group t h) };
+    ghost piece = { λ e s group t p h. laws.piece J.Judge e (groups_of s) (option_copied group) (groups_of t) p
+        (call J.Judge e s group t h) };
 
     ghost keeps = { λ _ _ _ _ _ _. tt };
 
-    ghost asked_none = { λ q. run_of_none (by_number T.eq).may_ask (by_number T.eq).answers (groups_of q).judge };
+    ghost asked_none = { λ q. run_of_none J.Judge.may_ask J.Judge.answers (groups_of q).judge };
 
-    ghost asked_more = { λ q r t. run_of_more (by_number T.eq).may_ask (by_number T.eq).answers (groups_of q).judge (groups_of r).judge
+    ghost asked_more = { λ q r t. run_of_more J.Judge.may_ask J.Judge.answers (groups_of q).judge (groups_of r).judge
         (groups_of t).judge };
 
     ghost asks_due = { λ e s group t h. asks_seen _ _ _ groups_of s t
-        (laws.asks (by_number T.eq) e (groups_of s) (option_copied group) (groups_of t) (call e s group t h)) };
+        (laws.asks J.Judge e (groups_of s) (option_copied group) (groups_of t) (call J.Judge e s group t h)) };
 }
 
-impl<'a, T: Lanes + 'a> SliceQueue<'a, T> for LinearNumberGroup<'a, T> {
+impl<'a, T: 'a, J: MaskJudge<T> + Drop> SliceQueue<'a, T> for MaskGroups<'a, T, J> {
     ghost shows_now = { λ _. refl };
 }
 
-impl<'a, T: Lanes> Judged<T, NumberJudge, Linear> for LinearNumberGroup<'a, T> {
+impl<'a, T, J: MaskJudge<T> + Drop> Judged<T, J, Linear> for MaskGroups<'a, T, J> {
     ghost use Rattle.sgb_number_group.proofs.Queue.{call};
     ghost use Rattle.sgb_number_group.specs.Gives.{groups_of};
 
     ghost groups = { groups_of };
 
-    ghost call = { call };
+    ghost call = { call J.Judge };
 }
 
-impl<'a, T: Lanes> Offsets for LinearNumberGroup<'a, T> {
+impl<'a, T, J: MaskJudge<T> + Drop> Offsets for MaskGroups<'a, T, J> {
     type Unit = T;
 
     ghost use Rattle.sgb_number_group.specs.Gives.{groups_of, place_of};
@@ -94,12 +92,12 @@ impl<'a, T: Lanes> Offsets for LinearNumberGroup<'a, T> {
 
     #[inline]
     fn offset(&self) -> usize {
-        LinearNumberGroup::offset(self)
+        MaskGroups::offset(self)
     }
 
     #[inline]
     fn remainder_len(&self) -> usize {
-        LinearNumberGroup::remainder_len(self)
+        MaskGroups::remainder_len(self)
     }
 
     #[inline]
