@@ -1,22 +1,18 @@
 -- Four masks of sixteen pairs as one of sixty-four.
 use Rattle.std.proofs.Common.{◌≡◌, ℕ, suc, ◌+◌, ◌-◌, ◌*◌, ◌^◌, ◌<◌, ◌≤◌, Bool, List, [], ◌∷◌, ◌++◌, length, take, drop, append_assoc, sym, ap, ◌∙◌, subst, arith}
 use Rattle.std.specs.Prelude.{reverse}
-use Rattle.std.proofs.lemmas.List.{length-map, length-reverse, reverse-append, drop-drop}
+use Rattle.std.proofs.lemmas.List.{length-reverse, reverse-append, drop-drop}
 use Rattle.std.proofs.Math.Seq.{take-add}
 use Rattle.std.proofs.lemmas.Simd.{length-chunk, mask_l-lt}
 use Rattle.std.specs.Simd.Lanes.{chunk, mask_l}
 use Rattle.std.proofs.Math.Nat.{two-pow-succ, mul_assoc}
-use Rattle.sgb_search.proofs.Lists.Pairs.{length-neighbours}
-use Rattle.sgb_search.specs.Split.{neighbours}
 use Rattle.sgb_numbers.specs.Boundaries.{boundaries}
+use Rattle.sgb_numbers.proofs.Pairs.{length-boundaries}
 
 pub chunk-add : {X : Type 0} (at m n : ℕ) (xs : List X) → chunk at (m + n) xs ≡ chunk at m xs ++ chunk (at + m) n xs
 chunk-add at m n xs =
     take-add m n (drop at xs)
     ∙ ap (λ ys. chunk at m xs ++ take n ys) (drop-drop m at xs)
-
-pub length-boundaries : {T : Type 0} (eq : T → T → Bool) (xs : List T) → length (boundaries eq xs) ≡ length xs - 1
-length-boundaries eq xs = length-map (neighbours xs) _ ∙ length-neighbours xs
 
 -- the lower sixteen bits, and those above
 abbrev pub joined : ℕ → ℕ → ℕ

@@ -38,7 +38,9 @@ pub struct MaskGroups<'a, T, J: Masks<T>> {
 }
 
 impl<'a, T, J: MaskJudge<T> + Drop> MaskGroups<'a, T, J> {
-    ghost use Rattle.sgb_search.specs.Calls.{StandsAt, at_start};
+    ghost use Rattle.sgb_search.specs.Calls.{IsCallableBy, StandsAt, at_start};
+    ghost use Rattle.sgb_search.specs.Linear.{IsSettled};
+    ghost use Rattle.sgb_search.specs.Split.{AreNeighbours};
     ghost use Rattle.sgb_number_group.specs.Gives.{groups_of, place_of};
 
     // All groups of the slice are still to come.
@@ -46,6 +48,8 @@ impl<'a, T, J: MaskJudge<T> + Drop> MaskGroups<'a, T, J> {
     pub(crate) fn with_judge(slice: &'a [T], judge: J) -> Self
         ensures remainder { (groups_of result).remainder ≡ slice.now }
         ensures place { place_of result ≡ at_start slice.now }
+        ensures callable { IsCallableBy AreNeighbours J.Judge (groups_of result) }
+        ensures settled { IsSettled J.Judge (groups_of result) J.same }
     {
         MaskGroups {
             slice,

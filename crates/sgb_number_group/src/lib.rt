@@ -1,8 +1,9 @@
-//! Groups of equal numbers by masks: sixty-four neighbouring pairs are compared at a time, and what that told is kept for the
+//! Groups of equal numbers, and of bytes of one class, by masks: sixty-four neighbouring pairs are compared at a time, and what that told is kept for the
 //! calls to come.
 #![tactic(auto)]
 
 mod blocks;
+pub mod by_class;
 pub mod by_number;
 mod fills;
 pub mod groups;

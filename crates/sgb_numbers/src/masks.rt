@@ -33,9 +33,11 @@ pub trait Masks<T> {
     ghost laws: { IsPartialEquivalence same };
 }
 
-/// A judge that may always be asked, never changes, and answers whether two elements are the same.
+/// A judge that answers whether two elements are the same: it may always be asked, and no question changes it.
 pub trait MaskJudge<T>: Judge<T> + Masks<T> {
     ghost asks: { (j : Self) (q : T × T) → Self.may_ask j q };
 
     ghost tells: { (j : Self) (q : T × T) → Self.answers j q (Self.same q.0 q.1) j };
+
+    ghost only: { (j : Self) (q : T × T) (b : Bool) (k : Self) → Self.answers j q b k → b ≡ Self.same q.0 q.1 };
 }

@@ -65,4 +65,6 @@ impl<T: Lanes> MaskJudge<T> for NumberJudge {
     ghost asks = { λ _ _. tt };
 
     ghost tells = { λ _ _. refl };
+
+    ghost only = { λ _ _ _ _ e. e };
 }

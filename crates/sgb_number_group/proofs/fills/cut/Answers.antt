@@ -1,6 +1,6 @@
 use Rattle.std.proofs.Common.{ℕ, not, sym, ap, ◌∙◌}
 use Rattle.std.proofs.lemmas.Bool.{cond-true, cond-false}
-use Rattle.sgb_number_group.proofs.Marks.{differs_at}
+use Rattle.sgb_numbers.proofs.Pairs.{differs_at}
 use Rattle.sgb_number_group.proofs.fills.cut.Goals as goal
 
 pub returns-then-same : goal.returns-then-same
