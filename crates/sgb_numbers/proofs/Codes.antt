@@ -1,10 +1,12 @@
 -- The classes of ASCII: their table, and the codes that vectors hold of them.
-use Rattle.std.proofs.Common.{◌≡◌, ℕ, zero, suc, ◌+◌, ◌<◌, cond, not, eqb, Bool, List, [], ◌∷◌, ◌++◌, length, map, get_or, refl, sym, ap, ap₂, ◌∙◌, arith, w8, Fits}
-use Rattle.std.proofs.lemmas.Simd.{zip2_splat, map-map}
+use Rattle.std.proofs.Common.{◌≡◌, ℕ, zero, suc, ◌+◌, ◌*◌, ◌/◌, ◌<◌, ◌≤◌, ◌||◌, cond, not, eqb, Bool, true, List, [], ◌∷◌, ◌++◌, length, map, get_or, refl, sym, ap, ap₂, ◌∙◌, subst, arith, w8, Fits}
+use Rattle.std.proofs.lemmas.Simd.{zip2_splat, map-map, swz_l, SwzOk, SwzOk-from_Each1}
 use Rattle.std.proofs.lemmas.List.{length-map}
 use Rattle.std.specs.Prelude.{replicate, reverse}
 use Rattle.std.specs.Ordering.{on}
-use Rattle.std.specs.Simd.Lanes.{Each1, zip2, mask_l, pick_l, sel_l}
+use Rattle.std.specs.Simd.Lanes.{Each1, zip2, mask_l, pick_l}
+use lib.Dec.{T, ltb}
+use mir.Val.{zeroes}
 use Rattle.sgb_numbers.specs.declared.ascii_classes.TheConstants.{CLASSES}
 use Rattle.sgb_numbers.specs.contracts.ascii_classes.AsciiClassPartialEq.TheImpl.{ghosts}
 use Rattle.sgb_numbers.specs.declared.ascii_classes.AsciiClass.{AsciiClass}
@@ -37,19 +39,6 @@ module _ (v : List ℕ) (long : length v ≡ 16) where
   with_splat h f y e =
       ap (λ xs. zip2 h xs (replicate 16 y)) e ∙ zip2_splat h (map f v) 16 y (length-map v f ∙ long) ∙ map-map (λ x. h x y) f v
 
-  sel_map : (t : ℕ → Bool) (x y : ℕ) (us : List ℕ) → sel_l (map t us) (replicate (length us) x) (replicate (length us) y) ≡ map (λ b. cond (t b) x y) us
-  sel_map t x y [] = refl
-  sel_map t x y (u ∷ us) = ap (λ zs. cond (t u) x y ∷ zs) (sel_map t x y us)
-
-  -- one of two numbers at each lane
-  pub selected : (t : ℕ → Bool) (f : ℕ → ℕ) (x y : ℕ) {xs : List ℕ} → xs ≡ map f v
-      → sel_l (map t xs) (replicate 16 x) (replicate 16 y) ≡ map (λ b. cond (t (f b)) x y) v
-  selected t f x y e =
-      ap (λ xs. sel_l (map t xs) (replicate 16 x) (replicate 16 y)) e
-      ∙ ap (λ bs. sel_l bs (replicate 16 x) (replicate 16 y)) (map-map t f v)
-      ∙ ap (λ (n : ℕ). sel_l (map (λ b. t (f b)) v) (replicate n x) (replicate n y)) (sym long)
-      ∙ sel_map (λ b. t (f b)) x y v
-
   pub itself : v ≡ map (λ b. b) v
   itself = same v
     where
@@ -57,15 +46,45 @@ module _ (v : List ℕ) (long : length v ≡ 16) where
       same [] = refl
       same (u ∷ us) = ap (λ zs. u ∷ zs) (same us)
 
--- two functions with the same values at all bytes do the same to each byte of a list
-map_bytes : (f g : ℕ → ℕ) → values f 0 256 ≡ values g 0 256 → (us : List ℕ) → Each1 (Fits w8) us → map f us ≡ map g us
-map_bytes f g e [] fits = refl
-map_bytes f g e (u ∷ us) fits =
-    let l : u < 256 = omega (arith, fits.0.fits) in
-    ap₂ (λ z zs. z ∷ zs)
-    (ap f {x = u} {y = 0 + u} (omega arith) ∙ sym (values_at f 0 256 u 0 l) ∙ ap (λ zs. get_or zs u 0) e ∙ values_at g 0 256 u 0 l
-    ∙ ap g {x = 0 + u} {y = u} (omega arith))
-    (map_bytes f g e us fits.1)
+-- two functions with the same values at all bytes
+module _ {X : Type 0} (f g : ℕ → X) (same : values f 0 256 ≡ values g 0 256) where
+  at_byte : (b : ℕ) → Fits w8 b → f b ≡ g b
+  at_byte b fits =
+      let l : b < 256 = omega (arith, fits.fits) in
+      ap f {x = b} {y = 0 + b} (omega arith) ∙ sym (values_at f 0 256 b (f 0) l) ∙ ap (λ zs. get_or zs b (f 0)) same
+      ∙ values_at g 0 256 b (f 0) l ∙ ap g {x = 0 + b} {y = b} (omega arith)
+
+  map_bytes : (v : List ℕ) → Each1 (Fits w8) v → map f v ≡ map g v
+  map_bytes [] fits = refl
+  map_bytes (b ∷ bs) fits = ap₂ (λ z zs. z ∷ zs) (at_byte b fits.0) (map_bytes bs fits.1)
+
+-- the place j of a table can be looked up: it is one of sixteen, or gives 0
+abbrev can_look : ℕ → Bool
+can_look j = zeroes 16 w8 j || ltb j 16
+
+-- what is found there
+abbrev look : List ℕ → ℕ → ℕ
+look table j = cond (zeroes 16 w8 j) 0 (get_or table j 0)
+
+module _ (v : List ℕ) (long : length v ≡ 16) (f : ℕ → ℕ) {js : List ℕ} (places : js ≡ map f v) where
+  pub may_look_up : Each1 (Fits w8) v → values (λ b. can_look (f b)) 0 256 ≡ values (λ b. true) 0 256 → SwzOk w8 16 16 0 js
+  may_look_up fits all =
+      SwzOk-from_Each1 w8 16 1 16 0 js (omega arith) (omega (arith, ap length places ∙ length-map v f ∙ long))
+      (subst (Each1 (λ j. T (can_look j))) (sym places) (each v fits))
+    where
+      each : (us : List ℕ) → Each1 (Fits w8) us → Each1 (λ j. T (can_look j)) (map f us)
+      each [] fits = tt
+      each (u ∷ us) fits = (subst T (sym (at_byte (λ b. can_look (f b)) (λ b. true) all u fits.0)) tt, each us fits.1)
+
+  pub looked_up : (table : List ℕ) → swz_l w8 16 table 0 js ≡ map (λ b. look table (f b)) v
+  looked_up table = ap (swz_l w8 16 table 0) places ∙ from 0 v (omega (arith, long))
+    where
+      from : (i : ℕ) (us : List ℕ) → i + length us ≤ 16 → swz_l w8 16 table i (map f us) ≡ map (λ b. look table (f b)) us
+      from i [] l = refl
+      from i (u ∷ us) l =
+          ap₂ (λ z zs. z ∷ zs)
+          (ap (λ (n : ℕ). cond (zeroes 16 w8 (f u)) 0 (get_or table n 0)) {x = 16 * (i / 16) + f u} {y = f u} (omega (arith, l)))
+          (from (suc i) us (omega (arith, l)))
 
 abbrev pub code_of : ℕ → ℕ
 code_of b = code (ascii_class b)

@@ -11,6 +11,6 @@ ascii_class b = cond (is_ascii_alphabetic b) Letter (cond (is_ascii_digit b) Dig
 -- what a vector holds for a class
 abbrev pub code : AsciiClass → ℕ
 code Letter = 1
-code Digit = 2
-code Space = 4
-code Other = 0
+code Digit = 0
+code Space = 2
+code Other = 3

@@ -62,17 +62,20 @@ impl ByteClasses for AsciiClasses {
     }
 }
 
-// The code of each byte's class.
+// A bit for the row of a byte, which is its upper four bits, and the bits that a column goes with, which is its lower four. A byte's
+// row and column share at most one bit, which gives the code of its class.
+const ROWS: [u8; 16] = [4, 0, 8, 128, 1, 2, 1, 2, 0, 0, 0, 0, 0, 0, 0, 0];
+const COLUMNS: [u8; 16] = [
+    138, 131, 131, 131, 131, 131, 131, 131, 131, 135, 7, 1, 5, 5, 1, 1,
+];
+const CODES: [u8; 16] = [3, 1, 1, 3, 2, 3, 3, 3, 2, 3, 3, 3, 3, 3, 3, 3];
+
+// The code of each byte's class. A look-up by a number of 128 or more gives 0.
 #[inline(always)]
 fn codes(bytes: u8x16) -> u8x16
     ensures { result ≡ map (λ b. code (ascii_class b)) bytes }
 {
-    let none = u8x16::splat(0);
-    let letters = ((bytes | u8x16::splat(0x20)) - u8x16::splat(b'a')).simd_le(u8x16::splat(25));
-    let digits = (bytes - u8x16::splat(b'0')).simd_le(u8x16::splat(9));
-    let controls = (bytes - u8x16::splat(b'\t')).simd_le(u8x16::splat(4));
-    let space = controls & bytes.simd_ne(u8x16::splat(11)) | bytes.simd_eq(u8x16::splat(b' '));
-    letters.select(u8x16::splat(1), none)
-        | digits.select(u8x16::splat(2), none)
-        | space.select(u8x16::splat(4), none)
+    let row = u8x16::from_array(ROWS).swizzle_dyn(bytes >> 4);
+    let column = u8x16::from_array(COLUMNS).swizzle_dyn(bytes & u8x16::splat(15));
+    u8x16::from_array(CODES).swizzle_dyn(row & column)
 }

@@ -1,17 +1,33 @@
-use Rattle.std.proofs.Common.{refl}
+use Rattle.std.proofs.Common.{ℕ, ◌/◌, ◌^◌, bit_and, refl}
 use Rattle.std.proofs.lemmas.Simd.{zip2_of_maps}
-use Rattle.sgb_numbers.proofs.Codes.{with_splat, selected, itself, codes_are}
+use Rattle.sgb_numbers.specs.declared.ascii_classes.TheConstants.{ROWS, COLUMNS, CODES}
+use Rattle.sgb_numbers.proofs.Codes.{with_splat, itself, may_look_up, looked_up, codes_are}
 use Rattle.sgb_numbers.proofs.ascii_classes.codes.Goals as goal
+
+pub swizzle-row : goal.swizzle-row
+swizzle-row c =
+    let v = c.args.bytes in
+    let long = c.fits-bytes.0 in
+    may_look_up v long _ (with_splat v long _ _ 4 (itself v long)) c.fits-bytes.1 refl
+
+pub swizzle-column : goal.swizzle-column
+swizzle-column c =
+    let v = c.args.bytes in
+    let long = c.fits-bytes.0 in
+    may_look_up v long _ (with_splat v long _ _ 15 (itself v long)) c.fits-bytes.1 refl
+
+pub swizzle : goal.swizzle
+swizzle c =
+    let v = c.args.bytes in
+    let long = c.fits-bytes.0 in
+    let row = looked_up v long _ (with_splat v long (λ (b s : ℕ). b / 2 ^ s) _ 4 (itself v long)) ROWS in
+    let column = looked_up v long _ (with_splat v long bit_and _ 15 (itself v long)) COLUMNS in
+    may_look_up v long _ (zip2_of_maps bit_and _ _ v row column) c.fits-bytes.1 refl
 
 pub returns : goal.returns
 returns c =
     let v = c.args.bytes in
     let long = c.fits-bytes.0 in
-    let itself = itself v long in
-    let letters = with_splat v long _ _ 25 (with_splat v long _ _ 97 (with_splat v long _ _ 32 itself)) in
-    let digits = with_splat v long _ _ 9 (with_splat v long _ _ 48 itself) in
-    let controls = with_splat v long _ _ 4 (with_splat v long _ _ 9 itself) in
-    let space = zip2_of_maps _ _ _ v (zip2_of_maps _ _ _ v controls (with_splat v long _ _ 11 itself)) (with_splat v long _ _ 32 itself) in
-    codes_are v c.fits-bytes.1 _ _
-    (zip2_of_maps _ _ _ v (zip2_of_maps _ _ _ v (selected v long _ _ 1 0 letters) (selected v long _ _ 2 0 digits)) (selected v long _ _ 4 0 space))
-    refl
+    let row = looked_up v long _ (with_splat v long (λ (b s : ℕ). b / 2 ^ s) _ 4 (itself v long)) ROWS in
+    let column = looked_up v long _ (with_splat v long bit_and _ 15 (itself v long)) COLUMNS in
+    codes_are v c.fits-bytes.1 _ _ (looked_up v long _ (zip2_of_maps bit_and _ _ v row column) CODES) refl
