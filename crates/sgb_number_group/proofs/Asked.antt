@@ -16,14 +16,14 @@ module _ {T : Type 0} (eq : T → T → Bool) where
   abbrev unequal : T × T → Bool
   unequal q = not (on_pairs eq q)
 
-  boundaries-drop : (n : ℕ) (xs : List T) → boundaries eq (drop n xs) ≡ drop n (boundaries eq xs)
+  pub boundaries-drop : (n : ℕ) (xs : List T) → boundaries eq (drop n xs) ≡ drop n (boundaries eq xs)
   boundaries-drop zero xs = refl
   boundaries-drop (suc n) [] = refl
   boundaries-drop (suc zero) (x ∷ []) = refl
   boundaries-drop (suc (suc n)) (x ∷ []) = refl
   boundaries-drop (suc n) (x ∷ y ∷ ys) = boundaries-drop n (y ∷ ys)
 
-  boundaries-take : (n : ℕ) (xs : List T) → boundaries eq (take (suc n) xs) ≡ take n (boundaries eq xs)
+  pub boundaries-take : (n : ℕ) (xs : List T) → boundaries eq (take (suc n) xs) ≡ take n (boundaries eq xs)
   boundaries-take zero [] = refl
   boundaries-take (suc n) [] = refl
   boundaries-take zero (x ∷ []) = refl

@@ -1,5 +1,5 @@
-//! Sixty-four neighbouring pairs at a time.
-ghost use Rattle.std.specs.Prelude.{◌≡◌, ◌+◌, ◌<◌, length, reverse};
+//! Sixty-four neighbouring pairs, or elements, at a time.
+ghost use Rattle.std.specs.Prelude.{◌≡◌, ◌+◌, ◌*◌, ◌<◌, ◌≤◌, not, length, map, reverse};
 ghost use Rattle.std.specs.Simd.Lanes.{mask_l, chunk};
 ghost use Rattle.sgb_numbers.specs.Boundaries.{boundaries};
 
@@ -11,8 +11,12 @@ pub(crate) fn block<T, M: Masks<T>>(slice: &[T], at: usize) -> u64
     requires { at + 64 < length slice.now }
     ensures { result ≡ mask_l (chunk at 64 (boundaries M.same slice.now)) }
 {
-    let upper = M::cuts(slice, at + 32) + 65536 * M::cuts(slice, at + 48);
-    M::cuts(slice, at) + 65536 * (M::cuts(slice, at + 16) + 65536 * upper)
+    joined(
+        M::cuts(slice, at),
+        M::cuts(slice, at + 16),
+        M::cuts(slice, at + 32),
+        M::cuts(slice, at + 48),
+    )
 }
 
 /// The same pairs, the last one first.
@@ -21,6 +25,33 @@ pub(crate) fn block_back<T, M: Masks<T>>(slice: &[T], at: usize) -> u64
     requires { at + 64 < length slice.now }
     ensures { result ≡ mask_l (reverse (chunk at 64 (boundaries M.same slice.now))) }
 {
-    let lower = M::cuts_back(slice, at + 16) + 65536 * M::cuts_back(slice, at);
-    M::cuts_back(slice, at + 48) + 65536 * (M::cuts_back(slice, at + 32) + 65536 * lower)
+    joined(
+        M::cuts_back(slice, at + 48),
+        M::cuts_back(slice, at + 32),
+        M::cuts_back(slice, at + 16),
+        M::cuts_back(slice, at),
+    )
+}
+
+/// Which of 64 elements from the place `at` on are not the same as `one`.
+#[inline(always)]
+pub(crate) fn unlike_block<T, M: Masks<T>>(one: &T, slice: &[T], at: usize) -> u64
+    requires { at + 64 ≤ length slice.now }
+    ensures { result ≡ mask_l (map (λ y. not (M.same y one.now)) (chunk at 64 slice.now)) }
+{
+    joined(
+        M::unlike(one, slice, at),
+        M::unlike(one, slice, at + 16),
+        M::unlike(one, slice, at + 32),
+        M::unlike(one, slice, at + 48),
+    )
+}
+
+/// Four masks of sixteen as one of 64, the lowest bits first.
+#[inline(always)]
+fn joined(a: u64, b: u64, c: u64, d: u64) -> u64
+    requires { (a < 65536) × (b < 65536) × (c < 65536) × (d < 65536) }
+    ensures { result ≡ a + 65536 * (b + 65536 * (c + 65536 * d)) }
+{
+    a + 65536 * (b + 65536 * (c + 65536 * d))
 }

@@ -5,5 +5,6 @@
 mod blocks;
 pub mod by_class;
 pub mod by_number;
+pub mod class_counts;
 mod fills;
 pub mod groups;

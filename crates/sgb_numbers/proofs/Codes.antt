@@ -8,10 +8,9 @@ use Rattle.std.specs.Simd.Lanes.{Each1, zip2, mask_l, pick_l}
 use lib.Dec.{T, ltb}
 use mir.Val.{zeroes}
 use Rattle.sgb_numbers.specs.declared.ascii_classes.TheConstants.{CLASSES}
-use Rattle.sgb_numbers.specs.contracts.ascii_classes.AsciiClassPartialEq.TheImpl.{ghosts}
 use Rattle.sgb_numbers.specs.declared.ascii_classes.AsciiClass.{AsciiClass}
 use Rattle.sgb_numbers.specs.declared.ascii_classes.AsciiClass.TheVariants.{Letter, Digit, Space, Other}
-use Rattle.sgb_numbers.specs.AsciiBytes.{ascii_class, code}
+use Rattle.sgb_numbers.specs.AsciiBytes.{ascii_class, is_class, code}
 use Rattle.sgb_numbers.proofs.Vectors.{unequal, lanes_mask, mask_of, mask_of_turned, down}
 
 -- the values of a function at n numbers, the first of which is given
@@ -94,9 +93,9 @@ codes_are v fits f xs e same = e ∙ map_bytes f code_of same v fits
 
 -- bytes are of one class if their codes are equal
 abbrev pub same : ℕ → ℕ → Bool
-same = on ascii_class ghosts.eq
+same = on ascii_class is_class
 
-equal_codes : (c d : AsciiClass) → eqb (code c) (code d) ≡ ghosts.eq c d
+equal_codes : (c d : AsciiClass) → eqb (code c) (code d) ≡ is_class c d
 equal_codes Letter Letter = refl
 equal_codes Letter Digit = refl
 equal_codes Letter Space = refl

@@ -1,5 +1,5 @@
 mod Codes
-mod OneByOne
+pub mod OneByOne
 pub mod Pairs
 mod Sixteen
 mod SignedBits
