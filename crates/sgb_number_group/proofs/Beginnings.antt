@@ -7,7 +7,7 @@ use Rattle.std.proofs.lemmas.List.{take_more}
 use Rattle.std.proofs.lemmas.List.Sums.{sum_by-cons}
 use Rattle.std.proofs.lemmas.Nat.{and_block, and_le_l, and_le_r}
 use Rattle.std.proofs.lemmas.Simd.{ones-mask_l_cons}
-use Rattle.std.proofs.Math.Seq.{take-add}
+use Rattle.std.proofs.Math.Seq.{take-add, take-length}
 use Rattle.sgb_search.specs.Split.{split, put_before}
 use Rattle.sgb_numbers.specs.AsciiBytes.{ascii_class, is_class}
 use Rattle.sgb_numbers.specs.Boundaries.{boundaries}
@@ -88,6 +88,12 @@ class_after-take : (before : Option AsciiClass) (xs : List ℕ) (n : ℕ) → n 
 class_after-take before [] n l = absurd (omega arith)
 class_after-take before (x ∷ xs) zero l = refl
 class_after-take before (x ∷ xs) (suc n) l = class_after-take (Some (ascii_class x)) xs n (omega arith)
+
+pub class_after-last : (before : Option AsciiClass) (xs : List ℕ) → 0 < length xs
+    → class_after before xs ≡ Some (ascii_class (get_or xs (length xs - 1) 0))
+class_after-last before xs l =
+    ap (class_after before) (sym (take-length xs) ∙ ap (λ (n : ℕ). take n xs) {x = length xs} {y = suc (length xs - 1)} (omega (arith, l)))
+    ∙ class_after-take before xs (length xs - 1) (omega (arith, l))
 
 -- the bytes before the place at, and n more
 module _ (k : AsciiClass) (before : Option AsciiClass) (xs : List ℕ) where

@@ -96,8 +96,8 @@ module _ (bs : List Bool) (at a b c d : ℕ) (room : at + 64 ≤ length bs) wher
       omega (arith, h, small bs at room (at + 48) (omega arith)),
     )
 
-    pub block_is : a + 65536 * (b + 65536 * (c + 65536 * d)) ≡ mask_l (chunk at 64 bs)
-    block_is = rw (e, f, g, h) (block_mask bs at room)
+    pub block_is : {m : ℕ} → m ≡ a + 65536 * (b + 65536 * (c + 65536 * d)) → m ≡ mask_l (chunk at 64 bs)
+    block_is i = i ∙ rw (e, f, g, h) (block_mask bs at room)
 
   module _ (e : a ≡ mask_l (reverse (chunk (at + 48) 16 bs))) (f : b ≡ mask_l (reverse (chunk (at + 32) 16 bs)))
       (g : c ≡ mask_l (reverse (chunk (at + 16) 16 bs))) (h : d ≡ mask_l (reverse (chunk at 16 bs))) where
@@ -109,5 +109,5 @@ module _ (bs : List Bool) (at a b c d : ℕ) (room : at + 64 ≤ length bs) wher
       omega (arith, h, small_back bs at room at (omega arith)),
     )
 
-    pub block_back_is : a + 65536 * (b + 65536 * (c + 65536 * d)) ≡ mask_l (reverse (chunk at 64 bs))
-    block_back_is = rw (e, f, g, h) (block_mask_back bs at room)
+    pub block_back_is : {m : ℕ} → m ≡ a + 65536 * (b + 65536 * (c + 65536 * d)) → m ≡ mask_l (reverse (chunk at 64 bs))
+    block_back_is i = i ∙ rw (e, f, g, h) (block_mask_back bs at room)

@@ -1,5 +1,5 @@
 //! How many groups of each ASCII class some bytes have, with no walk along them.
-ghost use Rattle.std.specs.Prelude.{◌≡◌, ◌+◌, ◌-◌, ◌^◌, ◌<◌, ◌≤◌, length, slice_index_or, Some};
+ghost use Rattle.std.specs.Prelude.{◌≡◌, ℕ, ◌+◌, ◌-◌, ◌^◌, ◌<◌, ◌≤◌, List, ◌++◌, length, slice_index_or, Option, Some};
 ghost use Rattle.std.specs.Simd.Lanes.{mask_l, chunk};
 ghost use Rattle.sgb_numbers.specs.AsciiBytes.{ascii_class, is_class};
 ghost use Rattle.sgb_numbers.specs.Boundaries.{boundaries};
@@ -54,6 +54,23 @@ pub fn count_classes(before: Option<AsciiClass>, bytes: &[u8]) -> ClassCounts
     }
     counts
 }
+
+/// The class of the last byte, or `before` where there is none: what `count_classes` takes for the bytes that follow.
+#[inline]
+pub fn class_after(before: Option<AsciiClass>, bytes: &[u8]) -> Option<AsciiClass>
+    ensures { result ≡ class_after before bytes.now }
+{
+    if bytes.is_empty() {
+        return before;
+    }
+    Some(AsciiClasses::class(bytes[bytes.len() - 1]))
+}
+
+/// The counts of two parts add up to those of the whole: the second part is counted after the class at which the first one ends.
+pub fn class_counts_add_up()
+    ensures { (class : AsciiClass) (before : Option AsciiClass) (xs ys : List ℕ)
+        → class_count class before (xs ++ ys) ≡ class_count class before xs + class_count class (class_after before xs) ys }
+{}
 
 impl ClassCounts {
     /// With a byte of the class `class` more, after one of the class `before`.

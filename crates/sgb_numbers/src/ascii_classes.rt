@@ -65,9 +65,11 @@ impl ByteClasses for AsciiClasses {
 // A bit for the row of a byte, which is its upper four bits, and the bits that a column goes with, which is its lower four. A byte's
 // row and column share at most one bit, which gives the code of its class.
 const ROWS: [u8; 16] = [4, 0, 8, 128, 1, 2, 1, 2, 0, 0, 0, 0, 0, 0, 0, 0];
+
 const COLUMNS: [u8; 16] = [
     138, 131, 131, 131, 131, 131, 131, 131, 131, 135, 7, 1, 5, 5, 1, 1,
 ];
+
 const CODES: [u8; 16] = [3, 1, 1, 3, 2, 3, 3, 3, 2, 3, 3, 3, 3, 3, 3, 3];
 
 // The code of each byte's class. A look-up by a number of 128 or more gives 0.

@@ -1,4 +1,4 @@
-use Rattle.std.proofs.Common.{◌∙◌, arith}
+use Rattle.std.proofs.Common.{arith}
 use Rattle.sgb_numbers.specs.Boundaries.{boundaries}
 use Rattle.sgb_numbers.proofs.Pairs.{length-boundaries}
 use Rattle.sgb_number_group.proofs.Joined.{all_small_back, block_back_is}
@@ -13,5 +13,5 @@ joined-requires g c =
 pub returns : goal.returns
 returns g c =
     let bs = boundaries g.M.Masks.same c.args.slice.now in
-    c.joined.ensures ∙ block_back_is bs c.args.at _ _ _ _ (omega (arith, length-boundaries g.M.Masks.same c.args.slice.now, c.requires))
-    c.cuts_back.ensures c.cuts_back-2.ensures c.cuts_back-3.ensures c.cuts_back-4.ensures
+    block_back_is bs c.args.at _ _ _ _ (omega (arith, length-boundaries g.M.Masks.same c.args.slice.now, c.requires))
+    c.cuts_back.ensures c.cuts_back-2.ensures c.cuts_back-3.ensures c.cuts_back-4.ensures c.joined.ensures

@@ -18,6 +18,6 @@ returns g c =
     let xs = c.args.slice.now in
     let at = c.args.at in
     let test = λ (y : g.row.T.Denot). not (g.M.Masks.same y c.args.one.now) in
-    c.joined.ensures ∙ block_is (map test xs) at _ _ _ _ (omega (arith, length-map xs test, c.requires))
+    block_is (map test xs) at _ _ _ _ (omega (arith, length-map xs test, c.requires))
     (c.unlike.ensures ∙ ap mask_l (sym (map-chunk test at 16 xs))) (c.unlike-2.ensures ∙ ap mask_l (sym (map-chunk test (at + 16) 16 xs))) (c.unlike-3.ensures ∙ ap mask_l (sym (map-chunk test (at + 32) 16 xs))) (c.unlike-4.ensures ∙ ap mask_l (sym (map-chunk test (at + 48) 16 xs)))
-    ∙ ap mask_l (map-chunk test at 64 xs)
+    c.joined.ensures ∙ ap mask_l (map-chunk test at 64 xs)
