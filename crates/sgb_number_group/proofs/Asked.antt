@@ -38,7 +38,8 @@ module _ {T : Type 0} (eq : T → T → Bool) where
       ∙ sym (reverse-append (f x ∷ []) (map f xs))
 
   -- a judge that may always be asked about a pair, answers what eq says, and never changes
-  module _ {J : Type 0} (g : Ghosts J T) (j : J) (asks : (q : T × T) → g.may_ask j q) (tells : (q : T × T) → g.answers j q (eq q.0 q.1) j) where
+  module _ {J : Type 0} (g : Ghosts J T) (j : J) (asks : (q : T × T) → g.may_ask j q)
+      (tells : (q : T × T) → g.answers j q (eq q.0 q.1) j) where
     tells_as : (q : T × T) (b : Bool) → on_pairs eq q ≡ b → g.answers j q b j
     tells_as q b e = subst (λ a. g.answers j q a j) e (tells q)
 
@@ -104,5 +105,6 @@ module _ {T : Type 0} (eq : T → T → Bool) where
           back_read k (high - 2 - k) (omega (arith, few)) (omega (arith, few, is.within))
           ∙ is.same.at (high - 2 - k) (omega (arith, few)) (omega (arith, few)))
           (λ more.
-          back_read (high - start - 1) (start - 1) (omega (arith, more, back_pairs, is.nonempty, is.within)) (omega (arith, more, back_pairs, is.nonempty))
+          back_read (high - start - 1) (start - 1) (omega (arith, more, back_pairs, is.nonempty, is.within))
+          (omega (arith, more, back_pairs, is.nonempty))
           ∙ is.differ (omega (arith, more, back_pairs, is.nonempty)))

@@ -18,14 +18,18 @@ use Rattle.sgb_number_group.specs.Starts.{begins, starts}
 use Rattle.sgb_number_group.proofs.Asked.{boundaries-drop, boundaries-take}
 
 -- the bits that two masks share
-doubled : (b m : ℕ) → b + 2 * m ≡ m * 2 ^ 1 + b
-doubled b m = omega arith
+both : (b c m n : ℕ) → b < 2 → c < 2 → bit_and (b + 2 * m) (c + 2 * n) ≡ bit_and b c + 2 * bit_and m n
+both b c m n e f =
+    let left : b + 2 * m ≡ m * 2 ^ 1 + b = omega arith in
+    let right : c + 2 * n ≡ n * 2 ^ 1 + c = omega arith in
+    ap₂ bit_and left right
+    ∙ and_block 1 m n b c (omega (arith, e)) (omega (arith, f)) ∙ omega arith
 
 and_cons : (b c : Bool) (m n : ℕ) → bit_and (cond b 1 0 + 2 * m) (cond c 1 0 + 2 * n) ≡ cond (b && c) 1 0 + 2 * bit_and m n
-and_cons true true m n = ap₂ bit_and (doubled 1 m) (doubled 1 n) ∙ and_block 1 m n 1 1 (omega arith) (omega arith) ∙ sym (doubled 1 (bit_and m n))
-and_cons true false m n = ap₂ bit_and (doubled 1 m) (doubled 0 n) ∙ and_block 1 m n 1 0 (omega arith) (omega arith) ∙ sym (doubled 0 (bit_and m n))
-and_cons false true m n = ap₂ bit_and (doubled 0 m) (doubled 1 n) ∙ and_block 1 m n 0 1 (omega arith) (omega arith) ∙ sym (doubled 0 (bit_and m n))
-and_cons false false m n = ap₂ bit_and (doubled 0 m) (doubled 0 n) ∙ and_block 1 m n 0 0 (omega arith) (omega arith) ∙ sym (doubled 0 (bit_and m n))
+and_cons true true m n = both 1 1 m n (omega arith) (omega arith)
+and_cons true false m n = both 1 0 m n (omega arith) (omega arith)
+and_cons false true m n = both 0 1 m n (omega arith) (omega arith)
+and_cons false false m n = both 0 0 m n (omega arith) (omega arith)
 
 mask_and : (bs cs : List Bool) → bit_and (mask_l bs) (mask_l cs) ≡ mask_l (zip2 (λ b c. b && c) bs cs)
 mask_and [] cs = omega (arith, and_le_l 0 (mask_l cs))
@@ -101,7 +105,8 @@ module _ (k : AsciiClass) (before : Option AsciiClass) (xs : List ℕ) where
   starts_first l = ap (starts k before) (take_more xs 0 0 l) ∙ omega arith
 
   pub starts_more : (at n : ℕ) → 0 < at → at ≤ length xs
-      → starts k before (take (at + n) xs) ≡ starts k before (take at xs) + starts k (Some (ascii_class (get_or xs (at - 1) 0))) (chunk at n xs)
+      → starts k before (take (at + n) xs)
+      ≡ starts k before (take at xs) + starts k (Some (ascii_class (get_or xs (at - 1) 0))) (chunk at n xs)
   starts_more at n some l =
       ap (starts k before) (take-add at n xs) ∙ starts-append k before (take at xs) (chunk at n xs)
       ∙ ap (λ b. starts k before (take at xs) + starts k b (chunk at n xs))
@@ -175,7 +180,8 @@ held-before k true x y ps e h =
     let longer : held k (put_before same_class true x ps) ≡ begins k None (ascii_class x) + held k h.more =
     ap (λ l. held k (put_before same_class true x l)) h.is ∙ held-cons k (x ∷ y ∷ h.rest) h.more in
     let shorter : held k ps ≡ begins k None (ascii_class y) + held k h.more = ap (held k) h.is ∙ held-cons k (y ∷ h.rest) h.more in
-    let same : begins k None (ascii_class x) ≡ begins k None (ascii_class y) = ap (begins k None) (is_class_true (ascii_class x) (ascii_class y) e) in
+    let same : begins k None (ascii_class x) ≡ begins k None (ascii_class y) =
+    ap (begins k None) (is_class_true (ascii_class x) (ascii_class y) e) in
     omega (arith, longer, shorter, same)
 held-before k false x y ps e h = held-cons k (x ∷ []) ps
 

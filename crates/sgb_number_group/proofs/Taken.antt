@@ -38,7 +38,8 @@ module _ {T : Type 0} (eq : T → T → Bool) (xs : List T) (low high : ℕ) (in
 
 -- a judge that answers what eq says
 module _ {T J : Type 0} (eq : T → T → Bool) (g : Ghosts J T) (j : J) (asks : (q : T × T) → g.may_ask j q)
-    (tells : (q : T × T) → g.answers j q (eq q.0 q.1) j) (xs : List T) (low high : ℕ) (nonempty : low < high) (inside : high ≤ length xs) where
+    (tells : (q : T × T) → g.answers j q (eq q.0 q.1) j) (xs : List T) (low high : ℕ) (nonempty : low < high)
+    (inside : high ≤ length xs) where
   pub front_call : (end : ℕ) → IsFirstEnd eq xs low high end
       → IsGroupAt (LinearQuestions g) Front (record { remainder = slice_range xs low high; judge = j }) (slice_range xs low end)
       (record { remainder = slice_range xs end high; judge = j })

@@ -9,11 +9,11 @@ ghost use Rattle.sgb_search.specs.Split.{AreNeighbours};
 use crate::groups::MaskGroups;
 use sgb_numbers::byte_classes::{ByteClasses, ClassJudge};
 
-/// An iterator over the groups of bytes of one class, from both ends: those of `LinearGroupByKey` with the class as the key.
-/// `AsciiClasses::class(group[0])` is the class of a group.
+/// An iterator over the groups of bytes of one class, from both ends: those of `LinearGroupByKey` with the class as
+/// the key. `AsciiClasses::class(group[0])` is the class of a group.
 ///
-/// It looks at sixty-four neighbouring pairs at a time, and keeps for each end which of them are of two classes. `AsciiClasses`
-/// compares them by vectors.
+/// It looks at sixty-four neighbouring pairs at a time, and keeps for each end which of them are of two classes.
+/// `AsciiClasses` compares them by vectors.
 ///
 /// ```
 /// let mut tokens = LinearClassGroup::<AsciiClasses>::new(b"port 8080;");

@@ -20,14 +20,16 @@ pub struct ClassCounts {
     pub others: usize,
 }
 
-/// How many groups of each class begin in the bytes. `before` is the class of the byte before them, if there is one: a first group of
-/// that class goes on from there, and is not counted. So the counts of the blocks of a stream add up.
+/// How many groups of each class begin in the bytes. `before` is the class of the byte before them, if there is one: a
+/// first group of that class goes on from there, and is not counted. So the counts of the blocks of a stream add up.
 ///
-/// It compares 64 bytes at a time, and takes the same time whatever the groups are.
+/// It compares 64 bytes at a time, and its time depends on nothing but their number.
 ///
 /// ```
-/// count_classes(None, b"port 8080;");                     // 1 letters, 1 digits, 1 spaces, 1 others
-/// count_classes(Some(AsciiClass::Letter), b"port 8080;"); // 0 letters, 1 digits, 1 spaces, 1 others
+/// count_classes(None, b"port 8080;");
+/// // letters: 1, digits: 1, spaces: 1, others: 1
+/// count_classes(Some(AsciiClass::Letter), b"port 8080;");
+/// // letters: 0, digits: 1, spaces: 1, others: 1
 /// ```
 pub fn count_classes(before: Option<AsciiClass>, bytes: &[u8]) -> ClassCounts
     ensures { (class : AsciiClass) → count_of class result ≡ class_count class before bytes.now }
@@ -69,7 +71,8 @@ pub fn class_after(before: Option<AsciiClass>, bytes: &[u8]) -> Option<AsciiClas
 /// The counts of two parts add up to those of the whole: the second part is counted after the class at which the first one ends.
 pub fn class_counts_add_up()
     ensures { (class : AsciiClass) (before : Option AsciiClass) (xs ys : List ℕ)
-        → class_count class before (xs ++ ys) ≡ class_count class before xs + class_count class (class_after before xs) ys }
+        → class_count class before (xs ++ ys)
+        ≡ class_count class before xs + class_count class (class_after before xs) ys }
 {}
 
 impl ClassCounts {
@@ -101,7 +104,8 @@ impl ClassCounts {
         requires room { at + 64 ≤ length bytes.now }
         requires few { (k : AsciiClass) → count_of k self ≤ at }
         ensures { (k : AsciiClass) → count_of k result
-            ≡ count_of k self + starts k (Some (ascii_class (slice_index_or bytes.now (at - 1) 0))) (chunk at 64 bytes.now) }
+            ≡ count_of k self
+            + starts k (Some (ascii_class (slice_index_or bytes.now (at - 1) 0))) (chunk at 64 bytes.now) }
     {
         let cuts = block::<u8, ClassJudge<AsciiClasses>>(bytes, at - 1);
         ClassCounts {

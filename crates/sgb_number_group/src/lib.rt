@@ -1,5 +1,5 @@
-//! Groups of equal numbers, and of bytes of one class, by masks: sixty-four neighbouring pairs are compared at a time, and what that told is kept for the
-//! calls to come.
+//! Groups of equal numbers, and of bytes of one class, by masks: sixty-four neighbouring pairs are compared at a
+//! time, and what that told is kept for the calls to come.
 #![tactic(auto)]
 
 mod blocks;

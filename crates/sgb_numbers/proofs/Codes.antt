@@ -88,7 +88,8 @@ module _ (v : List ℕ) (long : length v ≡ 16) (f : ℕ → ℕ) {js : List �
 abbrev pub code_of : ℕ → ℕ
 code_of b = code (ascii_class b)
 
-pub codes_are : (v : List ℕ) → Each1 (Fits w8) v → (f : ℕ → ℕ) (xs : List ℕ) → xs ≡ map f v → values f 0 256 ≡ values code_of 0 256 → xs ≡ map code_of v
+pub codes_are : (v : List ℕ) → Each1 (Fits w8) v → (f : ℕ → ℕ) (xs : List ℕ) → xs ≡ map f v → values f 0 256 ≡ values code_of 0 256
+    → xs ≡ map code_of v
 codes_are v fits f xs e same = e ∙ map_bytes f code_of same v fits
 
 -- bytes are of one class if their codes are equal

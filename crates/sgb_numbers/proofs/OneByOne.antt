@@ -25,7 +25,8 @@ module _ (bs : List Bool) where
       omega (arith, mask_l-lt lanes, pow_mono {i = length lanes} {j = 16} long)
 
   -- one test more, before those of a mask
-  module _ (at k m : ℕ) (some : 0 < k) (most : k ≤ 16) (room : at + 16 ≤ length bs) (mask : m ≡ mask_l (chunk (at + k) (16 - k) bs)) where
+  module _ (at k m : ℕ) (some : 0 < k) (most : k ≤ 16) (room : at + 16 ≤ length bs)
+      (mask : m ≡ mask_l (chunk (at + k) (16 - k) bs)) where
     pub more_fits : m < 65536
     more_fits = omega (arith, mask, few (at + k) (16 - k) (omega (arith, most, room)) (omega arith))
 

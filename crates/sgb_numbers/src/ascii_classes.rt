@@ -62,8 +62,8 @@ impl ByteClasses for AsciiClasses {
     }
 }
 
-// A bit for the row of a byte, which is its upper four bits, and the bits that a column goes with, which is its lower four. A byte's
-// row and column share at most one bit, which gives the code of its class.
+// A byte's upper four bits choose a row, and its lower four a column. `ROWS` has a bit for each row with a class, and
+// `COLUMNS` the bits of the rows that have one in that column. The bit that the two share, if any, chooses the code.
 const ROWS: [u8; 16] = [4, 0, 8, 128, 1, 2, 1, 2, 0, 0, 0, 0, 0, 0, 0, 0];
 
 const COLUMNS: [u8; 16] = [
@@ -72,7 +72,7 @@ const COLUMNS: [u8; 16] = [
 
 const CODES: [u8; 16] = [3, 1, 1, 3, 2, 3, 3, 3, 2, 3, 3, 3, 3, 3, 3, 3];
 
-// The code of each byte's class. A look-up by a number of 128 or more gives 0.
+// The code of each byte's class. A place of 128 or more is no place of a table, and gives 0.
 #[inline(always)]
 fn codes(bytes: u8x16) -> u8x16
     ensures { result ≡ map (λ b. code (ascii_class b)) bytes }

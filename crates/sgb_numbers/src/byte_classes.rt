@@ -9,8 +9,18 @@ use crate::masks::{MaskJudge, Masks};
 use sgb_search::judge::Judge;
 use std::marker::PhantomData;
 
-/// Classes of bytes, such as letters, digits and all else: implement `class`, and leave the rest. The methods for sixteen bytes call it for
-/// each; override them to compare classes by vectors.
+/// Classes of bytes, for `LinearClassGroup`. Implement `class`, and say in `class_of` what it answers. The other methods
+/// look at sixteen bytes: they ask `class` of each, unless you override them with vectors, as `AsciiClasses` does.
+///
+/// ```
+/// impl ByteClasses for Parity {
+///     type Class = bool;
+///     ghost class_of = { λ byte. nat_eq (byte % 2) 0 };
+///     fn class(byte: u8) -> bool {
+///         byte % 2 == 0
+///     }
+/// }
+/// ```
 pub trait ByteClasses {
     type Class: Copy + PartialEq;
 
@@ -36,7 +46,8 @@ pub trait ByteClasses {
         mask
     }
 
-    /// Which of sixteen neighbouring pairs from the place `at` on are of two classes: bit k is set for the bytes at `at + k` and the next.
+    /// Which of sixteen neighbouring pairs from the place `at` on are of two classes: bit k is set for the bytes at
+    /// `at + k` and the next.
     #[inline(always)]
     fn cuts(slice: &[u8], at: usize) -> u64
         requires { at + 16 < length slice.now }

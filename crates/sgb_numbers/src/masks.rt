@@ -20,7 +20,8 @@ pub trait Masks<T> {
         requires { at + 16 ≤ length slice.now }
         ensures { result ≡ mask_l (map (λ y. not (same y one.now)) (chunk at 16 slice.now)) };
 
-    /// Which of sixteen neighbouring pairs from the place `at` on differ: bit k is set for the elements at `at + k` and the next.
+    /// Which of sixteen neighbouring pairs from the place `at` on differ: bit k is set for the elements at `at + k`
+    /// and the next.
     fn cuts(slice: &[T], at: usize) -> u64
         requires { at + 16 < length slice.now }
         ensures { result ≡ mask_l (chunk at 16 (boundaries same slice.now)) };

@@ -23,7 +23,12 @@ loop-at-preserved c =
       within = omega (arith, l.invariant.within, c.loop-at-test.true);
       counts =
           λ k.
-          omega (arith, c.with_block-counts.ensures k, l.invariant.counts k, starts_more k c.args.before xs l.at 64 l.invariant.some l.invariant.within);
+          omega (
+            arith,
+            c.with_block-counts.ensures k,
+            l.invariant.counts k,
+            starts_more k c.args.before xs l.at 64 l.invariant.some l.invariant.within,
+          );
     }
 
 pub with_byte-counts-requires-in-loop-at-2 : goal.with_byte-counts-requires-in-loop-at-2
@@ -45,7 +50,9 @@ loop-at-2-preserved c =
       within = omega (arith, c.loop-at-2-test.true);
       counts =
           λ k.
-          added k ∙ ap (λ (n : ℕ). n + begins k (Some (ascii_class (get_or xs (l.at - 1) 0))) (ascii_class (get_or xs l.at 0))) (l.invariant.counts k)
+          added k
+          ∙ ap (λ (n : ℕ). n + begins k (Some (ascii_class (get_or xs (l.at - 1) 0))) (ascii_class (get_or xs l.at 0)))
+          (l.invariant.counts k)
           ∙ sym (starts_one_more k c.args.before xs l.at l.invariant.some c.loop-at-2-test.true);
     }
 

@@ -11,6 +11,8 @@ pub returns : goal.returns
 returns g c =
     let s = c.args.self.now in
     record {
-      call = back_call g.J.Masks.same g.J.Judge s.judge (g.met.J.MaskJudge.asks s.judge) (g.met.J.MaskJudge.tells s.judge) s.slice.now s.low s.high c.if-self-high.false s.inside _ c.far_back-back.ensures.start;
+      call =
+          back_call g.J.Masks.same g.J.Judge s.judge (g.met.J.MaskJudge.asks s.judge) (g.met.J.MaskJudge.tells s.judge)
+          s.slice.now s.low s.high c.if-self-high.false s.inside _ c.far_back-back.ensures.start;
       place = refl;
     }

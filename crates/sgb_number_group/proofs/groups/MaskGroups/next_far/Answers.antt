@@ -11,6 +11,8 @@ returns g c =
     let s = c.args.self.now in
     let is = c.far_front-front.ensures.end in
     record {
-      call = front_call g.J.Masks.same g.J.Judge s.judge (g.met.J.MaskJudge.asks s.judge) (g.met.J.MaskJudge.tells s.judge) s.slice.now s.low s.high c.if-low-self.false s.inside _ is;
+      call =
+          front_call g.J.Masks.same g.J.Judge s.judge (g.met.J.MaskJudge.asks s.judge) (g.met.J.MaskJudge.tells s.judge)
+          s.slice.now s.low s.high c.if-low-self.false s.inside _ is;
       place = front_place g.J.Masks.same s.slice.now s.low s.high s.inside _ is;
     }

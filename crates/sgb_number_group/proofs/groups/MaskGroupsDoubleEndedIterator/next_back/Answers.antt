@@ -13,7 +13,9 @@ returns-then-self-start-clause-steps g c =
     let is : IsLastStart g.J.Masks.same s.slice.now s.low s.high c.last_start-start.result =
     record { nonempty = e.nonempty; within = omega (arith, c.if-self-start.true); same = e.same; differ = λ _. e.differ } in
     record {
-      call = back_call g.J.Masks.same g.J.Judge s.judge (g.met.J.MaskJudge.asks s.judge) (g.met.J.MaskJudge.tells s.judge) s.slice.now s.low s.high order s.inside c.last_start-start.result is;
+      call =
+          back_call g.J.Masks.same g.J.Judge s.judge (g.met.J.MaskJudge.asks s.judge) (g.met.J.MaskJudge.tells s.judge)
+          s.slice.now s.low s.high order s.inside c.last_start-start.result is;
       place = refl;
     }
 

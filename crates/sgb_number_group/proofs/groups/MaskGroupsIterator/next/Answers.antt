@@ -13,7 +13,9 @@ returns-then-end-self-clause-steps g c =
     let is : IsFirstEnd g.J.Masks.same s.slice.now s.low s.high c.first_end-end.result =
     record { nonempty = e.nonempty; within = omega (arith, c.if-end-self.true); same = e.same; differ = λ _. e.differ } in
     record {
-      call = front_call g.J.Masks.same g.J.Judge s.judge (g.met.J.MaskJudge.asks s.judge) (g.met.J.MaskJudge.tells s.judge) s.slice.now s.low s.high order s.inside c.first_end-end.result is;
+      call =
+          front_call g.J.Masks.same g.J.Judge s.judge (g.met.J.MaskJudge.asks s.judge) (g.met.J.MaskJudge.tells s.judge)
+          s.slice.now s.low s.high order s.inside c.first_end-end.result is;
       place = front_place g.J.Masks.same s.slice.now s.low s.high s.inside c.first_end-end.result is;
     }
 
