@@ -11,4 +11,5 @@ pub mod loops;
 pub mod offsets;
 pub mod streams;
 pub mod texts;
+pub mod tokens;
 pub mod writers;

@@ -1,22 +1,16 @@
 -- Four masks of sixteen pairs as one of sixty-four.
-use Rattle.std.proofs.Common.{◌≡◌, ℕ, suc, ◌+◌, ◌-◌, ◌*◌, ◌^◌, ◌<◌, ◌≤◌, Bool, List, [], ◌∷◌, ◌++◌, length, take, drop, append_assoc, sym, ap, ◌∙◌, subst, arith}
+use Rattle.std.proofs.Common.{◌≡◌, ℕ, suc, ◌+◌, ◌*◌, ◌^◌, ◌<◌, ◌≤◌, Bool, List, [], ◌∷◌, ◌++◌, length, take, drop, append_assoc, sym, ap, ◌∙◌, subst, arith}
 use Rattle.std.specs.Prelude.{reverse}
-use Rattle.std.proofs.lemmas.List.{length-map, length-reverse, reverse-append, drop-drop}
+use Rattle.std.proofs.lemmas.List.{length-reverse, reverse-append, drop-drop}
 use Rattle.std.proofs.Math.Seq.{take-add}
 use Rattle.std.proofs.lemmas.Simd.{length-chunk, mask_l-lt}
 use Rattle.std.specs.Simd.Lanes.{chunk, mask_l}
 use Rattle.std.proofs.Math.Nat.{two-pow-succ, mul_assoc}
-use Rattle.sgb_search.proofs.Lists.Pairs.{length-neighbours}
-use Rattle.sgb_search.specs.Split.{neighbours}
-use Rattle.sgb_numbers.specs.Boundaries.{boundaries}
 
 pub chunk-add : {X : Type 0} (at m n : ℕ) (xs : List X) → chunk at (m + n) xs ≡ chunk at m xs ++ chunk (at + m) n xs
 chunk-add at m n xs =
     take-add m n (drop at xs)
     ∙ ap (λ ys. chunk at m xs ++ take n ys) (drop-drop m at xs)
-
-pub length-boundaries : {T : Type 0} (eq : T → T → Bool) (xs : List T) → length (boundaries eq xs) ≡ length xs - 1
-length-boundaries eq xs = length-map (neighbours xs) _ ∙ length-neighbours xs
 
 -- the lower sixteen bits, and those above
 abbrev pub joined : ℕ → ℕ → ℕ
@@ -90,27 +84,30 @@ module _ (bs : List Bool) (at : ℕ) (room : at + 64 ≤ length bs) where
       ∙ four (reverse (lanes (at + 48))) (reverse (lanes (at + 32))) (reverse (lanes (at + 16))) (reverse (lanes at))
       (long_back (at + 48) (omega arith)) (long_back (at + 32) (omega arith)) (long_back (at + 16) (omega arith)))
 
--- the masks of the tests of the neighbouring pairs of xs
-module _ {T : Type 0} (eq : T → T → Bool) (xs : List T) where
-  pub few : (at m : ℕ) → at + 16 < length xs → m ≡ mask_l (chunk at 16 (boundaries eq xs)) → m < 65536
-  few at m room e =
-      let l = length-boundaries eq xs in
-      omega (arith, e, mask_small (chunk at 16 (boundaries eq xs)) (length-chunk at 16 (boundaries eq xs) (omega (arith, l))))
+-- the same of four masks that are given
+module _ (bs : List Bool) (at a b c d : ℕ) (room : at + 64 ≤ length bs) where
+  module _ (e : a ≡ mask_l (chunk at 16 bs)) (f : b ≡ mask_l (chunk (at + 16) 16 bs)) (g : c ≡ mask_l (chunk (at + 32) 16 bs))
+      (h : d ≡ mask_l (chunk (at + 48) 16 bs)) where
+    pub all_small : (a < 65536) × (b < 65536) × (c < 65536) × (d < 65536)
+    all_small = (
+      omega (arith, e, small bs at room at (omega arith)),
+      omega (arith, f, small bs at room (at + 16) (omega arith)),
+      omega (arith, g, small bs at room (at + 32) (omega arith)),
+      omega (arith, h, small bs at room (at + 48) (omega arith)),
+    )
 
-  pub few_back : (at m : ℕ) → at + 16 < length xs → m ≡ mask_l (reverse (chunk at 16 (boundaries eq xs))) → m < 65536
-  few_back at m room e =
-      let l = length-boundaries eq xs in
-      let lanes = chunk at 16 (boundaries eq xs) in
-      omega (arith, e, mask_small (reverse lanes) (length-reverse lanes ∙ length-chunk at 16 (boundaries eq xs) (omega (arith, l))))
+    pub block_is : {m : ℕ} → m ≡ a + 65536 * (b + 65536 * (c + 65536 * d)) → m ≡ mask_l (chunk at 64 bs)
+    block_is i = i ∙ rw (e, f, g, h) (block_mask bs at room)
 
-  module _ (at a b c d : ℕ) (room : at + 64 < length xs) where
-    pub block_is : a ≡ mask_l (chunk at 16 (boundaries eq xs)) → b ≡ mask_l (chunk (at + 16) 16 (boundaries eq xs))
-        → c ≡ mask_l (chunk (at + 32) 16 (boundaries eq xs)) → d ≡ mask_l (chunk (at + 48) 16 (boundaries eq xs))
-        → a + 65536 * (b + 65536 * (c + 65536 * d)) ≡ mask_l (chunk at 64 (boundaries eq xs))
-    block_is e f g h = rw (e, f, g, h) (block_mask (boundaries eq xs) at (omega (arith, length-boundaries eq xs)))
+  module _ (e : a ≡ mask_l (reverse (chunk (at + 48) 16 bs))) (f : b ≡ mask_l (reverse (chunk (at + 32) 16 bs)))
+      (g : c ≡ mask_l (reverse (chunk (at + 16) 16 bs))) (h : d ≡ mask_l (reverse (chunk at 16 bs))) where
+    pub all_small_back : (a < 65536) × (b < 65536) × (c < 65536) × (d < 65536)
+    all_small_back = (
+      omega (arith, e, small_back bs at room (at + 48) (omega arith)),
+      omega (arith, f, small_back bs at room (at + 32) (omega arith)),
+      omega (arith, g, small_back bs at room (at + 16) (omega arith)),
+      omega (arith, h, small_back bs at room at (omega arith)),
+    )
 
-    pub block_back_is : a ≡ mask_l (reverse (chunk (at + 48) 16 (boundaries eq xs)))
-        → b ≡ mask_l (reverse (chunk (at + 32) 16 (boundaries eq xs))) → c ≡ mask_l (reverse (chunk (at + 16) 16 (boundaries eq xs)))
-        → d ≡ mask_l (reverse (chunk at 16 (boundaries eq xs)))
-        → a + 65536 * (b + 65536 * (c + 65536 * d)) ≡ mask_l (reverse (chunk at 64 (boundaries eq xs)))
-    block_back_is e f g h = rw (e, f, g, h) (block_mask_back (boundaries eq xs) at (omega (arith, length-boundaries eq xs)))
+    pub block_back_is : {m : ℕ} → m ≡ a + 65536 * (b + 65536 * (c + 65536 * d)) → m ≡ mask_l (reverse (chunk at 64 bs))
+    block_back_is i = i ∙ rw (e, f, g, h) (block_mask_back bs at room)

@@ -6,4 +6,5 @@ mod Known
 mod Asked
 mod Taken
 mod Scanned
+mod Beginnings
 pub mod Queue

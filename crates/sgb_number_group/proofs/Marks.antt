@@ -1,15 +1,13 @@
 -- What a mask of some pairs says of each, from the first pair on or from the last.
-use Rattle.std.proofs.Common.{◌≡◌, ℕ, suc, ◌+◌, ◌-◌, ◌*◌, ◌^◌, ◌<◌, cond, not, Bool, true, false, List, [], ◌∷◌, length, get_or, take, drop-cons, inl, inr, sym, ap, ◌∙◌, subst, arith, ⊎_elim}
+use Rattle.std.proofs.Common.{◌≡◌, ℕ, ◌+◌, ◌-◌, ◌*◌, ◌^◌, ◌<◌, cond, Bool, true, false, List, [], ◌∷◌, length, get_or, take, drop-cons, inl, inr, sym, ap, ◌∙◌, subst, arith, ⊎_elim}
 use Rattle.std.specs.Prelude.{reverse}
 use Rattle.std.proofs.lemmas.Bool.{cases_lt, cases_Bool, cond-true, cond-false, false≢true}
 use Rattle.std.proofs.lemmas.Simd.{length-chunk, get_or-chunk, bit_mask_l, mask_l-lt}
-use Rattle.std.proofs.lemmas.List.{get_or-reverse, get_or-map, get_or_past, length-reverse}
+use Rattle.std.proofs.lemmas.List.{get_or-reverse, get_or_past, length-reverse}
 use Rattle.std.specs.Int.{bit_at}
 use Rattle.std.specs.Simd.Lanes.{mask_l, chunk}
-use Rattle.sgb_search.specs.Split.{neighbours, on_pairs}
-use Rattle.sgb_search.proofs.Lists.Pairs.{neighbours_at}
 use Rattle.sgb_numbers.specs.Boundaries.{boundaries, differs}
-use Rattle.sgb_number_group.proofs.Joined.{length-boundaries}
+use Rattle.sgb_numbers.proofs.Pairs.{length-boundaries}
 
 -- the bits of the mask of some tests
 module _ (bs : List Bool) where
@@ -82,13 +80,6 @@ module _ {T : Type 0} (eq : T → T → Bool) (xs : List T) (at w c : ℕ) where
 
 -- one pair
 module _ {T : Type 0} (eq : T → T → Bool) (xs : List T) (at : ℕ) where
-  pub differs_at : (a b : T) → at + 1 < length xs → a ≡ get_or xs at a → b ≡ get_or xs (at + 1) b → differs eq xs at ≡ not (eq a b)
-  unfolding differs
-  differs_at a b l e f =
-      let next : b ≡ get_or xs (suc at) b = f ∙ ap (λ (n : ℕ). get_or xs n b) {x = at + 1} {y = suc at} (omega arith) in
-      let pair = neighbours_at xs at a b (omega arith) e next in
-      get_or-map (λ q. not (on_pairs eq q)) (neighbours xs) at (a, b) false pair.inside ∙ ap (λ q. not (on_pairs eq q)) pair.is
-
   one_test : at + 1 < length xs → tests eq xs at 1 0 ≡ differs eq xs at ∷ []
   unfolding differs
   one_test l = ap (take 1) (drop-cons (boundaries eq xs) at false (omega (arith, l, length-boundaries eq xs)))

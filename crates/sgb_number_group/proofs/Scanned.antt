@@ -1,14 +1,13 @@
 -- A scan that compares numbers with one of them, as what it tells of neighbouring pairs: equality is symmetric and transitive.
 use Rattle.std.proofs.Common.{◌≡◌, ◌≢◌, ℕ, ◌+◌, ◌-◌, ◌^◌, ◌<◌, ◌≤◌, Bool, true, false, not, List, length, get_or, ◌⊎◌, inl, inr, sym, ap, ◌∙◌, subst, arith, ⊎_elim}
 use Rattle.std.proofs.lemmas.Bool.{cases_lt, false_from_ne_true, false≢true}
-use Rattle.std.proofs.lemmas.List.{get_or_default}
 use Rattle.std.proofs.lemmas.Nat.Bits.{bit_at-zero, bit_at-pow_same, bit_at-pow_other}
 use Rattle.std.specs.Cmp.{IsPartialEquivalence}
 use Rattle.std.specs.Int.{bit_at}
 use Rattle.sgb_numbers.specs.Alike.{AreLike}
 use Rattle.sgb_numbers.specs.Boundaries.{differs}
 use Rattle.sgb_number_group.specs.Masks.{AreSame, FrontMask, BackMask}
-use Rattle.sgb_number_group.proofs.Marks.{differs_at}
+use Rattle.sgb_numbers.proofs.Pairs.{differs_or}
 
 -- the one bit that is set
 top_only : (k : ℕ) → bit_at (2 ^ 63) k ≡ 1 → k ≡ 63
@@ -73,16 +72,11 @@ module _ {T : Type 0} (eq : T → T → Bool) (xs : List T) where
     abbrev IsLike : ℕ → Type 0
     IsLike k = (at k ≡ e) ⊎ (eq (at k) e ≡ true)
 
-    answer : (p : ℕ) → p + 1 < length xs → differs eq xs p ≡ not (eq (at p) (at (p + 1)))
-    answer p l =
-        differs_at eq xs p (at p) (at (p + 1)) l (get_or_default xs p e (at p) (omega arith))
-        (get_or_default xs (p + 1) e (at (p + 1)) l)
-
     same_pair : (p : ℕ) → p + 1 < length xs → eq (at p) (at (p + 1)) ≡ true → differs eq xs p ≡ false
-    same_pair p l h = answer p l ∙ ap not h
+    same_pair p l h = differs_or eq xs p e l ∙ ap not h
 
     cut_pair : (p : ℕ) → p + 1 < length xs → (eq (at p) (at (p + 1)) ≡ true → ⊥) → is_cut p
-    cut_pair p l h = answer p l ∙ ap not (false_from_ne_true (eq (at p) (at (p + 1))) h)
+    cut_pair p l h = differs_or eq xs p e l ∙ ap not (false_from_ne_true (eq (at p) (at (p + 1))) h)
 
     -- going up from the place of the number
     module _ (from end : ℕ) (here : e ≡ at from) (order : from + 1 ≤ end) (within : end ≤ length xs)

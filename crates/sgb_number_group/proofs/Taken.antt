@@ -4,15 +4,14 @@ use Rattle.std.specs.Prelude.{slice_range}
 use Rattle.std.proofs.lemmas.List.{drop-drop}
 use Rattle.std.proofs.Math.Seq.{take-add}
 use Rattle.std.proofs.Props.{props}
-use Rattle.std.specs.declared.cmp.PartialEq.{Ghosts}
 use Rattle.sgb_search.specs.declared.end.End.TheVariants.{Front, Back}
+use Rattle.sgb_search.specs.declared.judge.Judge.{Ghosts}
 use Rattle.sgb_search.specs.Calls.{IsGroupAt, Place, place_after}
 use Rattle.sgb_search.specs.Linear.{LinearQuestions}
 use Rattle.sgb_search.specs.Questions.{IsRun, questions}
 use Rattle.sgb_search.proofs.Lists.Ranges.{length-range}
-use Rattle.sgb_numbers.specs.Numbers.{by_number}
-use Rattle.sgb_numbers.specs.declared.number_judge.NumberJudge.{NumberJudge}
-use Rattle.sgb_number_group.specs.declared.groups.LinearNumberGroup.{LinearNumberGroup}
+use Rattle.sgb_numbers.specs.declared.masks.Masks as masks
+use Rattle.sgb_number_group.specs.declared.groups.MaskGroups.{MaskGroups}
 use Rattle.sgb_number_group.specs.Masks.{FrontMask, BackMask, IsFirstEnd, IsLastStart}
 use Rattle.sgb_number_group.proofs.Asked.{asked_front, asked_back}
 
@@ -30,45 +29,50 @@ range_empty xs low high l = ap (λ (n : ℕ). take n (drop low xs)) {x = high - 
 abbrev pub from_place : {T : Type 0} → List T → ℕ → Place T
 from_place xs low = record { input = xs; offset = low }
 
-module _ {T : Type 0} (eq : T → T → Bool) (xs : List T) (low high : ℕ) (nonempty : low < high) (inside : high ≤ length xs) where
-  pub front_call : (j : NumberJudge) (end : ℕ) → IsFirstEnd eq xs low high end
-      → IsGroupAt (LinearQuestions (by_number eq)) Front (record { remainder = slice_range xs low high; judge = j }) (slice_range xs low end)
-      (record { remainder = slice_range xs end high; judge = j })
-  front_call j end is =
-      let long = length-range xs low end (omega (arith, is.nonempty)) (omega (arith, is.within, inside)) in
-      record {
-        nonempty = omega (arith, long, is.nonempty);
-        cut = range_split xs low end high (omega (arith, is.nonempty)) is.within;
-        asked =
-            subst (λ (n : ℕ). IsRun (by_number eq).may_ask (by_number eq).answers j (questions Front (slice_range xs low high) n) j) (sym long)
-            (asked_front eq xs low high nonempty inside j end is);
-      }
-
+module _ {T : Type 0} (eq : T → T → Bool) (xs : List T) (low high : ℕ) (inside : high ≤ length xs) where
   pub front_place : (end : ℕ) → IsFirstEnd eq xs low high end
       → from_place xs end ≡ place_after Front (length (slice_range xs low end)) (from_place xs low)
   front_place end is =
       let long = length-range xs low end (omega (arith, is.nonempty)) (omega (arith, is.within, inside)) in
       ap (from_place xs) {x = end} {y = low + length (slice_range xs low end)} (omega (arith, long, is.nonempty))
 
-  pub back_call : (j : NumberJudge) (start : ℕ) → IsLastStart eq xs low high start
-      → IsGroupAt (LinearQuestions (by_number eq)) Back (record { remainder = slice_range xs low high; judge = j }) (slice_range xs start high)
+-- a judge that answers what eq says
+module _ {T J : Type 0} (eq : T → T → Bool) (g : Ghosts J T) (j : J) (asks : (q : T × T) → g.may_ask j q)
+    (tells : (q : T × T) → g.answers j q (eq q.0 q.1) j) (xs : List T) (low high : ℕ) (nonempty : low < high)
+    (inside : high ≤ length xs) where
+  pub front_call : (end : ℕ) → IsFirstEnd eq xs low high end
+      → IsGroupAt (LinearQuestions g) Front (record { remainder = slice_range xs low high; judge = j }) (slice_range xs low end)
+      (record { remainder = slice_range xs end high; judge = j })
+  front_call end is =
+      let long = length-range xs low end (omega (arith, is.nonempty)) (omega (arith, is.within, inside)) in
+      record {
+        nonempty = omega (arith, long, is.nonempty);
+        cut = range_split xs low end high (omega (arith, is.nonempty)) is.within;
+        asked =
+            subst (λ (n : ℕ). IsRun g.may_ask g.answers j (questions Front (slice_range xs low high) n) j) (sym long)
+            (asked_front eq g j asks tells xs low high nonempty inside end is);
+      }
+
+  pub back_call : (start : ℕ) → IsLastStart eq xs low high start
+      → IsGroupAt (LinearQuestions g) Back (record { remainder = slice_range xs low high; judge = j }) (slice_range xs start high)
       (record { remainder = slice_range xs low start; judge = j })
-  back_call j start is =
+  back_call start is =
       let long = length-range xs start high (omega (arith, is.nonempty)) inside in
       record {
         nonempty = omega (arith, long, is.nonempty);
         cut = range_split xs low start high is.within (omega (arith, is.nonempty));
         asked =
-            subst (λ (n : ℕ). IsRun (by_number eq).may_ask (by_number eq).answers j (questions Back (slice_range xs low high) n) j) (sym long)
-            (asked_back eq xs low high nonempty inside j start is);
+            subst (λ (n : ℕ). IsRun g.may_ask g.answers j (questions Back (slice_range xs low high) n) j) (sym long)
+            (asked_back eq g j asks tells xs low high nonempty inside start is);
       }
 
 -- what it keeps of itself is known in one way alone
-module _ {T : Type 0} {P : Ghosts T} (s : LinearNumberGroup T P) where
-  abbrev again : s.low ≤ s.high → s.high ≤ length s.slice.now → FrontMask P.eq s.slice.now s.low s.front s.known
-      → BackMask P.eq s.slice.now s.high s.back s.base → LinearNumberGroup T P
+module _ {T J : Type 0} {P : masks.Ghosts J T} (s : MaskGroups T J P) where
+  abbrev again : s.low ≤ s.high → s.high ≤ length s.slice.now → FrontMask P.same s.slice.now s.low s.front s.known
+      → BackMask P.same s.slice.now s.high s.back s.base → MaskGroups T J P
   again o n f b = record {
     slice = s.slice;
+    judge = s.judge;
     low = s.low;
     high = s.high;
     front = s.front;
@@ -87,14 +91,14 @@ module _ {T : Type 0} {P : Ghosts T} (s : LinearNumberGroup T P) where
   inside_known : IsProp (s.high ≤ length s.slice.now)
   inside_known = hlevel props
 
-  front_known : IsProp (FrontMask P.eq s.slice.now s.low s.front s.known)
+  front_known : IsProp (FrontMask P.same s.slice.now s.low s.front s.known)
   front_known = hlevel props
 
-  back_known : IsProp (BackMask P.eq s.slice.now s.high s.back s.base)
+  back_known : IsProp (BackMask P.same s.slice.now s.high s.back s.base)
   back_known = hlevel props
 
-  pub same_again : (o : s.low ≤ s.high) (n : s.high ≤ length s.slice.now) (f : FrontMask P.eq s.slice.now s.low s.front s.known)
-      (b : BackMask P.eq s.slice.now s.high s.back s.base) → again o n f b ≡ s
+  pub same_again : (o : s.low ≤ s.high) (n : s.high ≤ length s.slice.now) (f : FrontMask P.same s.slice.now s.low s.front s.known)
+      (b : BackMask P.same s.slice.now s.high s.back s.base) → again o n f b ≡ s
   same_again o n f b =
       ap (λ x. again x n f b) (order_known o s.order) ∙ ap (λ x. again s.order x f b) (inside_known n s.inside)
       ∙ ap (λ x. again s.order s.inside x b) (front_known f s.front_mask)

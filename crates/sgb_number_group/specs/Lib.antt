@@ -1,2 +1,4 @@
+pub mod Counted
 pub mod Gives
 pub mod Masks
+pub mod Starts

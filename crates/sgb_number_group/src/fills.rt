@@ -4,7 +4,7 @@ ghost use Rattle.sgb_numbers.specs.Boundaries.{differs};
 ghost use Rattle.sgb_number_group.specs.Masks.{AreSame, FrontMask, BackMask, IsFirstEnd, IsLastStart};
 
 use crate::blocks::{block, block_back};
-use sgb_numbers::lanes::Lanes;
+use sgb_numbers::masks::Masks;
 use sgb_numbers::scans::{like_back_by_vectors, like_by_vectors};
 
 // So many pairs are compared with each other first. In a group that goes on, numbers are compared with one of them: that loads a
@@ -13,78 +13,82 @@ const NEAR: usize = 128;
 
 /// Where the first group from the place `low` on ends, where the mask has a boundary.
 #[inline(always)]
-pub(crate) fn first_end<T: Lanes>(slice: &[T], low: usize, front: u64, known: usize) -> usize
+pub(crate) fn first_end<T, M: Masks<T>>(slice: &[T], low: usize, front: u64, known: usize) -> usize
     requires some { 0 < front }
-    requires mask { FrontMask T.eq slice.now low front known }
+    requires mask { FrontMask M.same slice.now low front known }
     ensures nonempty { low < result }
     ensures within { result ≤ known }
-    ensures same { AreSame T.eq slice.now low (result - 1) }
-    ensures differ { differs T.eq slice.now (result - 1) ≡ true }
-    ensures mask { FrontMask T.eq slice.now result (bit_and front (front - 1)) known }
+    ensures same { AreSame M.same slice.now low (result - 1) }
+    ensures differ { differs M.same slice.now (result - 1) ≡ true }
+    ensures mask { FrontMask M.same slice.now result (bit_and front (front - 1)) known }
 {
     known - (63 - front.trailing_zeros() as usize)
 }
 
 /// Where the last group before the place `high` begins, where the mask has a boundary.
 #[inline(always)]
-pub(crate) fn last_start<T: Lanes>(slice: &[T], high: usize, back: u64, base: usize) -> usize
+pub(crate) fn last_start<T, M: Masks<T>>(slice: &[T], high: usize, back: u64, base: usize) -> usize
     requires some { 0 < back }
     requires inside { high ≤ length slice.now }
-    requires mask { BackMask T.eq slice.now high back base }
+    requires mask { BackMask M.same slice.now high back base }
     ensures nonempty { result < high }
     ensures within { base < result }
-    ensures same { AreSame T.eq slice.now result (high - 1) }
-    ensures differ { differs T.eq slice.now (result - 1) ≡ true }
-    ensures mask { BackMask T.eq slice.now result (bit_and back (back - 1)) base }
+    ensures same { AreSame M.same slice.now result (high - 1) }
+    ensures differ { differs M.same slice.now (result - 1) ≡ true }
+    ensures mask { BackMask M.same slice.now result (bit_and back (back - 1)) base }
 {
     base + (64 - back.trailing_zeros() as usize)
 }
 
 /// Whether the elements at the place `at` and the next differ.
 #[inline(always)]
-fn cut<T: Lanes>(slice: &[T], at: usize) -> u64
+fn cut<T, M: Masks<T>>(slice: &[T], at: usize) -> u64
     requires { at + 1 < length slice.now }
-    ensures { result ≡ (if differs T.eq slice.now at then 1 else 0) }
+    ensures { result ≡ (if differs M.same slice.now at then 1 else 0) }
 {
-    if slice[at] == slice[at + 1] { 0 } else { 1 }
+    if M::same(&slice[at], &slice[at + 1]) {
+        0
+    } else {
+        1
+    }
 }
 
 /// The mask of sixteen pairs more, those from the place `at` on.
 #[inline(always)]
-fn grown<T: Lanes>(slice: &[T], _low: usize, at: usize, mask: u64) -> u64
+fn grown<T, M: Masks<T>>(slice: &[T], _low: usize, at: usize, mask: u64) -> u64
     requires after { _low ≤ at }
     requires fits { at + 16 ≤ _low + 64 }
     requires inside { at + 16 < length slice.now }
-    requires mask { FrontMask T.eq slice.now _low mask at }
-    ensures { FrontMask T.eq slice.now _low result (at + 16) }
+    requires mask { FrontMask M.same slice.now _low mask at }
+    ensures { FrontMask M.same slice.now _low result (at + 16) }
 {
-    (mask >> 16) | (T::cuts(slice, at) << 48)
+    (mask >> 16) | (M::cuts(slice, at) << 48)
 }
 
 /// The mask of sixteen pairs more, those from the place `at` on, where the others begin.
 #[inline(always)]
-fn grown_back<T: Lanes>(slice: &[T], _high: usize, at: usize, mask: u64) -> u64
+fn grown_back<T, M: Masks<T>>(slice: &[T], _high: usize, at: usize, mask: u64) -> u64
     requires before { at + 16 < _high }
     requires fits { _high ≤ at + 65 }
     requires inside { _high ≤ length slice.now }
-    requires mask { BackMask T.eq slice.now _high mask (at + 16) }
-    ensures { BackMask T.eq slice.now _high result at }
+    requires mask { BackMask M.same slice.now _high mask (at + 16) }
+    ensures { BackMask M.same slice.now _high result at }
 {
-    (mask >> 16) | (T::cuts_back(slice, at) << 48)
+    (mask >> 16) | (M::cuts_back(slice, at) << 48)
 }
 
 /// A mask of the pairs from the place `from` on, up to the end of the first block with a boundary, and where that is.
 #[inline(always)]
-fn fill_front<T: Lanes>(slice: &[T], from: usize, high: usize) -> (u64, usize)
+fn fill_front<T, M: Masks<T>>(slice: &[T], from: usize, high: usize) -> (u64, usize)
     requires order { from < high }
     requires inside { high ≤ length slice.now }
-    ensures mask { FrontMask T.eq slice.now from result.0 result.1 }
+    ensures mask { FrontMask M.same slice.now from result.0 result.1 }
     ensures within { result.1 < high }
     ensures all { result.0 ≡ 0 → result.1 + 1 ≡ high }
 {
     // A call on a new iterator alone should not take long.
     if from == 0 && 17 <= high {
-        let mask = grown(slice, 0, 0, 0);
+        let mask = grown::<T, M>(slice, 0, 0, 0);
         if mask != 0 {
             return (mask, 16);
         }
@@ -92,27 +96,27 @@ fn fill_front<T: Lanes>(slice: &[T], from: usize, high: usize) -> (u64, usize)
     let mut at = from;
     while 65 <= high - at {
         if NEAR <= at - from {
-            return scan_front(slice, at, high);
+            return scan_front::<T, M>(slice, at, high);
         }
-        let mask = block(slice, at);
+        let mask = block::<T, M>(slice, at);
         at += 64;
         if mask != 0 {
             return (mask, at);
         }
     }
-    fill_rest(slice, at, high)
+    fill_rest::<T, M>(slice, at, high)
 }
 
 /// A mask of the pairs from the place `from` on, up to the first that differs.
 #[inline]
-fn scan_front<T: Lanes>(slice: &[T], from: usize, high: usize) -> (u64, usize)
+fn scan_front<T, M: Masks<T>>(slice: &[T], from: usize, high: usize) -> (u64, usize)
     requires order { from < high }
     requires inside { high ≤ length slice.now }
-    ensures mask { FrontMask T.eq slice.now from result.0 result.1 }
+    ensures mask { FrontMask M.same slice.now from result.0 result.1 }
     ensures within { result.1 < high }
     ensures all { result.0 ≡ 0 → result.1 + 1 ≡ high }
 {
-    let end = like_by_vectors(&slice[from], slice, from + 1, high);
+    let end = like_by_vectors::<T, M>(&slice[from], slice, from + 1, high);
     if end < high {
         (1 << 63, end)
     } else {
@@ -122,21 +126,21 @@ fn scan_front<T: Lanes>(slice: &[T], from: usize, high: usize) -> (u64, usize)
 
 /// A mask of the pairs from the place `from` on, where 63 are left at most.
 #[inline(always)]
-fn fill_rest<T: Lanes>(slice: &[T], from: usize, high: usize) -> (u64, usize)
+fn fill_rest<T, M: Masks<T>>(slice: &[T], from: usize, high: usize) -> (u64, usize)
     requires order { from < high }
     requires few { high ≤ from + 64 }
     requires inside { high ≤ length slice.now }
-    ensures mask { FrontMask T.eq slice.now from result.0 result.1 }
+    ensures mask { FrontMask M.same slice.now from result.0 result.1 }
     ensures all { result.1 + 1 ≡ high }
 {
     let mut at = from;
     let mut mask = 0u64;
     while 17 <= high - at {
-        mask = grown(slice, from, at, mask);
+        mask = grown::<T, M>(slice, from, at, mask);
         at += 16;
     }
     while 2 <= high - at {
-        mask = (mask >> 1) | (cut(slice, at) << 63);
+        mask = (mask >> 1) | (cut::<T, M>(slice, at) << 63);
         at += 1;
     }
     (mask, at)
@@ -144,16 +148,16 @@ fn fill_rest<T: Lanes>(slice: &[T], from: usize, high: usize) -> (u64, usize)
 
 /// A mask of the pairs before the place `upto`, from `low` on, down to the beginning of the first block with a boundary.
 #[inline(always)]
-fn fill_back<T: Lanes>(slice: &[T], low: usize, upto: usize) -> (u64, usize)
+fn fill_back<T, M: Masks<T>>(slice: &[T], low: usize, upto: usize) -> (u64, usize)
     requires order { low ≤ upto }
     requires inside { upto < length slice.now }
-    ensures mask { BackMask T.eq slice.now (upto + 1) result.0 result.1 }
+    ensures mask { BackMask M.same slice.now (upto + 1) result.0 result.1 }
     ensures within { low ≤ result.1 }
     ensures all { result.0 ≡ 0 → result.1 ≡ low }
 {
     // A call on a new iterator alone should not take long.
     if upto + 1 == slice.len() && 16 <= upto - low {
-        let mask = grown_back(slice, upto + 1, upto - 16, 0);
+        let mask = grown_back::<T, M>(slice, upto + 1, upto - 16, 0);
         if mask != 0 {
             return (mask, upto - 16);
         }
@@ -161,27 +165,27 @@ fn fill_back<T: Lanes>(slice: &[T], low: usize, upto: usize) -> (u64, usize)
     let mut at = upto;
     while 64 <= at - low {
         if NEAR <= upto - at {
-            return scan_back(slice, low, at);
+            return scan_back::<T, M>(slice, low, at);
         }
         at -= 64;
-        let mask = block_back(slice, at);
+        let mask = block_back::<T, M>(slice, at);
         if mask != 0 {
             return (mask, at);
         }
     }
-    fill_back_rest(slice, low, at)
+    fill_back_rest::<T, M>(slice, low, at)
 }
 
 /// A mask of the pairs before the place `upto`, down to the first that differs, or to `low`.
 #[inline]
-fn scan_back<T: Lanes>(slice: &[T], low: usize, upto: usize) -> (u64, usize)
+fn scan_back<T, M: Masks<T>>(slice: &[T], low: usize, upto: usize) -> (u64, usize)
     requires order { low ≤ upto }
     requires inside { upto < length slice.now }
-    ensures mask { BackMask T.eq slice.now (upto + 1) result.0 result.1 }
+    ensures mask { BackMask M.same slice.now (upto + 1) result.0 result.1 }
     ensures within { low ≤ result.1 }
     ensures all { result.0 ≡ 0 → result.1 ≡ low }
 {
-    let start = like_back_by_vectors(&slice[upto], slice, low, upto);
+    let start = like_back_by_vectors::<T, M>(&slice[upto], slice, low, upto);
     if low < start {
         (1 << 63, start - 1)
     } else {
@@ -191,22 +195,22 @@ fn scan_back<T: Lanes>(slice: &[T], low: usize, upto: usize) -> (u64, usize)
 
 /// A mask of the pairs before the place `upto`, from `low` on, where 63 are left at most.
 #[inline(always)]
-fn fill_back_rest<T: Lanes>(slice: &[T], low: usize, upto: usize) -> (u64, usize)
+fn fill_back_rest<T, M: Masks<T>>(slice: &[T], low: usize, upto: usize) -> (u64, usize)
     requires order { low ≤ upto }
     requires few { upto < low + 64 }
     requires inside { upto < length slice.now }
-    ensures mask { BackMask T.eq slice.now (upto + 1) result.0 result.1 }
+    ensures mask { BackMask M.same slice.now (upto + 1) result.0 result.1 }
     ensures all { result.1 ≡ low }
 {
     let mut at = upto;
     let mut mask = 0u64;
     while 16 <= at - low {
         at -= 16;
-        mask = grown_back(slice, upto + 1, at, mask);
+        mask = grown_back::<T, M>(slice, upto + 1, at, mask);
     }
     while low < at {
         at -= 1;
-        mask = (mask >> 1) | (cut(slice, at) << 63);
+        mask = (mask >> 1) | (cut::<T, M>(slice, at) << 63);
     }
     (mask, at)
 }
@@ -215,7 +219,7 @@ fn fill_back_rest<T: Lanes>(slice: &[T], low: usize, upto: usize) -> (u64, usize
 /// boundary.
 #[cold]
 #[inline(never)]
-pub(crate) fn far_front<T: Lanes>(
+pub(crate) fn far_front<T, M: Masks<T>>(
     slice: &[T],
     low: usize,
     high: usize,
@@ -224,14 +228,14 @@ pub(crate) fn far_front<T: Lanes>(
 ) -> (u64, usize, usize)
     requires order { low < high }
     requires inside { high ≤ length slice.now }
-    requires mask { FrontMask T.eq slice.now low front known }
-    ensures end { IsFirstEnd T.eq slice.now low high result.2 }
-    ensures mask { FrontMask T.eq slice.now result.2 result.0 result.1 }
+    requires mask { FrontMask M.same slice.now low front known }
+    ensures end { IsFirstEnd M.same slice.now low high result.2 }
+    ensures mask { FrontMask M.same slice.now result.2 result.0 result.1 }
 {
     if front == 0 {
-        return filled_front(slice, low, high, known);
+        return filled_front::<T, M>(slice, low, high, known);
     }
-    let end = first_end(slice, low, front, known);
+    let end = first_end::<T, M>(slice, low, front, known);
     if end < high {
         (front & (front - 1), known, end)
     } else {
@@ -240,19 +244,24 @@ pub(crate) fn far_front<T: Lanes>(
 }
 
 #[inline(always)]
-fn filled_front<T: Lanes>(slice: &[T], low: usize, high: usize, known: usize) -> (u64, usize, usize)
+fn filled_front<T, M: Masks<T>>(
+    slice: &[T],
+    low: usize,
+    high: usize,
+    known: usize,
+) -> (u64, usize, usize)
     requires order { low < high }
     requires inside { high ≤ length slice.now }
-    requires mask { FrontMask T.eq slice.now low 0 known }
-    ensures end { IsFirstEnd T.eq slice.now low high result.2 }
-    ensures mask { FrontMask T.eq slice.now result.2 result.0 result.1 }
+    requires mask { FrontMask M.same slice.now low 0 known }
+    ensures end { IsFirstEnd M.same slice.now low high result.2 }
+    ensures mask { FrontMask M.same slice.now result.2 result.0 result.1 }
 {
     let from = low.max(known).min(high - 1);
-    let (front, filled) = fill_front(slice, from, high);
+    let (front, filled) = fill_front::<T, M>(slice, from, high);
     if front == 0 {
         return (0, 0, high);
     }
-    let end = first_end(slice, low, front, filled);
+    let end = first_end::<T, M>(slice, low, front, filled);
     (front & (front - 1), filled, end)
 }
 
@@ -260,7 +269,7 @@ fn filled_front<T: Lanes>(slice: &[T], low: usize, high: usize, known: usize) ->
 /// no boundary.
 #[cold]
 #[inline(never)]
-pub(crate) fn far_back<T: Lanes>(
+pub(crate) fn far_back<T, M: Masks<T>>(
     slice: &[T],
     low: usize,
     high: usize,
@@ -269,14 +278,14 @@ pub(crate) fn far_back<T: Lanes>(
 ) -> (u64, usize, usize)
     requires order { low < high }
     requires inside { high ≤ length slice.now }
-    requires mask { BackMask T.eq slice.now high back base }
-    ensures start { IsLastStart T.eq slice.now low high result.2 }
-    ensures mask { BackMask T.eq slice.now result.2 result.0 result.1 }
+    requires mask { BackMask M.same slice.now high back base }
+    ensures start { IsLastStart M.same slice.now low high result.2 }
+    ensures mask { BackMask M.same slice.now result.2 result.0 result.1 }
 {
     if back == 0 {
-        return filled_back(slice, low, high, base);
+        return filled_back::<T, M>(slice, low, high, base);
     }
-    let start = last_start(slice, high, back, base);
+    let start = last_start::<T, M>(slice, high, back, base);
     if low < start {
         (back & (back - 1), base, start)
     } else {
@@ -285,18 +294,23 @@ pub(crate) fn far_back<T: Lanes>(
 }
 
 #[inline(always)]
-fn filled_back<T: Lanes>(slice: &[T], low: usize, high: usize, base: usize) -> (u64, usize, usize)
+fn filled_back<T, M: Masks<T>>(
+    slice: &[T],
+    low: usize,
+    high: usize,
+    base: usize,
+) -> (u64, usize, usize)
     requires order { low < high }
     requires inside { high ≤ length slice.now }
-    requires mask { BackMask T.eq slice.now high 0 base }
-    ensures start { IsLastStart T.eq slice.now low high result.2 }
-    ensures mask { BackMask T.eq slice.now result.2 result.0 result.1 }
+    requires mask { BackMask M.same slice.now high 0 base }
+    ensures start { IsLastStart M.same slice.now low high result.2 }
+    ensures mask { BackMask M.same slice.now result.2 result.0 result.1 }
 {
     let upto = base.min(high - 1).max(low);
-    let (back, filled) = fill_back(slice, low, upto);
+    let (back, filled) = fill_back::<T, M>(slice, low, upto);
     if back == 0 {
         return (0, low, low);
     }
-    let start = last_start(slice, high, back, filled);
+    let start = last_start::<T, M>(slice, high, back, filled);
     (back & (back - 1), filled, start)
 }

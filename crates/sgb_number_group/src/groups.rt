@@ -1,4 +1,4 @@
-//! The groups of equal numbers of a slice, for reading.
+//! The groups of the elements of a slice that are the same, for reading.
 ghost use Rattle.std.specs.Prelude.{◌≡◌, ◌<◌, ◌≤◌, ◌+◌, ◌^◌, length, nat_eq, IfSome, if◌then◌else◌};
 ghost use Rattle.std.specs.Iterator.{UpTo};
 ghost use Rattle.std.specs.Iterator.SizeHint.{IsWithinCount};
@@ -7,22 +7,17 @@ ghost use Rattle.sgb_search.specs.Calls.{groups_to_come};
 ghost use Rattle.sgb_number_group.specs.Masks.{FrontMask, BackMask};
 
 use crate::fills::{far_back, far_front, first_end, last_start};
-use sgb_numbers::lanes::Lanes;
+use sgb_numbers::masks::{MaskJudge, Masks};
 use std::iter::FusedIterator;
 
-/// An iterator over the groups of equal numbers of a slice, from both ends: the groups of `LinearGroup`.
+/// An iterator over the groups of a slice, from both ends. `J` tells which elements are the same.
 ///
-/// It compares sixty-four neighbouring pairs at a time by vectors, and keeps for each end which of them differ, so that most
-/// calls read no element. No contract counts its comparisons.
-///
-/// ```
-/// let mut groups = LinearNumberGroup::new(&[1, 1, 1, 3, 3, 2, 2, 2]);
-/// groups.next();      // Some([1, 1, 1])
-/// groups.next_back(); // Some([2, 2, 2])
-/// ```
+/// It looks at sixty-four neighbouring pairs at a time, and keeps for each end which of them differ, so that most calls read no
+/// element. No contract counts its comparisons.
 #[derive(Drop)]
-pub struct LinearNumberGroup<'a, T: Lanes> {
+pub struct MaskGroups<'a, T, J: Masks<T>> {
     slice: &'a [T],
+    judge: J,
     // The remainder lies from the place `low` up to the place `high`.
     low: usize,
     high: usize,
@@ -37,28 +32,28 @@ pub struct LinearNumberGroup<'a, T: Lanes> {
 
     ghost inside: { high ≤ length slice.now },
 
-    ghost front_mask: { FrontMask T.eq slice.now low front known },
+    ghost front_mask: { FrontMask J.same slice.now low front known },
 
-    ghost back_mask: { BackMask T.eq slice.now high back base },
+    ghost back_mask: { BackMask J.same slice.now high back base },
 }
 
-impl<'a, T: Lanes> LinearNumberGroup<'a, T> {
-    ghost use Rattle.sgb_numbers.specs.Numbers.{by_number};
+impl<'a, T, J: MaskJudge<T> + Drop> MaskGroups<'a, T, J> {
     ghost use Rattle.sgb_search.specs.Calls.{IsCallableBy, StandsAt, at_start};
     ghost use Rattle.sgb_search.specs.Linear.{IsSettled};
     ghost use Rattle.sgb_search.specs.Split.{AreNeighbours};
     ghost use Rattle.sgb_number_group.specs.Gives.{groups_of, place_of};
 
-    /// All groups of equal numbers of the slice, which are still to come. Nothing is compared yet.
+    // All groups of the slice are still to come.
     #[inline]
-    pub fn new(slice: &'a [T]) -> Self
+    pub(crate) fn with_judge(slice: &'a [T], judge: J) -> Self
         ensures remainder { (groups_of result).remainder ≡ slice.now }
         ensures place { place_of result ≡ at_start slice.now }
-        ensures callable { IsCallableBy AreNeighbours (by_number T.eq) (groups_of result) }
-        ensures settled { IsSettled (by_number T.eq) (groups_of result) T.eq }
+        ensures callable { IsCallableBy AreNeighbours J.Judge (groups_of result) }
+        ensures settled { IsSettled J.Judge (groups_of result) J.same }
     {
-        LinearNumberGroup {
+        MaskGroups {
             slice,
+            judge,
             low: 0,
             high: slice.len(),
             front: 0,
@@ -103,7 +98,7 @@ impl<'a, T: Lanes> LinearNumberGroup<'a, T> {
     }
 }
 
-impl<'a, T: Lanes> Iterator for LinearNumberGroup<'a, T> {
+impl<'a, T, J: MaskJudge<T> + Drop> Iterator for MaskGroups<'a, T, J> {
     type Item = &'a [T];
 
     ghost use Rattle.std.specs.Prelude.{⊤};
@@ -111,7 +106,7 @@ impl<'a, T: Lanes> Iterator for LinearNumberGroup<'a, T> {
 
     ghost can_next = { λ s. ⊤ };
 
-    ghost next_gives = { Gives Front };
+    ghost next_gives = { Gives J.Judge Front };
 
     ghost remaining = { λ s. groups_to_come (groups_of s) };
 
@@ -121,7 +116,7 @@ impl<'a, T: Lanes> Iterator for LinearNumberGroup<'a, T> {
         let slice = self.slice;
         let low = self.low;
         if self.front != 0 {
-            let end = first_end(slice, low, self.front, self.known);
+            let end = first_end::<T, J>(slice, low, self.front, self.known);
             if end < self.high {
                 self.front &= self.front - 1;
                 self.low = end;
@@ -145,13 +140,13 @@ impl<'a, T: Lanes> Iterator for LinearNumberGroup<'a, T> {
     }
 }
 
-impl<'a, T: Lanes> DoubleEndedIterator for LinearNumberGroup<'a, T> {
+impl<'a, T, J: MaskJudge<T> + Drop> DoubleEndedIterator for MaskGroups<'a, T, J> {
     ghost use Rattle.std.specs.Prelude.{⊤};
     ghost use Rattle.sgb_number_group.specs.Gives.{groups_of, Gives};
 
     ghost can_next_back = { λ s. ⊤ };
 
-    ghost next_back_gives = { Gives Back };
+    ghost next_back_gives = { Gives J.Judge Back };
 
     /// The last group of the remainder, or `None` where nothing remains.
     #[inline]
@@ -159,7 +154,7 @@ impl<'a, T: Lanes> DoubleEndedIterator for LinearNumberGroup<'a, T> {
         let slice = self.slice;
         let high = self.high;
         if self.back != 0 {
-            let start = last_start(slice, high, self.back, self.base);
+            let start = last_start::<T, J>(slice, high, self.back, self.base);
             if self.low < start {
                 self.back &= self.back - 1;
                 self.high = start;
@@ -170,23 +165,23 @@ impl<'a, T: Lanes> DoubleEndedIterator for LinearNumberGroup<'a, T> {
     }
 }
 
-impl<'a, T: Lanes> FusedIterator for LinearNumberGroup<'a, T> {}
+impl<'a, T, J: MaskJudge<T> + Drop> FusedIterator for MaskGroups<'a, T, J> {}
 
-impl<'a, T: Lanes> LinearNumberGroup<'a, T> {
+impl<'a, T, J: MaskJudge<T> + Drop> MaskGroups<'a, T, J> {
     ghost use Rattle.sgb_number_group.specs.Gives.{Gives};
-    ghost use Rattle.sgb_number_group.specs.declared.groups.LinearNumberGroup.{LinearNumberGroup};
+    ghost use Rattle.sgb_number_group.specs.declared.groups.MaskGroups.{MaskGroups};
 
     // What `next` gives where the mask does not tell.
     #[inline(always)]
     fn next_far(&mut self) -> Option<&'a [T]>
-        ensures { Gives Front self.old result self.new }
+        ensures { Gives J.Judge Front self.old result self.new }
     {
         let slice = self.slice;
         let low = self.low;
         if low >= self.high {
             return None;
         }
-        let (front, known, end) = far_front(slice, low, self.high, self.front, self.known);
+        let (front, known, end) = far_front::<T, J>(slice, low, self.high, self.front, self.known);
         self.front = front;
         self.known = known;
         self.low = end;
@@ -196,14 +191,14 @@ impl<'a, T: Lanes> LinearNumberGroup<'a, T> {
     // What `next_back` gives where the mask does not tell.
     #[inline(always)]
     fn next_back_far(&mut self) -> Option<&'a [T]>
-        ensures { Gives Back self.old result self.new }
+        ensures { Gives J.Judge Back self.old result self.new }
     {
         let slice = self.slice;
         let high = self.high;
         if self.low >= high {
             return None;
         }
-        let (back, base, start) = far_back(slice, self.low, high, self.back, self.base);
+        let (back, base, start) = far_back::<T, J>(slice, self.low, high, self.back, self.base);
         self.back = back;
         self.base = base;
         self.high = start;
@@ -213,7 +208,7 @@ impl<'a, T: Lanes> LinearNumberGroup<'a, T> {
     /// The last group of the remainder, or `None` where nothing remains: what `next_back` gives. The iterator is given up.
     #[inline]
     pub fn last(mut self) -> Option<&'a [T]>
-        ensures { (t : LinearNumberGroup T T.PartialEq) × Gives Back self.entry result t }
+        ensures { (t : MaskGroups T J J.Masks) × Gives J.Judge Back self.entry result t }
     {
         self.next_back()
     }

@@ -1,7 +1,10 @@
-//! Groups of equal numbers by masks: sixty-four neighbouring pairs are compared at a time, and what that told is kept for the
-//! calls to come.
+//! Groups of equal numbers, and of bytes of one class, by masks: sixty-four neighbouring pairs are compared at a
+//! time, and what that told is kept for the calls to come.
 #![tactic(auto)]
 
 mod blocks;
+pub mod by_class;
+pub mod by_number;
+pub mod class_counts;
 mod fills;
 pub mod groups;

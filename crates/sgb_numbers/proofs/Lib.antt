@@ -1,3 +1,6 @@
+mod Codes
+pub mod OneByOne
+pub mod Pairs
 mod Sixteen
 mod SignedBits
 mod Neighbours

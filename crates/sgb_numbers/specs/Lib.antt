@@ -1,3 +1,5 @@
 pub mod Alike
+pub mod AsciiBytes
 pub mod Boundaries
+pub mod Classes
 pub mod Numbers

@@ -1,5 +1,8 @@
 //! The judge of equal numbers.
+ghost use Rattle.std.specs.Prelude.{refl};
+
 use crate::lanes::Lanes;
+use crate::masks::{MaskJudge, Masks};
 use crate::scans::{first_like, last_like};
 use sgb_search::judge::Judge;
 
@@ -18,7 +21,7 @@ impl<T: Lanes> Judge<T> for NumberJudge {
 
     #[inline]
     fn ask(&mut self, first: &T, second: &T) -> bool {
-        first == second
+        <NumberJudge as Masks<T>>::same(first, second)
     }
 
     #[inline]
@@ -30,4 +33,38 @@ impl<T: Lanes> Judge<T> for NumberJudge {
     fn last_len(&mut self, slice: &[T], low: usize, high: usize) -> usize {
         last_like(slice, low, high)
     }
+}
+
+impl<T: Lanes> Masks<T> for NumberJudge {
+    ghost same = { T.eq };
+
+    #[inline(always)]
+    fn same(first: &T, second: &T) -> bool {
+        first == second
+    }
+
+    #[inline(always)]
+    fn unlike(one: &T, slice: &[T], at: usize) -> u64 {
+        T::unlike(one, slice, at)
+    }
+
+    #[inline(always)]
+    fn cuts(slice: &[T], at: usize) -> u64 {
+        T::cuts(slice, at)
+    }
+
+    #[inline(always)]
+    fn cuts_back(slice: &[T], at: usize) -> u64 {
+        T::cuts_back(slice, at)
+    }
+
+    ghost laws = { T.PartialEq.laws };
+}
+
+impl<T: Lanes> MaskJudge<T> for NumberJudge {
+    ghost asks = { λ _ _. tt };
+
+    ghost tells = { λ _ _. refl };
+
+    ghost only = { λ _ _ _ _ e. e };
 }

@@ -6,6 +6,8 @@ ghost use Rattle.std.specs.Prelude.{◌≡◌, ◌+◌, ◌-◌, ◌<◌, ◌≤
 ghost use Rattle.sgb_numbers.specs.Alike.{AreLike, IsFirstLen, IsLastLen};
 
 use crate::lanes::Lanes;
+use crate::masks::Masks;
+use crate::number_judge::NumberJudge;
 
 // So many are compared one by one first: groups are often as short.
 const NEAR: usize = 9;
@@ -19,27 +21,27 @@ pub fn first_like<T: Lanes>(slice: &[T], low: usize, high: usize) -> usize
 {
     let number = &slice[low];
     if high - low < NEAR + 16 {
-        return like_from(number, slice, low, 1, high - low);
+        return like_from::<T, NumberJudge>(number, slice, low, 1, high - low);
     }
-    let near = like_from(number, slice, low, 1, NEAR);
+    let near = like_from::<T, NumberJudge>(number, slice, low, 1, NEAR);
     if near < NEAR {
         return near;
     }
-    like_by_vectors(number, slice, low + NEAR, high) - low
+    like_by_vectors::<T, NumberJudge>(number, slice, low + NEAR, high) - low
 }
 
 /// How many elements from the place `low` on are equal to the number, `most` at most, where the first `len` are.
 #[inline]
-fn like_from<T: PartialEq>(number: &T, slice: &[T], low: usize, len: usize, most: usize) -> usize
+fn like_from<T, M: Masks<T>>(number: &T, slice: &[T], low: usize, len: usize, most: usize) -> usize
     requires order { len ≤ most }
     requires inside { low + most ≤ length slice.now }
     ensures low { len ≤ result }
     ensures high { result ≤ most }
-    ensures like { AreLike T.eq number.now slice.now (low + len) (low + result) }
-    ensures unlike { result < most → T.eq (slice_index_or slice.now (low + result) number.now) number.now ≡ false }
+    ensures like { AreLike M.same number.now slice.now (low + len) (low + result) }
+    ensures unlike { result < most → M.same (slice_index_or slice.now (low + result) number.now) number.now ≡ false }
 {
     let mut all = len;
-    while all < most && slice[low + all] == *number {
+    while all < most && M::same(&slice[low + all], number) {
         all += 1;
     }
     all
@@ -48,23 +50,23 @@ fn like_from<T: PartialEq>(number: &T, slice: &[T], low: usize, len: usize, most
 /// The first place from `low` on whose element is not equal to the number, or `high`: by vectors, and one by one where less
 /// than a vector is left.
 #[inline]
-pub fn like_by_vectors<T: Lanes>(number: &T, slice: &[T], low: usize, high: usize) -> usize
+pub fn like_by_vectors<T, M: Masks<T>>(number: &T, slice: &[T], low: usize, high: usize) -> usize
     requires order { low ≤ high }
     requires inside { high ≤ length slice.now }
     ensures low { low ≤ result }
     ensures high { result ≤ high }
-    ensures like { AreLike T.eq number.now slice.now low result }
-    ensures unlike { result < high → T.eq (slice_index_or slice.now result number.now) number.now ≡ false }
+    ensures like { AreLike M.same number.now slice.now low result }
+    ensures unlike { result < high → M.same (slice_index_or slice.now result number.now) number.now ≡ false }
 {
     let mut place = low;
     while 16 <= high - place {
-        let unlike = T::unlike(number, slice, place);
+        let unlike = M::unlike(number, slice, place);
         if unlike != 0 {
             return place + unlike.trailing_zeros() as usize;
         }
         place += 16;
     }
-    place + like_from(number, slice, place, 0, high - place)
+    place + like_from::<T, M>(number, slice, place, 0, high - place)
 }
 
 /// How many elements up to the last before the place `high` are equal to that one, from the place `low` on.
@@ -76,28 +78,28 @@ pub fn last_like<T: Lanes>(slice: &[T], low: usize, high: usize) -> usize
 {
     let number = &slice[high - 1];
     if high - low < NEAR + 16 {
-        return like_upto(number, slice, high, 1, high - low);
+        return like_upto::<T, NumberJudge>(number, slice, high, 1, high - low);
     }
-    let near = like_upto(number, slice, high, 1, NEAR);
+    let near = like_upto::<T, NumberJudge>(number, slice, high, 1, NEAR);
     if near < NEAR {
         return near;
     }
-    high - like_back_by_vectors(number, slice, low, high - NEAR)
+    high - like_back_by_vectors::<T, NumberJudge>(number, slice, low, high - NEAR)
 }
 
 /// How many last elements before the place `high` are equal to the number, `most` at most, where the last `len` are.
 #[inline]
-fn like_upto<T: PartialEq>(number: &T, slice: &[T], high: usize, len: usize, most: usize) -> usize
+fn like_upto<T, M: Masks<T>>(number: &T, slice: &[T], high: usize, len: usize, most: usize) -> usize
     requires order { len ≤ most }
     requires room { most ≤ high }
     requires inside { high ≤ length slice.now }
     ensures low { len ≤ result }
     ensures high { result ≤ most }
-    ensures like { AreLike T.eq number.now slice.now (high - result) (high - len) }
-    ensures unlike { result < most → T.eq (slice_index_or slice.now (high - result - 1) number.now) number.now ≡ false }
+    ensures like { AreLike M.same number.now slice.now (high - result) (high - len) }
+    ensures unlike { result < most → M.same (slice_index_or slice.now (high - result - 1) number.now) number.now ≡ false }
 {
     let mut all = len;
-    while all < most && slice[high - all - 1] == *number {
+    while all < most && M::same(&slice[high - all - 1], number) {
         all += 1;
     }
     all
@@ -106,21 +108,26 @@ fn like_upto<T: PartialEq>(number: &T, slice: &[T], high: usize, len: usize, mos
 /// The place behind the last element before `high` that is not equal to the number, or `low`: by vectors, and one by one
 /// where less than a vector is left.
 #[inline]
-pub fn like_back_by_vectors<T: Lanes>(number: &T, slice: &[T], low: usize, high: usize) -> usize
+pub fn like_back_by_vectors<T, M: Masks<T>>(
+    number: &T,
+    slice: &[T],
+    low: usize,
+    high: usize,
+) -> usize
     requires order { low ≤ high }
     requires inside { high ≤ length slice.now }
     ensures low { low ≤ result }
     ensures high { result ≤ high }
-    ensures like { AreLike T.eq number.now slice.now result high }
-    ensures unlike { low < result → T.eq (slice_index_or slice.now (result - 1) number.now) number.now ≡ false }
+    ensures like { AreLike M.same number.now slice.now result high }
+    ensures unlike { low < result → M.same (slice_index_or slice.now (result - 1) number.now) number.now ≡ false }
 {
     let mut place = high;
     while 16 <= place - low {
-        let unlike = T::unlike(number, slice, place - 16);
+        let unlike = M::unlike(number, slice, place - 16);
         if unlike != 0 {
             return place - 15 + unlike.ilog2() as usize;
         }
         place -= 16;
     }
-    place - like_upto(number, slice, place, 0, place - low)
+    place - like_upto::<T, M>(number, slice, place, 0, place - low)
 }

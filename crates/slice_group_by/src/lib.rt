@@ -47,7 +47,13 @@ pub use sgb_linear_str_group::by_equality::{LinearStrGroup, LinearStrGroupMut};
 pub use sgb_linear_str_group::by_key::{LinearStrGroupByKey, LinearStrGroupByKeyMut};
 pub use sgb_linear_str_group::by_predicate::{LinearStrGroupBy, LinearStrGroupByMut};
 pub use sgb_merge_join::{EitherOrBoth, MergeJoinBy};
-pub use sgb_number_group::groups::LinearNumberGroup;
+pub use sgb_number_group::by_class::LinearClassGroup;
+pub use sgb_number_group::by_number::LinearNumberGroup;
+pub use sgb_number_group::class_counts::{
+    ClassCounts, class_after, class_counts_add_up, count_classes,
+};
+pub use sgb_numbers::ascii_classes::{AsciiClass, AsciiClasses};
+pub use sgb_numbers::byte_classes::ByteClasses;
 pub use sgb_numbers::lanes::Lanes;
 pub use sgb_search::ranges::{
     exponential_equal_range, exponential_equal_range_by, exponential_equal_range_by_key,

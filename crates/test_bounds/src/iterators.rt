@@ -27,6 +27,12 @@ pub fn of_elements<'a, T: PartialEq, N: Lanes>(
     is_written::<N, _>(numbers.1);
 }
 
+pub fn of_classes<'a, C: ByteClasses>(bytes: &'a [u8]) -> LinearClassGroup<'a, C> {
+    let groups = LinearClassGroup::new(bytes);
+    is_read::<u8, _>(&groups);
+    groups
+}
+
 pub fn by_predicate<'a, T, P: FnMut(&T, &T) -> bool>(
     read: &BinaryGroupBy<'a, T, P>,
     written: &BinaryGroupByMut<'a, T, P>,

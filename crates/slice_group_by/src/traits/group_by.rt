@@ -16,7 +16,7 @@ use sgb_exponential_group::exponential_group::{
     ExponentialGroup, ExponentialGroupBy, ExponentialGroupByKey,
 };
 use sgb_linear_group::linear_group::{LinearGroup, LinearGroupBy, LinearGroupByKey};
-use sgb_number_group::groups::LinearNumberGroup;
+use sgb_number_group::by_number::LinearNumberGroup;
 use sgb_numbers::lanes::Lanes;
 
 /// Groups of neighbouring elements, for reading.

@@ -7,12 +7,12 @@ pub loop-at-init : goal.loop-at-init
 loop-at-init g c = record {
   after = omega arith;
   before = omega arith;
-  same = same_none g.T.PartialEq.eq c.args.slice.now c.args.upto c.args.upto (omega arith);
+  same = same_none g.M.Masks.same c.args.slice.now c.args.upto c.args.upto (omega arith);
 }
 
 pub returns-then-mask-ne0-2-clause-mask : goal.returns-then-mask-ne0-2-clause-mask
 returns-then-mask-ne0-2-clause-mask g c =
-    let eq = g.T.PartialEq.eq in
+    let eq = g.M.Masks.same in
     let xs = c.args.slice.now in
     let l = c.loop-at in
     let at = l.at - 64 in
@@ -23,7 +23,7 @@ returns-then-mask-ne0-2-clause-mask g c =
 
 pub loop-at-preserved : goal.loop-at-preserved
 loop-at-preserved g c =
-    let eq = g.T.PartialEq.eq in
+    let eq = g.M.Masks.same in
     let xs = c.args.slice.now in
     let l = c.loop-at in
     let at = l.at - 64 in
@@ -38,7 +38,7 @@ loop-at-preserved g c =
 
 pub returns-clause-mask : goal.returns-clause-mask
 returns-clause-mask g c =
-    let eq = g.T.PartialEq.eq in
+    let eq = g.M.Masks.same in
     let xs = c.args.slice.now in
     let l = c.loop-at in
     back_wider eq xs (c.args.upto + 1) (l.at + 1) _ _ (omega arith)
@@ -47,4 +47,4 @@ returns-clause-mask g c =
 
 pub grown_back-mask-requires-clause-mask : goal.grown_back-mask-requires-clause-mask
 grown_back-mask-requires-clause-mask g c =
-    back_none g.T.PartialEq.eq c.args.slice.now (c.args.upto + 1) (c.args.upto - 16 + 16) (omega arith)
+    back_none g.M.Masks.same c.args.slice.now (c.args.upto + 1) (c.args.upto - 16 + 16) (omega arith)

@@ -6,7 +6,7 @@ abbrev pub invariant-loop-at : goal.invariant-loop-at
 invariant-loop-at g l = record {
   after : l.low ≤ l.at;
   before : l.at ≤ l.upto;
-  same : AreSame g.T.PartialEq.eq l.slice l.at l.upto;
+  same : AreSame g.M.Masks.same l.slice l.at l.upto;
 }
 
 abbrev pub decreases-loop-at : goal.decreases-loop-at

@@ -6,7 +6,7 @@ abbrev pub invariant-loop-at : goal.invariant-loop-at
 invariant-loop-at g l = record {
   after : l.low ≤ l.at;
   before : l.at ≤ l.upto;
-  mask : BackMask g.T.PartialEq.eq l.slice (l.upto + 1) l.mask l.at;
+  mask : BackMask g.M.Masks.same l.slice (l.upto + 1) l.mask l.at;
 }
 
 abbrev pub decreases-loop-at : goal.decreases-loop-at
@@ -16,7 +16,7 @@ abbrev pub invariant-loop-at-2 : goal.invariant-loop-at-2
 invariant-loop-at-2 g l = record {
   after : l.low ≤ l.at;
   before : l.at ≤ l.upto;
-  mask : BackMask g.T.PartialEq.eq l.slice (l.upto + 1) l.mask l.at;
+  mask : BackMask g.M.Masks.same l.slice (l.upto + 1) l.mask l.at;
 }
 
 abbrev pub decreases-loop-at-2 : goal.decreases-loop-at-2

@@ -7,12 +7,12 @@ pub loop-at-init : goal.loop-at-init
 loop-at-init g c = record {
   after = omega arith;
   before = omega arith;
-  same = same_none g.T.PartialEq.eq c.args.slice.now c.args.from c.args.from (omega arith);
+  same = same_none g.M.Masks.same c.args.slice.now c.args.from c.args.from (omega arith);
 }
 
 pub returns-then-mask-ne0-2-clause-mask : goal.returns-then-mask-ne0-2-clause-mask
 returns-then-mask-ne0-2-clause-mask g c =
-    let eq = g.T.PartialEq.eq in
+    let eq = g.M.Masks.same in
     let xs = c.args.slice.now in
     let l = c.loop-at in
     front_wider eq xs c.args.from l.at c.block-mask.result (l.at + 64) l.invariant.after l.invariant.same
@@ -20,7 +20,7 @@ returns-then-mask-ne0-2-clause-mask g c =
 
 pub loop-at-preserved : goal.loop-at-preserved
 loop-at-preserved g c =
-    let eq = g.T.PartialEq.eq in
+    let eq = g.M.Masks.same in
     let xs = c.args.slice.now in
     let l = c.loop-at in
     let mask = front_block eq xs l.at c.block-mask.result
@@ -35,10 +35,10 @@ loop-at-preserved g c =
 pub returns-clause-mask : goal.returns-clause-mask
 returns-clause-mask g c =
     let l = c.loop-at in
-    front_wider g.T.PartialEq.eq c.args.slice.now c.args.from l.at _ _ l.invariant.after l.invariant.same c.fill_rest.ensures.mask
+    front_wider g.M.Masks.same c.args.slice.now c.args.from l.at _ _ l.invariant.after l.invariant.same c.fill_rest.ensures.mask
 
 pub grown-mask-requires-clause-mask : goal.grown-mask-requires-clause-mask
-grown-mask-requires-clause-mask g c = front_none g.T.PartialEq.eq c.args.slice.now 0 0 (omega arith)
+grown-mask-requires-clause-mask g c = front_none g.M.Masks.same c.args.slice.now 0 0 (omega arith)
 
 pub returns-then-mask-ne0-clause-mask : goal.returns-then-mask-ne0-clause-mask
 returns-then-mask-ne0-clause-mask g c = rw c.if-from-eq0.true c.grown-mask.ensures

@@ -6,7 +6,7 @@ abbrev pub invariant-loop-at : goal.invariant-loop-at
 invariant-loop-at g l = record {
   after : l.from ≤ l.at;
   before : l.at < l.high;
-  same : AreSame g.T.PartialEq.eq l.slice l.from l.at;
+  same : AreSame g.M.Masks.same l.slice l.from l.at;
 }
 
 abbrev pub decreases-loop-at : goal.decreases-loop-at

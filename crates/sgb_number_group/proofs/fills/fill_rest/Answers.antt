@@ -7,7 +7,7 @@ pub loop-at-init : goal.loop-at-init
 loop-at-init g c = record {
   after = omega arith;
   before = omega arith;
-  mask = front_none g.T.PartialEq.eq c.args.slice.now c.args.from c.args.from (omega arith);
+  mask = front_none g.M.Masks.same c.args.slice.now c.args.from c.args.from (omega arith);
 }
 
 pub loop-at-preserved : goal.loop-at-preserved
@@ -15,7 +15,7 @@ loop-at-preserved g c = record { after = omega arith; before = omega arith; mask
 
 pub loop-at-2-preserved : goal.loop-at-2-preserved
 loop-at-2-preserved g c =
-    let eq = g.T.PartialEq.eq in
+    let eq = g.M.Masks.same in
     let xs = c.args.slice.now in
     let l = c.loop-at-2 in
     let marks = marks_one eq xs l.at c.cut.result (omega arith) c.cut.ensures in

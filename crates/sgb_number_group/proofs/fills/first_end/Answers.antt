@@ -4,15 +4,15 @@ use Rattle.sgb_number_group.proofs.fills.first_end.Goals as goal
 
 pub overflow_sub-result : goal.overflow_sub-result
 overflow_sub-result g c =
-    first_few g.T.PartialEq.eq c.args.slice.now c.args.low c.args.front c.args.known c.requires.some c.ranges.front.fits c.requires.mask
+    first_few g.M.Masks.same c.args.slice.now c.args.low c.args.front c.args.known c.requires.some c.ranges.front.fits c.requires.mask
 
 pub overflow_sub-result-2 : goal.overflow_sub-result-2
 overflow_sub-result-2 g c =
-    first_room g.T.PartialEq.eq c.args.slice.now c.args.low c.args.front c.args.known c.requires.some c.ranges.front.fits c.requires.mask
+    first_room g.M.Masks.same c.args.slice.now c.args.low c.args.front c.args.known c.requires.some c.ranges.front.fits c.requires.mask
 
 pub returns : goal.returns
 returns g c =
-    let eq = g.T.PartialEq.eq in
+    let eq = g.M.Masks.same in
     let a = c.args in
     let small = c.ranges.front.fits in
     record {

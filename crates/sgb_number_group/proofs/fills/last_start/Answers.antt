@@ -4,17 +4,17 @@ use Rattle.sgb_number_group.proofs.fills.last_start.Goals as goal
 
 pub overflow_sub-result : goal.overflow_sub-result
 overflow_sub-result g c =
-    last_few g.T.PartialEq.eq c.args.slice.now c.args.high c.args.back c.args.base c.requires.some c.ranges.back.fits c.requires.mask
+    last_few g.M.Masks.same c.args.slice.now c.args.high c.args.back c.args.base c.requires.some c.ranges.back.fits c.requires.mask
 
 pub overflow_add-result : goal.overflow_add-result
 overflow_add-result g c =
-    let before = start_nonempty g.T.PartialEq.eq c.args.slice.now c.args.high c.args.back c.args.base c.requires.some c.ranges.back.fits
+    let before = start_nonempty g.M.Masks.same c.args.slice.now c.args.high c.args.back c.args.base c.requires.some c.ranges.back.fits
     c.requires.mask in
     omega (arith, before, c.ranges.high.fits)
 
 pub returns : goal.returns
 returns g c =
-    let eq = g.T.PartialEq.eq in
+    let eq = g.M.Masks.same in
     let a = c.args in
     let small = c.ranges.back.fits in
     record {

@@ -5,9 +5,9 @@ use Rattle.sgb_number_group.proofs.fills.scan_back.Goals as goal
 
 pub returns-then-low-start-clause-mask : goal.returns-then-low-start-clause-mask
 returns-then-low-start-clause-mask g c =
-    let eq = g.T.PartialEq.eq in
+    let eq = g.M.Masks.same in
     let xs = c.args.slice.now in
-    let laws = g.met.T.PartialEq.laws in
+    let laws = g.met.M.Masks.laws in
     let s = c.like_back_by_vectors-start in
     let e = c.index-slice-upto in
     back_top eq xs (c.args.upto + 1) (s.result - 1) (omega arith)
@@ -19,11 +19,11 @@ returns-then-low-start-clause-mask g c =
 
 pub returns-else-low-start-clause-mask : goal.returns-else-low-start-clause-mask
 returns-else-low-start-clause-mask g c =
-    let eq = g.T.PartialEq.eq in
+    let eq = g.M.Masks.same in
     let xs = c.args.slice.now in
     let s = c.like_back_by_vectors-start in
     let e = c.index-slice-upto in
     back_bare eq xs (c.args.upto + 1) c.args.low
     (same_part eq xs s.result c.args.upto c.args.low (c.args.upto + 1 - 1)
-    (scanned_back_same eq xs g.met.T.PartialEq.laws e.result s.result c.args.upto e.is s.ensures.high (omega arith) s.ensures.like)
+    (scanned_back_same eq xs g.met.M.Masks.laws e.result s.result c.args.upto e.is s.ensures.high (omega arith) s.ensures.like)
     (omega arith) (omega arith))

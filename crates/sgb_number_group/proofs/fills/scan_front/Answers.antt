@@ -5,9 +5,9 @@ use Rattle.sgb_number_group.proofs.fills.scan_front.Goals as goal
 
 pub returns-then-end-high-clause-mask : goal.returns-then-end-high-clause-mask
 returns-then-end-high-clause-mask g c =
-    let eq = g.T.PartialEq.eq in
+    let eq = g.M.Masks.same in
     let xs = c.args.slice.now in
-    let laws = g.met.T.PartialEq.laws in
+    let laws = g.met.M.Masks.laws in
     let s = c.like_by_vectors-end in
     let e = c.index-slice-from in
     front_top eq xs c.args.from s.result (omega arith)
@@ -17,11 +17,11 @@ returns-then-end-high-clause-mask g c =
 
 pub returns-else-end-high-clause-mask : goal.returns-else-end-high-clause-mask
 returns-else-end-high-clause-mask g c =
-    let eq = g.T.PartialEq.eq in
+    let eq = g.M.Masks.same in
     let xs = c.args.slice.now in
     let s = c.like_by_vectors-end in
     let e = c.index-slice-from in
     front_bare eq xs c.args.from (c.args.high - 1)
     (same_part eq xs c.args.from (s.result - 1) c.args.from (c.args.high - 1)
-    (scanned_same eq xs g.met.T.PartialEq.laws e.result c.args.from s.result e.is s.ensures.low (omega arith) s.ensures.like)
+    (scanned_same eq xs g.met.M.Masks.laws e.result c.args.from s.result e.is s.ensures.low (omega arith) s.ensures.like)
     (omega arith) (omega arith))

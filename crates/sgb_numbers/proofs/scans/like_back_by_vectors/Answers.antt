@@ -5,8 +5,8 @@ use Rattle.sgb_numbers.proofs.scans.like_back_by_vectors.Goals as goal
 
 pub overflow_add-result : goal.overflow_add-result
 overflow_add-result g c =
-    let few = lane_below g.T.PartialEq.eq c.args.number.now c.args.slice.now (c.loop-place.place - 16) (omega arith) _
-    c.unlike-unlike.ensures c.ilog2.result (highest_set g.T.PartialEq.eq c.args.number.now c.args.slice.now (c.loop-place.place - 16)
+    let few = lane_below g.M.Masks.same c.args.number.now c.args.slice.now (c.loop-place.place - 16) (omega arith) _
+    c.unlike-unlike.ensures c.ilog2.result (highest_set g.M.Masks.same c.args.number.now c.args.slice.now (c.loop-place.place - 16)
     (omega arith) _ c.unlike-unlike.ensures _ c.ilog2.ensures.power_le c.ilog2.ensures.next_power_gt) in
     search rules
 
@@ -14,14 +14,14 @@ pub returns-then-unlike-ne0-clause-high : goal.returns-then-unlike-ne0-clause-hi
 returns-then-unlike-ne0-clause-high g c =
     omega (
       arith,
-      lane_below g.T.PartialEq.eq c.args.number.now c.args.slice.now (c.loop-place.place - 16) (omega arith) _
-          c.unlike-unlike.ensures c.ilog2.result (highest_set g.T.PartialEq.eq c.args.number.now c.args.slice.now
+      lane_below g.M.Masks.same c.args.number.now c.args.slice.now (c.loop-place.place - 16) (omega arith) _
+          c.unlike-unlike.ensures c.ilog2.result (highest_set g.M.Masks.same c.args.number.now c.args.slice.now
           (c.loop-place.place - 16) (omega arith) _ c.unlike-unlike.ensures _ c.ilog2.ensures.power_le c.ilog2.ensures.next_power_gt),
     )
 
 pub returns-then-unlike-ne0-clause-like : goal.returns-then-unlike-ne0-clause-like
 returns-then-unlike-ne0-clause-like g c =
-    let eq = g.T.PartialEq.eq in
+    let eq = g.M.Masks.same in
     let e = c.args.number.now in
     let xs = c.args.slice.now in
     let place = c.loop-place.place in
@@ -35,7 +35,7 @@ returns-then-unlike-ne0-clause-like g c =
 
 pub loop-place-preserved : goal.loop-place-preserved
 loop-place-preserved g c =
-    let eq = g.T.PartialEq.eq in
+    let eq = g.M.Masks.same in
     let e = c.args.number.now in
     let xs = c.args.slice.now in
     let place = c.loop-place.place in
@@ -49,7 +49,7 @@ loop-place-preserved g c =
 
 pub returns-then-unlike-ne0-clause-unlike : goal.returns-then-unlike-ne0-clause-unlike
 returns-then-unlike-ne0-clause-unlike g c before =
-    let eq = g.T.PartialEq.eq in
+    let eq = g.M.Masks.same in
     let number = c.args.number.now in
     let xs = c.args.slice.now in
     let place = c.loop-place.place in

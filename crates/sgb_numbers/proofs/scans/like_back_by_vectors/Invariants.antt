@@ -6,7 +6,7 @@ abbrev pub invariant-loop-place : goal.invariant-loop-place
 invariant-loop-place g l = record {
   low : l.low ≤ l.place;
   high : l.place ≤ l.high;
-  like : AreLike g.T.PartialEq.eq l.number l.slice l.place l.high;
+  like : AreLike g.M.Masks.same l.number l.slice l.place l.high;
 }
 
 abbrev pub decreases-loop-place : goal.decreases-loop-place

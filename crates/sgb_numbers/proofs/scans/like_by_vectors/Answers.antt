@@ -4,7 +4,7 @@ use Rattle.sgb_numbers.proofs.scans.like_by_vectors.Goals as goal
 
 pub overflow_add-result : goal.overflow_add-result
 overflow_add-result g c =
-    let few = lanes_before g.T.PartialEq.eq c.args.number.now c.args.slice.now c.loop-place.place (omega arith) _
+    let few = lanes_before g.M.Masks.same c.args.number.now c.args.slice.now c.loop-place.place (omega arith) _
     c.unlike-unlike.ensures (omega arith) in
     search rules
 
@@ -12,14 +12,14 @@ pub returns-then-unlike-ne0-clause-high : goal.returns-then-unlike-ne0-clause-hi
 returns-then-unlike-ne0-clause-high g c =
     omega (
       arith,
-      lanes_before g.T.PartialEq.eq c.args.number.now c.args.slice.now c.loop-place.place (omega arith) _
+      lanes_before g.M.Masks.same c.args.number.now c.args.slice.now c.loop-place.place (omega arith) _
           c.unlike-unlike.ensures (omega arith),
     )
 
 pub returns-then-unlike-ne0-clause-like : goal.returns-then-unlike-ne0-clause-like
 returns-then-unlike-ne0-clause-like g c =
     like_then _ _ _ _ _ _ c.loop-place.invariant.like
-    (like_before g.T.PartialEq.eq c.args.number.now c.args.slice.now c.loop-place.place (omega arith) _ c.unlike-unlike.ensures
+    (like_before g.M.Masks.same c.args.number.now c.args.slice.now c.loop-place.place (omega arith) _ c.unlike-unlike.ensures
     (omega arith))
 
 pub loop-place-preserved : goal.loop-place-preserved
@@ -28,13 +28,13 @@ loop-place-preserved g c = record {
   high = omega arith;
   like =
       like_then _ _ _ _ _ _ c.loop-place.invariant.like
-      (like_all g.T.PartialEq.eq c.args.number.now c.args.slice.now c.loop-place.place (omega arith) _ c.unlike-unlike.ensures
+      (like_all g.M.Masks.same c.args.number.now c.args.slice.now c.loop-place.place (omega arith) _ c.unlike-unlike.ensures
       (omega arith));
 }
 
 pub returns-then-unlike-ne0-clause-unlike : goal.returns-then-unlike-ne0-clause-unlike
 returns-then-unlike-ne0-clause-unlike g c before =
-    let eq = g.T.PartialEq.eq in
+    let eq = g.M.Masks.same in
     let number = c.args.number.now in
     let xs = c.args.slice.now in
     let place = c.loop-place.place in

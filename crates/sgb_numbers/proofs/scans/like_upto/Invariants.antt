@@ -6,7 +6,7 @@ abbrev pub invariant-loop-all : goal.invariant-loop-all
 invariant-loop-all g l = record {
   least : l.len ≤ l.all;
   most : l.all ≤ l.most;
-  like : AreLike g.T.PartialEq.eq l.number l.slice (l.high - l.all) (l.high - l.len);
+  like : AreLike g.M.Masks.same l.number l.slice (l.high - l.all) (l.high - l.len);
 }
 
 abbrev pub decreases-loop-all : goal.decreases-loop-all

@@ -1,4 +1,4 @@
 //! The types of this library as queues of groups.
-pub mod numbers;
+pub mod masks;
 pub mod slices;
 pub mod texts;

@@ -1,0 +1,5 @@
+use Rattle.slice_group_by.specs.AsciiClass.TheVariants.{Letter}
+use Rattle.example_walks.proofs.tokens.count_words.Goals as goal
+
+pub returns : goal.returns
+returns c = c.count_classes.ensures Letter

@@ -1,6 +1,0 @@
-use Rattle.sgb_search.specs.Split.{AreNeighbours}
-use Rattle.sgb_numbers.proofs.Judged.{number_settled}
-use Rattle.sgb_number_group.proofs.groups.LinearNumberGroup.new.Goals as goal
-
-pub returns-clause-settled : goal.returns-clause-settled
-returns-clause-settled g c = number_settled g.T.PartialEq.eq (AreNeighbours _) _

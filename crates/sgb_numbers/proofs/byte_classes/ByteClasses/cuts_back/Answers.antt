@@ -1,0 +1,43 @@
+use Rattle.std.proofs.Common.{◌+◌, ◌≡◌, get_or, not, sym, ap, ap₂, ◌∙◌, arith}
+use Rattle.std.specs.Ordering.{on}
+use Rattle.sgb_numbers.specs.Boundaries.{boundaries, differs}
+use Rattle.sgb_numbers.proofs.Pairs.{length-boundaries, differs_or}
+use Rattle.sgb_numbers.proofs.OneByOne.{more_back, more_back_fits, bit_few}
+use Rattle.sgb_numbers.proofs.byte_classes.ByteClasses.cuts_back.Goals as goal
+
+pub overflow_mul-mask : goal.overflow_mul-mask
+overflow_mul-mask g c =
+    let same = on g.Self.ByteClasses.class_of g.Self.Class.PartialEq.eq in
+    let xs = c.args.slice.now in
+    let l = c.loop-k in
+    let few = more_back_fits (boundaries same xs) c.args.at l.k l.mask c.loop-k-test.true
+    (omega (arith, length-boundaries same xs, c.requires)) l.invariant.mask in
+    record { fits = omega (arith, few) }
+
+pub overflow_add-mask : goal.overflow_add-mask
+overflow_add-mask g c =
+    let same = on g.Self.ByteClasses.class_of g.Self.Class.PartialEq.eq in
+    let xs = c.args.slice.now in
+    let l = c.loop-k in
+    let few = more_back_fits (boundaries same xs) c.args.at l.k l.mask c.loop-k-test.true
+    (omega (arith, length-boundaries same xs, c.requires)) l.invariant.mask in
+    record { fits = omega (arith, few, bit_few c.ne.result) }
+
+pub loop-k-preserved : goal.loop-k-preserved
+unfolding differs
+loop-k-preserved g c =
+    let same = on g.Self.ByteClasses.class_of g.Self.Class.PartialEq.eq in
+    let xs = c.args.slice.now in
+    let l = c.loop-k in
+    let p = c.args.at + l.k in
+    let next : c.args.at + (l.k + 1) ≡ p + 1 = omega arith in
+    let read : c.ne.result ≡ not (same (get_or xs p 0) (get_or xs (p + 1) 0)) =
+    c.ne.ensures ∙ ap₂ (λ a b. not (g.Self.Class.PartialEq.eq a b)) l.invariant.class
+    (c.class-next.ensures ∙ ap (λ i. g.Self.ByteClasses.class_of (get_or xs i 0)) next) in
+    record {
+      most = omega (arith, c.loop-k-test.true);
+      class = c.class-next.ensures;
+      mask = more_back (boundaries same xs) c.args.at l.k l.mask c.loop-k-test.true
+          (omega (arith, length-boundaries same xs, c.requires)) l.invariant.mask c.ne.result
+          (read ∙ sym (differs_or same xs p 0 (omega (arith, c.loop-k-test.true, c.requires))));
+    }
