@@ -49,10 +49,14 @@ pub use sgb_linear_str_group::by_predicate::{LinearStrGroupBy, LinearStrGroupByM
 pub use sgb_merge_join::{EitherOrBoth, MergeJoinBy};
 pub use sgb_number_group::groups::LinearNumberGroup;
 pub use sgb_numbers::lanes::Lanes;
+pub use sgb_search::partition::{exponential_partition_point, exponential_partition_point_ref};
+pub use sgb_search::places::{
+    exponential_equal_places, exponential_equal_places_by, exponential_equal_places_by_key,
+    exponential_equal_places_by_key_ref, exponential_equal_places_by_ref,
+};
 pub use sgb_search::ranges::{
     exponential_equal_range, exponential_equal_range_by, exponential_equal_range_by_key,
     exponential_equal_range_by_key_ref, exponential_equal_range_by_ref,
-    exponential_partition_point, exponential_partition_point_ref,
 };
 pub use sgb_search::search::{
     exponential_search, exponential_search_by, exponential_search_by_key,
