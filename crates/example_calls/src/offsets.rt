@@ -1,5 +1,5 @@
 //! Where groups begin and end in their input.
-use slice_group_by::{LinearGroupBy, LinearGroupByKey, LinearStrGroupByKey, with_offsets};
+use slice_group_by::{LinearGroupBy, LinearGroupByKey, LinearStrGroupByKey, with_keys, with_offsets};
 use std::alloc::{AllocError, Global};
 use std::io;
 
@@ -34,9 +34,7 @@ pub fn words(alloc: Global, text: &str) -> Result<Vec<(usize, usize)>, AllocErro
 
 /// The groups of rows of one key, each with the key.
 pub fn keyed(alloc: Global, rows: &[(u32, u64)]) -> Result<Vec<(u32, &[(u32, u64)])>, AllocError> {
-    LinearGroupByKey::new(rows, |row: &(u32, u64)| row.0)
-        .map(|group| (group[0].0, group))
-        .collect(alloc)
+    with_keys(LinearGroupByKey::new(rows, |row: &(u32, u64)| row.0)).collect(alloc)
 }
 
 /// The last run of a slice, and the row at which it begins.

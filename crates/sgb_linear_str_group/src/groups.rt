@@ -27,7 +27,7 @@ pub struct LinearStrGroups<'a, J> {
     // from a caller what the judge's closure captured by `&mut`.
     low: usize,
     high: usize,
-    judge: J,
+    pub(crate) judge: J,
 }
 
 // The part of a text between two places, and the empty text where they do not lie between characters in order. The end says only

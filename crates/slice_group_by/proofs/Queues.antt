@@ -5,4 +5,5 @@ pub mod GroupsToCome
 pub mod FamiliesAgree
 pub mod HandedOut
 pub mod Offsets
+pub mod Keyed
 pub mod Chunks

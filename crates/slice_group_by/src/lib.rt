@@ -16,6 +16,7 @@
 
 mod boundaries;
 mod join;
+mod keyed;
 pub mod laws;
 pub mod loans;
 mod offsets;
@@ -26,6 +27,7 @@ pub use boundaries::{
     linear_boundary_by, linear_boundary_by_key,
 };
 pub use join::MergeJoin;
+pub use keyed::{Keyed, WithKeys, with_keys};
 pub use laws::plans::{Plan, refute};
 pub use laws::queue::{End, GroupQueue, SliceQueue, SliceQueueMut, walk};
 pub use laws::ranks::rank_groups;

@@ -56,6 +56,10 @@ pub fn of_texts<P: FnMut(char, char) -> bool, F: FnMut(char) -> K, K: PartialEq 
     is_queue(by_key.1);
 }
 
+pub fn groups_with_keys<Q: Keyed + Drop>(groups: Q) -> WithKeys<Q> {
+    with_keys(groups)
+}
+
 pub fn groups_with_offsets<Q: Offsets + Drop>(groups: Q) -> WithOffsets<Q> {
     with_offsets(groups)
 }
