@@ -1,5 +1,7 @@
 //! Where groups begin and end in their input.
-use slice_group_by::{LinearGroupBy, LinearGroupByKey, LinearStrGroupByKey, with_keys, with_offsets};
+use slice_group_by::{
+    LinearGroupBy, LinearGroupByKey, LinearStrGroupByKey, with_keys, with_offsets,
+};
 use std::alloc::{AllocError, Global};
 use std::io;
 
@@ -35,6 +37,18 @@ pub fn words(alloc: Global, text: &str) -> Result<Vec<(usize, usize)>, AllocErro
 /// The groups of rows of one key, each with the key.
 pub fn keyed(alloc: Global, rows: &[(u32, u64)]) -> Result<Vec<(u32, &[(u32, u64)])>, AllocError> {
     with_keys(LinearGroupByKey::new(rows, |row: &(u32, u64)| row.0)).collect(alloc)
+}
+
+/// The mean amount of the rows of each key, with the key.
+pub fn means(alloc: Global, rows: &[(u32, u64)]) -> Result<Vec<(u32, u64)>, AllocError> {
+    let mut means = Vec::new(alloc);
+    for (key, group) in with_keys(LinearGroupByKey::new(rows, |row: &(u32, u64)| row.0)) {
+        let total = group
+            .iter()
+            .fold(0u64, |sum, row| sum.saturating_add(row.1));
+        means.push((key, total / group.len() as u64))?;
+    }
+    Ok(means)
 }
 
 /// The last run of a slice, and the row at which it begins.
