@@ -6,4 +6,5 @@ pub mod FamiliesAgree
 pub mod HandedOut
 pub mod Offsets
 pub mod Keyed
+pub mod Dedup
 pub mod Chunks

@@ -15,6 +15,7 @@
 #![tactic(auto)]
 
 mod boundaries;
+mod dedup;
 mod join;
 mod keyed;
 pub mod laws;
@@ -26,6 +27,7 @@ pub use boundaries::{
     exponential_boundary, exponential_boundary_by, exponential_boundary_by_key, linear_boundary,
     linear_boundary_by, linear_boundary_by_key,
 };
+pub use dedup::{DedupWithCount, dedup_with_count};
 pub use join::MergeJoin;
 pub use keyed::{Keyed, WithKeys, with_keys};
 pub use laws::plans::{Plan, refute};

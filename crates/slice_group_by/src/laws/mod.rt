@@ -34,6 +34,7 @@ pub mod ranks;
 pub mod sorted;
 pub mod streams;
 
+pub use crate::dedup::sees_counts;
 pub use crate::join::{
     joins_may_go_on, merges_agree, pairs_ascend, pairs_count, pairs_match, partners_are_unique,
     sees_pairs,
