@@ -1,6 +1,7 @@
 //! Where groups begin and end in their input.
 use slice_group_by::{
-    LinearGroupBy, LinearGroupByKey, LinearStrGroupByKey, with_keys, with_offsets,
+    LinearGroupBy, LinearGroupByKey, LinearNumberGroup, LinearStrGroupByKey, dedup_with_count,
+    with_keys, with_offsets,
 };
 use std::alloc::{AllocError, Global};
 use std::io;
@@ -51,6 +52,11 @@ pub fn means(alloc: Global, rows: &[(u32, u64)]) -> Result<Vec<(u32, u64)>, Allo
     Ok(means)
 }
 
+/// How long each run of a slice is, and its number.
+pub fn counts(alloc: Global, slice: &[u32]) -> Result<Vec<(usize, &u32)>, AllocError> {
+    dedup_with_count(LinearNumberGroup::new(slice)).collect(alloc)
+}
+
 /// The last run of a slice, and the row at which it begins.
 pub fn last_run(slice: &[u32]) -> Option<(usize, &[u32])> {
     with_offsets(LinearGroupBy::new(slice, |a, b| a == b)).next_back()
@@ -61,8 +67,10 @@ pub fn print_all(rt: &(impl Print + AllocGlobal)) -> io::Result<()> {
     let sessions = sessions(rt.alloc(), &[0, 60, 90, 1000, 1060, 5000, 5061, 7], 60)?;
     let words = words(rt.alloc(), "to be, or é not")?;
     println!(rt;
-        "offsets: {sessions:?} {words:?} {:?} {:?}",
+        "offsets: {sessions:?} {words:?} {:?} {:?} {:?} {:?}",
         last_run(&[2, 2, 1, 2]),
-        keyed(rt.alloc(), &[(7, 1), (7, 2), (8, 3), (7, 4)])?
+        keyed(rt.alloc(), &[(7, 1), (7, 2), (8, 3), (7, 4)])?,
+        means(rt.alloc(), &[(7, 1), (7, 3), (8, 5)])?,
+        counts(rt.alloc(), &[4, 4, 4, 9])?
     )
 }
