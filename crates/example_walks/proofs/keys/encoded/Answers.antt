@@ -1,4 +1,4 @@
-use Rattle.std.proofs.Common.{rules, nat_eq, ◌∙◌, sym}
+use Rattle.std.proofs.Common.{rules, nat_eq}
 use Rattle.std.proofs.lemmas.Iterator.{YieldsList-from_map, items_from_collect}
 use Rattle.std.proofs.lemmas.Iterator.Consumers.{YieldsList-at}
 use Rattle.std.proofs.lemmas.List.{map-id}
