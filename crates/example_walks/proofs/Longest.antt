@@ -1,5 +1,5 @@
 -- The longest of lists, with one more.
-use Rattle.std.proofs.Common.{◌≡◌, ℕ, zero, suc, ◌+◌, ◌<◌, ◌≤◌, refl, append_assoc, append-nil, get_or, List, [], ◌∷◌, ◌++◌, Option, None}
+use Rattle.std.proofs.Common.{◌≡◌, ℕ, zero, suc, ◌+◌, ◌<◌, ◌≤◌, refl, append_assoc, append-nil, List, [], ◌∷◌, ◌++◌, Option, None}
 use Rattle.std.proofs.Common.{Some, All, length, Bor, MatchOption, ap, sym, subst, ◌∙◌, arith, length-append}
 use Rattle.std.specs.List.{slice_get}
 use Rattle.std.specs.Option.{option_map}
@@ -16,9 +16,9 @@ module _ {T : Type 0} where
   KeepsLongest None lists = lists ≡ []
   KeepsLongest (Some best) lists = IsLongest best lists
 
-  one : (x : List T) (n : ℕ) → length x ≤ n → All (λ other. length other ≤ n) (x ∷ [])
-  one x n few zero d l = few
-  one x n few (suc k) d l = absurd (omega (arith, l))
+  one : (P : List T → Type 0) (x : List T) → P x → All P (x ∷ [])
+  one P x is zero d l = is
+  one P x is (suc k) d l = absurd (omega (arith, l))
 
   last_there : (lists : List (List T)) (x : List T) → slice_get (lists ++ x ∷ []) (length lists) ≡ Some x
   last_there lists x =
@@ -27,7 +27,7 @@ module _ {T : Type 0} where
 
   -- the new one, where none was kept, and where it is longer
   pub first_kept : (lists : List (List T)) (x : List T) → lists ≡ [] → IsLongest x (lists ++ x ∷ [])
-  first_kept lists x none = rw none record { place = 0; there = last_there [] x; longest = one x (length x) (omega arith) }
+  first_kept lists x none = rw none record { place = 0; there = last_there [] x; longest = one _ x (omega arith) }
 
   pub longer_kept : (lists : List (List T)) (best x : List T) → IsLongest best lists → length best < length x → IsLongest x
       (lists ++ x ∷ [])
@@ -36,7 +36,7 @@ module _ {T : Type 0} where
     there = last_there lists x;
     longest =
         All-append (λ other. length other ≤ length x) lists (x ∷ []) (λ k d l. let le = is.longest k d l in omega (arith, le, longer))
-        (one x (length x) (omega arith));
+        (one _ x (omega arith));
   }
 
   -- and the one before it where it is not
@@ -50,7 +50,7 @@ module _ {T : Type 0} where
         there =
             slice_get-get_or (lists ++ x ∷ []) is.place x (omega (arith, within, size))
             ∙ ap Some (get_or-append lists (x ∷ []) x is.place within ∙ get_or_from_slice_get lists is.place best x is.there);
-        longest = All-append (λ other. length other ≤ length best) lists (x ∷ []) is.longest (one x (length best) few);
+        longest = All-append (λ other. length other ≤ length best) lists (x ∷ []) is.longest (one _ x few);
       }
 
   -- once all lists are seen
@@ -87,8 +87,7 @@ module _ {T : Type 0} where
         subst (All (λ other. length other < length x)) (sym is.whole)
         (All-append (λ other. length other < length x) is.before (kept.1 ∷ is.after)
         (λ k d l. let less = is.shorter k d l in omega (arith, less, longer))
-        (All-append (λ other. length other < length x) (kept.1 ∷ []) is.after
-        (λ k d l. elim k as (λ j. j < 1 → length (get_or (kept.1 ∷ []) j d) < length x) [ zero ↦ λ m. longer | suc j ↦ λ m. absurd (omega (arith, m)) ] l)
+        (All-append (λ other. length other < length x) (kept.1 ∷ []) is.after (one _ kept.1 longer)
         (λ k d l. let le = is.longest k d l in omega (arith, le, longer))));
     longest = λ k d l. absurd (omega (arith, l));
   }
@@ -101,7 +100,7 @@ module _ {T : Type 0} where
     whole = ap (λ l. l ++ x ∷ []) is.whole ∙ append_assoc is.before (kept.1 ∷ is.after) (x ∷ []);
     begins = is.begins;
     shorter = is.shorter;
-    longest = All-append (λ other. length other ≤ length kept.1) is.after (x ∷ []) is.longest (one x (length kept.1) few);
+    longest = All-append (λ other. length other ≤ length kept.1) is.after (x ∷ []) is.longest (one _ x few);
   }
 
   -- the lengths so far, with one more
