@@ -27,7 +27,7 @@ module _ {T : Type 0} where
 
   -- the new one, where none was kept, and where it is longer
   pub first_kept : (lists : List (List T)) (x : List T) → lists ≡ [] → IsLongest x (lists ++ x ∷ [])
-  first_kept lists x none = rw none record { place = 0; there = last_there [] x; longest = one _ x (omega arith) }
+  first_kept lists x none = rw none record { place = 0; there = last_there [] x; longest = one (λ other. length other ≤ length x) x (omega arith) }
 
   pub longer_kept : (lists : List (List T)) (best x : List T) → IsLongest best lists → length best < length x → IsLongest x
       (lists ++ x ∷ [])
@@ -36,7 +36,7 @@ module _ {T : Type 0} where
     there = last_there lists x;
     longest =
         All-append (λ other. length other ≤ length x) lists (x ∷ []) (λ k d l. let le = is.longest k d l in omega (arith, le, longer))
-        (one _ x (omega arith));
+        (one (λ other. length other ≤ length x) x (omega arith));
   }
 
   -- and the one before it where it is not
@@ -50,7 +50,8 @@ module _ {T : Type 0} where
         there =
             slice_get-get_or (lists ++ x ∷ []) is.place x (omega (arith, within, size))
             ∙ ap Some (get_or-append lists (x ∷ []) x is.place within ∙ get_or_from_slice_get lists is.place best x is.there);
-        longest = All-append (λ other. length other ≤ length best) lists (x ∷ []) is.longest (one _ x few);
+        longest = All-append (λ other. length other ≤ length best) lists (x ∷ []) is.longest
+            (one (λ other. length other ≤ length best) x few);
       }
 
   -- once all lists are seen
@@ -87,7 +88,7 @@ module _ {T : Type 0} where
         subst (All (λ other. length other < length x)) (sym is.whole)
         (All-append (λ other. length other < length x) is.before (kept.1 ∷ is.after)
         (λ k d l. let less = is.shorter k d l in omega (arith, less, longer))
-        (All-append (λ other. length other < length x) (kept.1 ∷ []) is.after (one _ kept.1 longer)
+        (All-append (λ other. length other < length x) (kept.1 ∷ []) is.after (one (λ other. length other < length x) kept.1 longer)
         (λ k d l. let le = is.longest k d l in omega (arith, le, longer))));
     longest = λ k d l. absurd (omega (arith, l));
   }
@@ -100,7 +101,8 @@ module _ {T : Type 0} where
     whole = ap (λ l. l ++ x ∷ []) is.whole ∙ append_assoc is.before (kept.1 ∷ is.after) (x ∷ []);
     begins = is.begins;
     shorter = is.shorter;
-    longest = All-append (λ other. length other ≤ length kept.1) is.after (x ∷ []) is.longest (one _ x few);
+    longest = All-append (λ other. length other ≤ length kept.1) is.after (x ∷ []) is.longest
+        (one (λ other. length other ≤ length kept.1) x few);
   }
 
   -- the lengths so far, with one more
