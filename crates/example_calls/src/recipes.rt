@@ -36,7 +36,8 @@ pub fn as_of<'a>(
     Ok(joined)
 }
 
-/// The spans that overlap, of spans that ascend by their starts, each as one span from the first start to the greatest end.
+/// The spans that overlap, of spans that ascend by their starts, each as one span from the first start to the greatest
+/// end.
 pub fn merged(alloc: Global, spans: &[(u64, u64)]) -> Result<Vec<(u64, u64)>, AllocError> {
     let mut end = 0u64;
     let groups = LinearGroupBy::new(spans, |earlier: &(u64, u64), later: &(u64, u64)| {

@@ -22,7 +22,8 @@ pub struct DedupWithCount<'a, T, Q> {
     first: PhantomData<&'a T>,
 }
 
-/// How many elements each group that is still to come has, and its first element.
+/// How many elements each group that is still to come has, and its first element. A call asks what a call on the groups
+/// asks.
 ///
 /// ```
 /// for (count, x) in dedup_with_count(LinearGroup::new(&[1, 1, 1, 3, 3])) {
@@ -41,8 +42,8 @@ pub fn dedup_with_count<'a, T: 'a, Q: Offsets + SliceQueue<'a, T>>(
     }
 }
 
-/// What a loop or an adapter sees of the lengths and first elements of groups that are settled for a test: those of the pieces of the
-/// split, in order, and from the back in reverse.
+/// What a loop or an adapter sees of the lengths and first elements of groups that are settled for a test: those of the
+/// pieces of the split, in order, and from the back in reverse.
 pub fn sees_counts<'a, T: 'a, Q: Offsets + SliceQueue<'a, T>>(_groups: &DedupWithCount<'a, T, Q>)
     ensures pieces { (p : T → T → Bool) (e : End) (s : DedupWithCount T Q) → Q.GroupQueue.is_settled (counted_groups s) p
         → YieldsList (GivesCounted Q.GroupQueue.gives e) (λ x. (x.0, x.1.now)) s

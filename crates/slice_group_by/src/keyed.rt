@@ -30,7 +30,8 @@ pub trait Keyed: Offsets {
     // Whether two keys are equal.
     ghost same_key: { Self.Key → Self.Key → Bool };
 
-    // The groups before, a group, the key that one call of the key function gives of its first element, and the groups after.
+    // The groups before, a group, the key that one call of the key function gives of its first element, and the groups
+    // after.
     ghost calls_key: { Self → Self.Item → Self.Key → Self → Type 0 };
 
     /// The key of a group: one call of the key function, on its first element.
@@ -69,9 +70,9 @@ pub struct WithKeys<Q> {
 
 /// The groups that are still to come, each with the key of its first element.
 ///
-/// Each call asks what a call on the groups asks, and then calls the key function once more, on the first element of the group.
-/// The key function must be callable on every element, in whatever state earlier calls left it; a closure whose body may run on
-/// all elements needs no proof.
+/// Each call asks what a call on the groups asks, and then calls the key function once more, on the first element of
+/// the group. The key function must be callable on every element, in whatever state earlier calls left it; a closure
+/// whose body may run on all elements needs no proof.
 ///
 /// ```
 /// for (key, group) in with_keys(LinearGroupByKey::new(&[10, 11, 20, 21, 22], |x| *x / 10)) {
@@ -85,8 +86,12 @@ pub fn with_keys<Q: Keyed>(groups: Q) -> WithKeys<Q>
     WithKeys { groups }
 }
 
-/// What a loop or an adapter sees of groups with keys, if the key function computes a key: the pieces of the split in order, from
-/// the back in reverse, each with the key of its first element. `pieces_by_key` says that the keys of all its elements equal it.
+/// What a loop or an adapter sees of groups with keys, if the key function computes a key: the pieces of the split in
+/// order, from the back in reverse, each with the key of its first element. `pieces_by_key` says that the keys of all
+/// its elements equal it.
+///
+/// Groups of a slice are `is_keyed` if the function, as it is now, computes the key (`ComputesKey`) and what remains fits,
+/// which is what the clause `settled` of `new` takes. For texts `ComputesCharKey` is enough.
 pub fn sees_keys<Q: Keyed>(_groups: &WithKeys<Q>)
     ensures pieces { (key : Q.Element → Q.Key) (e : End) (s : WithKeys Q) → Q.is_keyed (groups_within s) key
         → YieldsList (GivesWithKey Q.gives Q.calls_key e) (λ x. (x.0, Q.shows x.1)) s
