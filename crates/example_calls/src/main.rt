@@ -9,6 +9,7 @@ mod inputs;
 mod loops;
 mod numbers;
 mod offsets;
+mod recipes;
 mod rest;
 mod returned;
 mod searches;
@@ -25,6 +26,7 @@ fn main(rt: HostRuntime) -> io::Result<()> {
     searches::print_all(&rt)?;
     closures::print_all(&rt)?;
     rest::print_all(&rt)?;
+    recipes::print_all(&rt)?;
     streams::print_all(&rt)?;
     bytes::print_all(&rt)?;
     first_page::print_all(&rt)

@@ -1,5 +1,8 @@
 //! Where groups begin and end in their input.
-use slice_group_by::{LinearGroupBy, LinearGroupByKey, LinearStrGroupByKey, with_offsets};
+use slice_group_by::{
+    LinearGroupBy, LinearGroupByKey, LinearNumberGroup, LinearStrGroupByKey, dedup_with_count,
+    with_keys, with_offsets,
+};
 use std::alloc::{AllocError, Global};
 use std::io;
 
@@ -34,9 +37,24 @@ pub fn words(alloc: Global, text: &str) -> Result<Vec<(usize, usize)>, AllocErro
 
 /// The groups of rows of one key, each with the key.
 pub fn keyed(alloc: Global, rows: &[(u32, u64)]) -> Result<Vec<(u32, &[(u32, u64)])>, AllocError> {
-    LinearGroupByKey::new(rows, |row: &(u32, u64)| row.0)
-        .map(|group| (group[0].0, group))
-        .collect(alloc)
+    with_keys(LinearGroupByKey::new(rows, |row: &(u32, u64)| row.0)).collect(alloc)
+}
+
+/// The mean amount of the rows of each key, with the key.
+pub fn means(alloc: Global, rows: &[(u32, u64)]) -> Result<Vec<(u32, u64)>, AllocError> {
+    let mut means = Vec::new(alloc);
+    for (key, group) in with_keys(LinearGroupByKey::new(rows, |row: &(u32, u64)| row.0)) {
+        let total = group
+            .iter()
+            .fold(0u64, |sum, row| sum.saturating_add(row.1));
+        means.push((key, total / group.len() as u64))?;
+    }
+    Ok(means)
+}
+
+/// How long each run of a slice is, and its number.
+pub fn counts(alloc: Global, slice: &[u32]) -> Result<Vec<(usize, &u32)>, AllocError> {
+    dedup_with_count(LinearNumberGroup::new(slice)).collect(alloc)
 }
 
 /// The last run of a slice, and the row at which it begins.
@@ -49,8 +67,10 @@ pub fn print_all(rt: &(impl Print + AllocGlobal)) -> io::Result<()> {
     let sessions = sessions(rt.alloc(), &[0, 60, 90, 1000, 1060, 5000, 5061, 7], 60)?;
     let words = words(rt.alloc(), "to be, or é not")?;
     println!(rt;
-        "offsets: {sessions:?} {words:?} {:?} {:?}",
+        "offsets: {sessions:?} {words:?} {:?} {:?} {:?} {:?}",
         last_run(&[2, 2, 1, 2]),
-        keyed(rt.alloc(), &[(7, 1), (7, 2), (8, 3), (7, 4)])?
+        keyed(rt.alloc(), &[(7, 1), (7, 2), (8, 3), (7, 4)])?,
+        means(rt.alloc(), &[(7, 1), (7, 3), (8, 5)])?,
+        counts(rt.alloc(), &[4, 4, 4, 9])?
     )
 }

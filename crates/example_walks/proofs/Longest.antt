@@ -1,5 +1,5 @@
 -- The longest of lists, with one more.
-use Rattle.std.proofs.Common.{◌≡◌, ℕ, zero, suc, ◌<◌, ◌≤◌, List, [], ◌∷◌, ◌++◌, Option, None}
+use Rattle.std.proofs.Common.{◌≡◌, ℕ, zero, suc, ◌+◌, ◌<◌, ◌≤◌, refl, append_assoc, append-nil, List, [], ◌∷◌, ◌++◌, Option, None}
 use Rattle.std.proofs.Common.{Some, All, length, Bor, MatchOption, ap, sym, subst, ◌∙◌, arith, length-append}
 use Rattle.std.specs.List.{slice_get}
 use Rattle.std.specs.Option.{option_map}
@@ -8,7 +8,7 @@ use Rattle.std.proofs.Math.Seq.{get_or-append_seam}
 use Rattle.std.proofs.lemmas.List.Elements.{All-append}
 use Rattle.std.proofs.lemmas.Option.{slice_get-get_or, slice_get_within, get_or_from_slice_get}
 use Rattle.slice_group_by.specs.Split.{concat}
-use Rattle.example_walks.specs.LongGroups.{IsLongest}
+use Rattle.example_walks.specs.LongGroups.{IsFirstLongest, IsLongest}
 
 module _ {T : Type 0} where
   -- the longest of the lists so far
@@ -16,9 +16,9 @@ module _ {T : Type 0} where
   KeepsLongest None lists = lists ≡ []
   KeepsLongest (Some best) lists = IsLongest best lists
 
-  one : (x : List T) (n : ℕ) → length x ≤ n → All (λ other. length other ≤ n) (x ∷ [])
-  one x n few zero d l = few
-  one x n few (suc k) d l = absurd (omega (arith, l))
+  one : (P : List T → Type 0) (x : List T) → P x → All P (x ∷ [])
+  one P x is zero d l = is
+  one P x is (suc k) d l = absurd (omega (arith, l))
 
   last_there : (lists : List (List T)) (x : List T) → slice_get (lists ++ x ∷ []) (length lists) ≡ Some x
   last_there lists x =
@@ -27,7 +27,7 @@ module _ {T : Type 0} where
 
   -- the new one, where none was kept, and where it is longer
   pub first_kept : (lists : List (List T)) (x : List T) → lists ≡ [] → IsLongest x (lists ++ x ∷ [])
-  first_kept lists x none = rw none record { place = 0; there = last_there [] x; longest = one x (length x) (omega arith) }
+  first_kept lists x none = rw none record { place = 0; there = last_there [] x; longest = one (λ other. length other ≤ length x) x (omega arith) }
 
   pub longer_kept : (lists : List (List T)) (best x : List T) → IsLongest best lists → length best < length x → IsLongest x
       (lists ++ x ∷ [])
@@ -36,7 +36,7 @@ module _ {T : Type 0} where
     there = last_there lists x;
     longest =
         All-append (λ other. length other ≤ length x) lists (x ∷ []) (λ k d l. let le = is.longest k d l in omega (arith, le, longer))
-        (one x (length x) (omega arith));
+        (one (λ other. length other ≤ length x) x (omega arith));
   }
 
   -- and the one before it where it is not
@@ -50,7 +50,8 @@ module _ {T : Type 0} where
         there =
             slice_get-get_or (lists ++ x ∷ []) is.place x (omega (arith, within, size))
             ∙ ap Some (get_or-append lists (x ∷ []) x is.place within ∙ get_or_from_slice_get lists is.place best x is.there);
-        longest = All-append (λ other. length other ≤ length best) lists (x ∷ []) is.longest (one x (length best) few);
+        longest = All-append (λ other. length other ≤ length best) lists (x ∷ []) is.longest
+            (one (λ other. length other ≤ length best) x few);
       }
 
   -- once all lists are seen
@@ -59,3 +60,58 @@ module _ {T : Type 0} where
       → seen ≡ all → xs ≡ concat all → MatchOption kept (xs ≡ []) (λ group. IsLongest group.now all)
   longest_of_all None seen all xs none same covers = covers ∙ ap concat (sym same ∙ none)
   longest_of_all (Some best) seen all xs is same covers = subst (IsLongest best.now) same is
+
+  -- the first longest of the lists so far, and the row at which it begins
+  abbrev pub KeepsFirst : Option (ℕ × List T) → List (List T) → Type 0
+  KeepsFirst None lists = lists ≡ []
+  KeepsFirst (Some kept) lists = IsFirstLongest kept.0 kept.1 lists
+
+  pub first_begins : (lists : List (List T)) (row : ℕ) (x : List T) → lists ≡ [] → row ≡ length (concat lists)
+      → IsFirstLongest row x (lists ++ x ∷ [])
+  first_begins lists row x none at = record {
+    before = [];
+    after = [];
+    whole = ap (λ l. l ++ x ∷ []) none;
+    begins = at ∙ ap (λ l. length (concat l)) none;
+    shorter = λ k d l. absurd (omega (arith, l));
+    longest = λ k d l. absurd (omega (arith, l));
+  }
+
+  pub longer_begins : (lists : List (List T)) (kept : ℕ × List T) (row : ℕ) (x : List T) → IsFirstLongest kept.0 kept.1 lists
+      → length kept.1 < length x → row ≡ length (concat lists) → IsFirstLongest row x (lists ++ x ∷ [])
+  longer_begins lists kept row x is longer at = record {
+    before = lists;
+    after = [];
+    whole = refl;
+    begins = at;
+    shorter =
+        subst (All (λ other. length other < length x)) (sym is.whole)
+        (All-append (λ other. length other < length x) is.before (kept.1 ∷ is.after)
+        (λ k d l. let less = is.shorter k d l in omega (arith, less, longer))
+        (All-append (λ other. length other < length x) (kept.1 ∷ []) is.after (one (λ other. length other < length x) kept.1 longer)
+        (λ k d l. let le = is.longest k d l in omega (arith, le, longer))));
+    longest = λ k d l. absurd (omega (arith, l));
+  }
+
+  pub still_first : (lists : List (List T)) (kept : ℕ × List T) (x : List T) → IsFirstLongest kept.0 kept.1 lists
+      → length x ≤ length kept.1 → IsFirstLongest kept.0 kept.1 (lists ++ x ∷ [])
+  still_first lists kept x is few = record {
+    before = is.before;
+    after = is.after ++ x ∷ [];
+    whole = ap (λ l. l ++ x ∷ []) is.whole ∙ append_assoc is.before (kept.1 ∷ is.after) (x ∷ []);
+    begins = is.begins;
+    shorter = is.shorter;
+    longest = All-append (λ other. length other ≤ length kept.1) is.after (x ∷ []) is.longest
+        (one (λ other. length other ≤ length kept.1) x few);
+  }
+
+  -- the lengths so far, with one more
+  pub next_begins : (lists : List (List T)) (x : List T) → length (concat (lists ++ x ∷ [])) ≡ length (concat lists) + length x
+  next_begins [] x = omega (arith, ap length (append-nil x))
+  next_begins (y ∷ ys) x = omega (arith, length-append y (concat (ys ++ x ∷ [])), length-append y (concat ys), next_begins ys x)
+
+  pub first_of_all : (kept : Option (ℕ × Bor (List T))) (seen all : List (List T)) (xs : List T)
+      → KeepsFirst (option_map (λ found. (found.0, found.1.now)) kept) seen → seen ≡ all → xs ≡ concat all
+      → MatchOption kept (xs ≡ []) (λ found. IsFirstLongest found.0 found.1.now all)
+  first_of_all None seen all xs none same covers = covers ∙ ap concat (sym same ∙ none)
+  first_of_all (Some found) seen all xs is same covers = subst (IsFirstLongest found.0 found.1.now) same is

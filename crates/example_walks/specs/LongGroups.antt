@@ -1,6 +1,7 @@
 -- Which groups are long, and what is made of a group where long ones are cleared.
-use Rattle.std.specs.Prelude.{◌≡◌, ℕ, ◌≤◌, Bool, cond, List, Some, All, length, replicate, nat_lt}
+use Rattle.std.specs.Prelude.{◌≡◌, ℕ, ◌<◌, ◌≤◌, Bool, cond, List, ◌∷◌, ◌++◌, Some, All, length, replicate, nat_lt}
 use Rattle.std.specs.List.{slice_get}
+use Rattle.slice_group_by.specs.Split.{concat}
 
 -- a group of more than max_len elements
 abbrev pub is_long : ℕ → List ℕ → Bool
@@ -15,3 +16,12 @@ pub record IsLongest {T : Type 0} (group : List T) (groups : List (List T)) : Ty
   pub place : ℕ
   pub there : slice_get groups place ≡ Some group
   pub longest : All (λ other. length other ≤ length group) groups
+
+-- the group is one of these, the row is where it begins, those before it are shorter, and none behind it is longer
+pub record IsFirstLongest {T : Type 0} (row : ℕ) (group : List T) (groups : List (List T)) : Type 0 where
+  pub before : List (List T)
+  pub after : List (List T)
+  pub whole : groups ≡ before ++ (group ∷ after)
+  pub begins : row ≡ length (concat before)
+  pub shorter : All (λ other. length other < length group) before
+  pub longest : All (λ other. length other ≤ length group) after

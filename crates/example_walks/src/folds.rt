@@ -1,7 +1,7 @@
 //! What a loop over groups keeps: a count, a total, and one of the groups.
-ghost use Rattle.std.specs.Prelude.{◌≡◌, [], drop, length, nat_eq, sum_by, take, IfSome, MatchOption};
+ghost use Rattle.std.specs.Prelude.{◌≡◌, [], length, nat_eq, sum_by, IfSome, MatchOption};
 ghost use Rattle.slice_group_by.specs.Split.{split};
-ghost use Rattle.example_walks.specs.LongGroups.{IsLongest};
+ghost use Rattle.example_walks.specs.LongGroups.{IsFirstLongest, IsLongest};
 
 use slice_group_by::laws::{calls_take_pieces, one_split, pieces_add_up, sees_pieces};
 use slice_group_by::{LinearGroup, with_offsets};
@@ -61,15 +61,20 @@ pub fn longest_group<T: PartialEq>(xs: &[T]) -> Option<&[T]>
     longest
 }
 
-/// The longest group, the first of several, and the row at which it begins.
+/// The longest group, the first of several, and the row at which it begins, or `None` where there is none.
 pub fn longest_with_row<T: PartialEq>(slice: &[T]) -> Option<(usize, &[T])>
-    ensures { IfSome result (λ found. found.1.now ≡ take (length found.1.now) (drop found.0 slice.now)) }
+    ensures { MatchOption result (slice.now ≡ [])
+        (λ found. IsFirstLongest found.0 found.1.now (split T.eq slice.now)) }
 {
-    let (mut row, mut len) = (0usize, 0usize);
-    for (start, group) in with_offsets(LinearGroup::new(slice)) {
-        if group.len() > len {
-            (row, len) = (start, group.len());
+    let groups = with_offsets(LinearGroup::new(slice));
+    sees_pieces(&groups);
+    one_split::<T>();
+    let mut longest: Option<(usize, &[T])> = None;
+    for (row, group) in groups {
+        match longest {
+            Some((_, best)) if group.len() <= best.len() => {}
+            _ => longest = Some((row, group)),
         }
     }
-    Some((row, slice.get(row..row.saturating_add(len))?))
+    longest
 }

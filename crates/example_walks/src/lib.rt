@@ -7,6 +7,7 @@ pub mod closures;
 pub mod equal_groups;
 pub mod families;
 pub mod folds;
+pub mod keys;
 pub mod loops;
 pub mod offsets;
 pub mod streams;

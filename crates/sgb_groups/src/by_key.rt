@@ -1,6 +1,6 @@
 //! Groups by a key, for reading and for writing.
 ghost use Rattle.std.specs.Prelude.{◌≡◌, ◌<◌, ◌+◌};
-ghost use Rattle.std.specs.Fn.{ComputesKey};
+ghost use Rattle.std.specs.Fn.{CalledAt, ComputesKey, TakesAt};
 ghost use Rattle.sgb_search.specs.declared.judge.KeyJudge.{KeyJudge};
 ghost use Rattle.sgb_search.specs.Calls.{IsCallableBy, ComputesBy, at_start};
 ghost use Rattle.sgb_search.specs.Judges.{by_key, key_judge};
@@ -43,6 +43,17 @@ impl<'a, T, K: PartialEq + Drop, F: FnMut(&T) -> K, W: Way> ByKey<'a, T, F, K, W
             → W.settled T (KeyJudge F K) (by_key F.FnMut K.eq) (groups_of result) (λ x y. K.eq (key x) (key y)) }
     {
         SliceGroups::with_judge(slice, KeyJudge::new(func))
+    }
+
+    /// The key of an element: one call of the key function.
+    #[inline]
+    pub fn key_of(&mut self, element: &T) -> K
+        requires { TakesAt F.FnMut self.old.judge.func element.now }
+        ensures called { CalledAt F.FnMut self.old.judge.func element.now result self.new.judge.func }
+        ensures remainder { (groups_of self.new).remainder ≡ (groups_of self.old).remainder }
+        ensures place { place_of self.new ≡ place_of self.old }
+    {
+        (self.judge.func)(element)
     }
 }
 

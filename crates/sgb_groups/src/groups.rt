@@ -20,7 +20,7 @@ pub struct SliceGroups<'a, T, J, W> {
     // The remainder lies from the place `low` up to the place `high`, and is empty where these do not lie in the slice in order.
     low: usize,
     high: usize,
-    judge: J,
+    pub(crate) judge: J,
     way: PhantomData<W>,
 }
 

@@ -75,6 +75,8 @@ impl<S: GroupSearch> Way for Search<S> {
 
     ghost settled_if_fits = { λ T J g s p computes fits. record { computes = computes; grouped = fits } };
 
+    ghost fits_if_settled = { λ T J g s p settled. settled.grouped };
+
     ghost piece = { λ T J g. laws.piece g S.cost };
 
     ghost keeps = { λ T J g. laws.keeps g S.cost };

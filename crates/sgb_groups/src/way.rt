@@ -34,6 +34,10 @@ pub trait Way {
     ghost settled_if_fits: { (T J : Type 0) (g : Ghosts J T) (s : Groups T J) (p : T → T → Bool)
         → ComputesBy (allowed T) g s p → fits T p s.remainder → settled T J g s p };
 
+    // And where they do, the elements fit it.
+    ghost fits_if_settled: { (T J : Type 0) (g : Ghosts J T) (s : Groups T J) (p : T → T → Bool)
+        → settled T J g s p → fits T p s.remainder };
+
     // A call on a settled iterator takes the piece there of the split, and leaves it settled.
     ghost piece: { (T J : Type 0) (g : Ghosts J T) (e : End) (s : Groups T J) (group : Option (List T)) (t : Groups T J)
         (p : T → T → Bool) → CallAt (asks T J g) e s group t → settled T J g s p

@@ -128,6 +128,8 @@ impl Way for Linear {
 
     ghost settled_if_fits = { λ T J g s p computes fits. computes };
 
+    ghost fits_if_settled = { λ T J g s p settled. tt };
+
     ghost piece = { λ T J. laws.piece };
 
     ghost keeps = { λ T J. laws.keeps };

@@ -1,9 +1,10 @@
 //! Linear groups of a text by a key: for reading and, as bytes, for writing.
 ghost use Rattle.std.specs.Prelude.{◌≡◌, ℕ};
+ghost use Rattle.std.specs.Fn.{Takes};
 ghost use Rattle.sgb_search.specs.Calls.{IsCallableBy, at_start};
 ghost use Rattle.sgb_search.specs.Split.{AreNeighbours};
 ghost use Rattle.std.specs.Str.{IsUtf8};
-ghost use Rattle.sgb_search.specs.Judges.{by_char_key, char_key_judge, ComputesCharKey};
+ghost use Rattle.sgb_search.specs.Judges.{by_char_key, char_key_judge, CalledAtChar, ComputesCharKey};
 ghost use Rattle.sgb_linear_str_group.specs.Texts.{text_groups_of, text_place_of, IsSettledText, in_characters};
 ghost use Rattle.sgb_linear_str_group.specs.TextsMut.{text_groups_of_mut};
 ghost use Rattle.sgb_loans.specs.Loans.{NothingOut};
@@ -58,6 +59,17 @@ impl<'a, K: PartialEq + Drop, F: FnMut(char) -> K> LinearStrGroups<'a, CharKeyJu
             → IsSettledText (by_char_key F.FnMut K.eq) (text_groups_of result) (λ x y. K.eq (key x) (key y)) }
     {
         LinearStrGroups::with_judge(string, CharKeyJudge::new(func))
+    }
+
+    /// The key of a character: one call of the key function.
+    #[inline]
+    pub fn key_of(&mut self, character: char) -> K
+        requires { Takes F.FnMut self.old.judge.func (character, tt) }
+        ensures called { CalledAtChar F.FnMut self.old.judge.func character result self.new.judge.func }
+        ensures text { (text_groups_of self.new).text ≡ (text_groups_of self.old).text }
+        ensures place { text_place_of self.new ≡ text_place_of self.old }
+    {
+        (self.judge.func)(character)
     }
 }
 

@@ -2,7 +2,8 @@
 --     IsRange ord xs equals     the equal ones stand between those that are Less and those that are Greater
 --     IsLocalRange less equal xs equals  on any list
 --     AsksRange g less equal xs f equals t  the questions, whatever is answered
-use Rattle.std.specs.Prelude.{◌≡◌, ℕ, List, ◌++◌, length, Bool, Err}
+--     IsRangeAt, IsLocalRangeAt, AsksRangeAt  the same of the elements from one place up to another
+use Rattle.std.specs.Prelude.{◌≡◌, ℕ, List, ◌++◌, length, slice_range, Bool, Err}
 use Rattle.std.specs.List.{AllByRecursion}
 use Rattle.std.specs.Fn.{Mut}
 use Rattle.std.specs.Borrow.{Bor}
@@ -29,6 +30,14 @@ pub record IsLocalRange {T : Type 0} (less equal : T → Bool) (xs equals : List
   pub starts : IsLocalBoundary (λ x. as_ordering (less x)) xs (length before)
   pub ends : IsLocalBoundary (λ x. as_ordering (equal x)) (equals ++ after) (length equals)
 
+-- the range is what stands from the place start up to the place end
+module _ {T : Type 0} (xs : List T) (start end : ℕ) where
+  abbrev pub IsRangeAt : (T → Ordering) → Type 0
+  IsRangeAt ord = (r : IsRange ord xs (slice_range xs start end)) × (length r.before ≡ start)
+
+  abbrev pub IsLocalRangeAt : (T → Bool) → (T → Bool) → Type 0
+  IsLocalRangeAt less equal = (r : IsLocalRange less equal xs (slice_range xs start end)) × (length r.before ≡ start)
+
 module _ {F T K : Type 0} (g : Mut F (Bor T × Unit {0}) K) where
   -- a search that leads from the state f to t, for the place n up to which the answers pass the test
   abbrev pub AsksPartition : (K → Bool) → List T → F → ℕ → F → Type 0
@@ -42,3 +51,8 @@ module _ {F T K : Type 0} (g : Mut F (Bor T × Unit {0}) K) where
     pub state_between : F
     pub less_search : AsksPartition less xs f (length before) state_between
     pub equal_search : AsksPartition equal (equals ++ after) state_between (length equals) t
+
+  -- the range is what stands from the place start up to the place end
+  abbrev pub AsksRangeAt : (K → Bool) → (K → Bool) → List T → F → ℕ → ℕ → F → Type 0
+  AsksRangeAt less equal xs f start end t =
+      (a : AsksRange less equal xs f (slice_range xs start end) t) × (length a.before ≡ start)

@@ -11,5 +11,7 @@ pub mod end;
 pub mod gallop;
 pub mod judge;
 pub mod laws;
+pub mod partition;
+pub mod places;
 pub mod ranges;
 pub mod search;

@@ -5,4 +5,6 @@ pub mod GroupsToCome
 pub mod FamiliesAgree
 pub mod HandedOut
 pub mod Offsets
+pub mod Keyed
+pub mod Dedup
 pub mod Chunks

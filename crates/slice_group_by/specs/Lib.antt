@@ -8,6 +8,8 @@ pub mod Counts
 pub mod Chunks
 pub mod NumberGives
 pub mod Offsets
+pub mod Keyed
+pub mod Dedup
 pub use Rattle.sgb_search.specs.Split
 pub use Rattle.sgb_search.specs.Judges
 pub use Rattle.sgb_search.specs.Calls

@@ -15,7 +15,9 @@
 #![tactic(auto)]
 
 mod boundaries;
+mod dedup;
 mod join;
+mod keyed;
 pub mod laws;
 pub mod loans;
 mod offsets;
@@ -25,7 +27,9 @@ pub use boundaries::{
     exponential_boundary, exponential_boundary_by, exponential_boundary_by_key, linear_boundary,
     linear_boundary_by, linear_boundary_by_key,
 };
+pub use dedup::{DedupWithCount, dedup_with_count};
 pub use join::MergeJoin;
+pub use keyed::{Keyed, WithKeys, with_keys};
 pub use laws::plans::{Plan, refute};
 pub use laws::queue::{End, GroupQueue, SliceQueue, SliceQueueMut, walk};
 pub use laws::ranks::rank_groups;
@@ -55,10 +59,14 @@ pub use sgb_number_group::class_counts::{
 pub use sgb_numbers::ascii_classes::{AsciiClass, AsciiClasses};
 pub use sgb_numbers::byte_classes::ByteClasses;
 pub use sgb_numbers::lanes::Lanes;
+pub use sgb_search::partition::{exponential_partition_point, exponential_partition_point_ref};
+pub use sgb_search::places::{
+    exponential_equal_places, exponential_equal_places_by, exponential_equal_places_by_key,
+    exponential_equal_places_by_key_ref, exponential_equal_places_by_ref,
+};
 pub use sgb_search::ranges::{
     exponential_equal_range, exponential_equal_range_by, exponential_equal_range_by_key,
     exponential_equal_range_by_key_ref, exponential_equal_range_by_ref,
-    exponential_partition_point, exponential_partition_point_ref,
 };
 pub use sgb_search::search::{
     exponential_search, exponential_search_by, exponential_search_by_key,

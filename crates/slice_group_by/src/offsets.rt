@@ -1,5 +1,5 @@
 //! Groups with the places at which they begin.
-ghost use Rattle.std.specs.Prelude.{◌≡◌, ℕ, ◌+◌, ◌<◌, ◌^◌, List, length, map, Some, IfSome};
+ghost use Rattle.std.specs.Prelude.{◌≡◌, ℕ, ◌+◌, ◌<◌, ◌^◌, List, length, map, nat_eq, Some, IfSome, if◌then◌else◌};
 ghost use Rattle.std.specs.Iterator.{Yields, UpTo};
 ghost use Rattle.std.specs.Iterator.SizeHint.{IsWithinCount};
 ghost use Rattle.std.specs.List.{AllByRecursion};
@@ -107,14 +107,16 @@ impl<Q: Offsets + Drop> Iterator for WithOffsets<Q> {
         Some((offset, group))
     }
 
-    /// `(0, None)`, which says nothing of how many groups come.
+    /// No groups where nothing remains, and else at least one and at most as many as elements or bytes remain.
     #[inline]
     fn size_hint(&self) -> (usize, Option<usize>)
-        ensures value { result ≡ (0, None) }
+        ensures value { result ≡ (if nat_eq (length (Q.left (groups_under self.now))) 0 then (0, Some 0)
+            else (1, Some (length (Q.left (groups_under self.now))))) }
         ensures lower { IsWithinCount result.0 (offsets_to_come Q.left self.now) }
         ensures upper { IfSome result.1 (UpTo (offsets_to_come Q.left self.now)) }
     {
-        (0, None)
+        let len = self.groups.remainder_len();
+        (len.min(1), Some(len))
     }
 }
 

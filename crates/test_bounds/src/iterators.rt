@@ -62,6 +62,16 @@ pub fn of_texts<P: FnMut(char, char) -> bool, F: FnMut(char) -> K, K: PartialEq 
     is_queue(by_key.1);
 }
 
+pub fn groups_with_keys<Q: Keyed + Drop>(groups: Q) -> WithKeys<Q> {
+    with_keys(groups)
+}
+
+pub fn counted_groups<'a, T: 'a, Q: Offsets + SliceQueue<'a, T>>(
+    groups: Q,
+) -> DedupWithCount<'a, T, Q> {
+    dedup_with_count(groups)
+}
+
 pub fn groups_with_offsets<Q: Offsets + Drop>(groups: Q) -> WithOffsets<Q> {
     with_offsets(groups)
 }

@@ -92,6 +92,14 @@ pub fn of_offsets<Q: Offsets>(groups: &WithOffsets<Q>) {
     groups_stand(groups);
 }
 
+pub fn of_keys<Q: Keyed>(groups: &WithKeys<Q>) {
+    sees_keys(groups);
+}
+
+pub fn of_counts<'a, T: 'a, Q: Offsets + SliceQueue<'a, T>>(groups: &DedupWithCount<'a, T, Q>) {
+    sees_counts(groups);
+}
+
 pub fn of_chunks<T, P: FnMut(&T, &T) -> bool, Q: GroupQueue<Element = T>>(
     chunks: &ChunkBy<'_, T, P>,
     queue: &Q,

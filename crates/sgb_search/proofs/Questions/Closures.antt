@@ -5,11 +5,13 @@ use Rattle.std.proofs.Common.{refl, ap, ◌∙◌}
 use Rattle.std.specs.Borrow.{Bor}
 use Rattle.std.specs.Fn.{Mut, Takes, TakesAt, Called, CalledAt, CalledAtTwo, ComputesOnPairs, ComputesKey}
 use denote.Param.Always.{always_mut, mut_next}
-use Rattle.sgb_search.specs.Judges.{IsCallable, Computes, by_predicate, predicate_judge, by_key, key_judge, MayCompareKeys, ComparesKeys, by_char_predicate, char_predicate_judge, by_char_key, char_key_judge, CalledAtChar, ComputesOnChars, ComputesCharKey}
+use Rattle.sgb_search.specs.Judges.{IsRunOf, IsCallable, Computes, by_predicate, predicate_judge, by_key, key_judge, MayCompareKeys, ComparesKeys, by_char_predicate, char_predicate_judge, by_char_key, char_key_judge, CalledAtChar, ComputesOnChars, ComputesCharKey}
+use Rattle.sgb_search.specs.declared.judge.KeyJudge.{KeyJudge}
+use Rattle.sgb_search.specs.declared.judge.CharKeyJudge.{CharKeyJudge}
 use Rattle.std.specs.List.{Contains}
 use Rattle.sgb_search.specs.Split.{AreNeighbours, on_pairs}
 use Rattle.sgb_search.specs.Search.{IsCallableOn, ComputesOn}
-use Rattle.sgb_search.proofs.Questions.Runs.{may_ask_by, answers_by}
+use Rattle.sgb_search.proofs.Questions.Runs.{may_ask_by, answers_by, run_keeps}
 
 -- a closure that may always be called may be called now, and may always be called after that
 module _ {F X R : Type 0} (g : Mut F X R) where
@@ -75,11 +77,32 @@ module _ {F T K : Type 0} (g : Mut F (Bor T × Unit {0}) K) (eq : K → K → Bo
       (λ j q b k i ok c. compared_next (TakesAt g) (CalledAt g) (always_mut g) key_called eq j.func q.0 q.1 b k.func c i)
       (key_judge f) h
 
+  -- and after a run of questions it still may
+  pub key_callable_after : (j : KeyJudge F K) (n : ℕ) (k : KeyJudge F K) → IsRunOf (by_key g eq).may_ask (by_key g eq).answers n j k
+      → always_mut g j.func → always_mut g k.func
+  key_callable_after j n k run =
+      run_keeps _ _ (λ j. always_mut g j.func)
+      (λ j q b k i c. compared_next (TakesAt g) (CalledAt g) (always_mut g) key_called eq j.func q.0 q.1 b k.func c i)
+      j run.0 k run.1
+
+  pub key_callable_next : (f : F) (x : T) (k : K) (f' : F) → CalledAt g f x k f' → always_mut g f → always_mut g f'
+  key_callable_next = key_called
+
+  pub key_taken : (f : F) (x : T) → always_mut g f → TakesAt g f x
+  key_taken f x i v e = taken g f (v, tt) i
+
   -- a key function that computes key
   module _ (key : T → K) where
-    key_next : (f : F) (x : T) (k : K) (f' : F) → ComputesKey g key f → CalledAt g f x k f' → (k ≡ key x) × ComputesKey g key f'
+    pub key_next : (f : F) (x : T) (k : K) (f' : F) → ComputesKey g key f → CalledAt g f x k f' → (k ≡ key x) × ComputesKey g key f'
     key_next f x k f' h c =
         ((h.at ((c.shown, tt) ∷ []) k f' c.called).0 ∙ ap key c.shows, record { at = λ xs. (h.at ((c.shown, tt) ∷ xs) k f' c.called).1 })
+
+    pub key_computes_after : (j : KeyJudge F K) (n : ℕ) (k : KeyJudge F K) → IsRunOf (by_key g eq).may_ask (by_key g eq).answers n j k
+        → ComputesKey g key j.func → ComputesKey g key k.func
+    key_computes_after j n k run =
+        run_keeps _ _ (λ j. ComputesKey g key j.func)
+        (λ j q b k i c. (keys_next (TakesAt g) (CalledAt g) key (ComputesKey g key) key_next eq j.func q.0 q.1 b k.func i c).1)
+        j run.0 k run.1
 
     pub key_settled : (allowed : T × T → Type 0) (f : F) → ComputesKey g key f
         → Computes (by_key g eq).may_ask (by_key g eq).answers allowed (on_pairs (λ x y. eq (key x) (key y))) (key_judge f)
@@ -136,10 +159,30 @@ module _ {F K : Type 0} (g : Mut F (ℕ × Unit {0}) K) (eq : K → K → Bool) 
       (λ j q b k i ok c. compared_next takes_char (CalledAtChar g) (always_mut g) char_key_called eq j.func q.0 q.1 b k.func c i)
       (char_key_judge f) h
 
+  pub char_key_callable_after : (j : CharKeyJudge F K) (n : ℕ) (k : CharKeyJudge F K)
+      → IsRunOf (by_char_key g eq).may_ask (by_char_key g eq).answers n j k → always_mut g j.func → always_mut g k.func
+  char_key_callable_after j n k run =
+      run_keeps _ _ (λ j. always_mut g j.func)
+      (λ j q b k i c. compared_next takes_char (CalledAtChar g) (always_mut g) char_key_called eq j.func q.0 q.1 b k.func c i)
+      j run.0 k run.1
+
+  pub char_key_callable_next : (f : F) (c : ℕ) (k : K) (f' : F) → CalledAtChar g f c k f' → always_mut g f → always_mut g f'
+  char_key_callable_next = char_key_called
+
+  pub char_key_taken : (f : F) (c : ℕ) → always_mut g f → Takes g f (c, tt)
+  char_key_taken f c i = taken g f (c, tt) i
+
   module _ (key : ℕ → K) where
-    char_key_next : (f : F) (c : ℕ) (k : K) (f' : F) → ComputesCharKey g key f → CalledAtChar g f c k f'
+    pub char_key_next : (f : F) (c : ℕ) (k : K) (f' : F) → ComputesCharKey g key f → CalledAtChar g f c k f'
         → (k ≡ key c) × ComputesCharKey g key f'
     char_key_next f c k f' h d = ((h.at ((c, tt) ∷ []) k f' d).0, record { at = λ xs. (h.at ((c, tt) ∷ xs) k f' d).1 })
+
+    pub char_key_computes_after : (j : CharKeyJudge F K) (n : ℕ) (k : CharKeyJudge F K)
+        → IsRunOf (by_char_key g eq).may_ask (by_char_key g eq).answers n j k → ComputesCharKey g key j.func → ComputesCharKey g key k.func
+    char_key_computes_after j n k run =
+        run_keeps _ _ (λ j. ComputesCharKey g key j.func)
+        (λ j q b k i c. (keys_next takes_char (CalledAtChar g) key (ComputesCharKey g key) char_key_next eq j.func q.0 q.1 b k.func i c).1)
+        j run.0 k run.1
 
     pub char_key_settled : (cs : List ℕ) (f : F) → ComputesCharKey g key f
         → ComputesBy AreNeighbours (by_char_key g eq) (record { remainder = cs; judge = char_key_judge f }) (λ x y. eq (key x) (key y))

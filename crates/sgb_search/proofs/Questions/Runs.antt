@@ -47,6 +47,12 @@ module _ {S Q A : Type 0} (may : S → Q → Type 0) (gives : S → Q → A → 
   may_next allowed s q a t h ok e =
       may_after allowed allowed (λ q n. n) s ((q, a) ∷ []) t (may_now allowed s q h ok, (t, e, refl)) (ok, tt) h
 
+  -- what each question keeps, a run does
+  pub run_keeps : (I : S → Type 0) → ((s : S) (q : Q) (a : A) (t : S) → I s → gives s q a t → I t) → (s : S) (rs : List (Q × A)) (t : S)
+      → IsRun may gives s rs t → I s → I t
+  run_keeps I keeps s [] t run i = subst I (sym run) i
+  run_keeps I keeps s (r ∷ rs) t run i = run_keeps I keeps run.1.0 rs t run.1.2 (keeps s r.0 r.1 run.1.0 i run.1.1)
+
   -- what one question asks for and keeps, every run does
   pub may_ask_by : (allowed : Q → Type 0) (I : S → Type 0) → ((s : S) (q : Q) → I s → allowed q → may s q)
       → ((s : S) (q : Q) (a : A) (t : S) → I s → allowed q → gives s q a t → I t) → (s : S) → I s → IsCallable may gives allowed s

@@ -34,10 +34,12 @@ pub mod ranks;
 pub mod sorted;
 pub mod streams;
 
+pub use crate::dedup::sees_counts;
 pub use crate::join::{
     joins_may_go_on, merges_agree, pairs_ascend, pairs_count, pairs_match, partners_are_unique,
     sees_pairs,
 };
+pub use crate::keyed::sees_keys;
 pub use crate::offsets::groups_stand;
 pub use counts::{
     calls_ask, comparisons_count, key_calls_count, linear_counts, mapped_calls_ask,

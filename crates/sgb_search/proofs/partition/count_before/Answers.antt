@@ -6,7 +6,7 @@ use Rattle.sgb_search.specs.Search.{IsSearch, IsLocalBoundary}
 use Rattle.sgb_search.proofs.Searches.Boundaries.{never_equal, ends_at, place_within}
 use Rattle.sgb_search.proofs.Searches.SearchRuns.{may_places, search_boundary, may_go_on, answers_go_on}
 use Rattle.sgb_search.proofs.Searches.Partitions.{boundary_of}
-use Rattle.sgb_search.proofs.ranges.count_before.Goals as goal
+use Rattle.sgb_search.proofs.partition.count_before.Goals as goal
 
 pub gallop-requires-clause-callable : goal.gallop-requires-clause-callable
 gallop-requires-clause-callable g c = may_places g.F.FnMut c.args.slice.now c.args.f.now c.requires

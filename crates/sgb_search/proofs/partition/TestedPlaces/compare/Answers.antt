@@ -1,7 +1,7 @@
 use Rattle.std.proofs.Common.{refl, sym, ap, ◌∙◌}
 use Rattle.std.proofs.lemmas.Option.{slice_get_read}
 use Rattle.sgb_search.specs.Searching.{as_ordering}
-use Rattle.sgb_search.proofs.ranges.TestedPlaces.compare.Goals as goal
+use Rattle.sgb_search.proofs.partition.TestedPlaces.compare.Goals as goal
 
 pub returns : goal.returns
 returns g c = (

@@ -1,0 +1,75 @@
+//! What groups and searches are good for, each in a few lines.
+use slice_group_by::{
+    LinearGroupBy, LinearGroupByKeyMut, exponential_equal_range_by, exponential_partition_point,
+};
+use std::alloc::{AllocError, Global};
+use std::cmp::Ordering;
+use std::io;
+
+/// The words that begin so, of words that ascend.
+pub fn with_prefix<'a>(words: &'a [&'a str], prefix: &str) -> &'a [&'a str] {
+    exponential_equal_range_by(words, |word| {
+        if word.starts_with(prefix) {
+            Ordering::Equal
+        } else {
+            word.cmp(&prefix)
+        }
+    })
+}
+
+/// For each time the last row that is not later, of rows and times that ascend: an as-of join.
+pub fn as_of<'a>(
+    alloc: Global,
+    times: &[u64],
+    rows: &'a [(u64, u64)],
+) -> Result<Vec<Option<&'a (u64, u64)>>, AllocError> {
+    let mut joined = Vec::new(alloc);
+    let mut rest = rows;
+    let mut last = None;
+    for time in times {
+        let place = exponential_partition_point(rest, |row| row.0 <= *time);
+        let (earlier, later) = rest.split_at(place);
+        last = earlier.last().or(last);
+        rest = later;
+        joined.push(last)?;
+    }
+    Ok(joined)
+}
+
+/// The spans that overlap, of spans that ascend by their starts, each as one span from the first start to the greatest
+/// end.
+pub fn merged(alloc: Global, spans: &[(u64, u64)]) -> Result<Vec<(u64, u64)>, AllocError> {
+    let mut end = 0u64;
+    let groups = LinearGroupBy::new(spans, |earlier: &(u64, u64), later: &(u64, u64)| {
+        end = end.max(earlier.1);
+        later.0 <= end
+    });
+    groups
+        .map(|group| {
+            (
+                group[0].0,
+                group.iter().fold(0u64, |end, span| end.max(span.1)),
+            )
+        })
+        .collect(alloc)
+}
+
+/// Keeps the last row of each run of rows with one key.
+pub fn keep_last(rows: &mut Vec<(u32, u64)>) {
+    for group in LinearGroupByKeyMut::new(rows.as_mut_slice(), |row: &(u32, u64)| row.0) {
+        group[0] = group[group.len() - 1];
+    }
+    rows.dedup_by_key(|row| row.0);
+}
+
+/// Prints what these give.
+pub fn print_all(rt: &(impl Print + AllocGlobal)) -> io::Result<()> {
+    let mut rows = vec![in rt.alloc(); (7, 1), (7, 2), (8, 3), (7, 4)]?;
+    keep_last(&mut rows);
+    println!(rt;
+        "recipes: {:?} {:?} {:?} {rows:?}",
+        with_prefix(&["also", "group", "grow", "key"], "gr"),
+        as_of(rt.alloc(), &[1, 5, 6, 9], &[(2, 20), (5, 50), (5, 51)])?,
+        merged(rt.alloc(), &[(0, 5), (1, 2), (4, 7), (8, 9)])?
+    )
+}

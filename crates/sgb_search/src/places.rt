@@ -1,0 +1,197 @@
+//! The places between which the elements stand that are equal to what is sought, found by galloping from the first element.
+ghost use Rattle.std.specs.Prelude.{◌≡◌, ◌≤◌, length, slice_range, map, Bool};
+ghost use Rattle.std.specs.List.{filter, count_by};
+ghost use Rattle.std.specs.Ordering.{is_lt, is_eq};
+ghost use Rattle.std.specs.declared.cmp.Ordering.{Ordering};
+ghost use Rattle.sgb_search.specs.Search.{IsCallableOn, ComputesOn, IsLessEqualGreater, NeverDescends};
+ghost use Rattle.sgb_search.specs.Ranges.{IsRangeAt, IsLocalRangeAt, AsksRangeAt};
+
+use crate::partition::{Equal, EqualKey, Less, LessKey, Test, count_before};
+use std::cmp::Ordering;
+use std::ops::Range;
+
+// The place up to which elements stand on the one test, and the place up to which those from there on stand on the other.
+#[inline]
+fn places<T, K, L: Test<K>, E: Test<K>, F: FnMut(&T) -> K>(
+    slice: &[T],
+    less: &L,
+    equal: &E,
+    f: &mut F,
+) -> Range<usize>
+    requires { IsCallableOn F.FnMut slice.now f.old }
+    ensures order { result.start ≤ result.end }
+    ensures within { result.end ≤ length slice.now }
+    ensures questions { AsksRangeAt F.FnMut (λ k. L.passes less.now k) (λ k. E.passes equal.now k)
+        slice.now f.old result.start result.end f.new }
+    ensures local { (answer : T → K) → ComputesOn F.FnMut slice.now answer f.old
+        → IsLocalRangeAt slice.now result.start result.end (λ x. L.passes less.now (answer x)) (λ x. E.passes equal.now (answer x)) }
+    ensures callable { IsCallableOn F.FnMut slice.now f.new }
+    ensures computes { (answer : T → K) → ComputesOn F.FnMut slice.now answer f.old → ComputesOn F.FnMut slice.now answer f.new }
+{
+    let start = count_before(slice, less, f);
+    let (_, rest) = slice.split_at(start);
+    let len = count_before(rest, equal, f);
+    start..start + len
+}
+
+/// Where the elements stand that are equal to what is sought, as a range of places: the elements there are what
+/// `exponential_equal_range_by` gives. If none is equal, the range is empty, and begins where an equal element would be inserted.
+///
+/// A caller knows that `start <= end` and that `end` is at most the slice's length. Questions and conditions are those of
+/// `exponential_equal_range_by`.
+///
+/// ```
+/// let rows = [(1, 'a'), (3, 'b'), (3, 'c'), (7, 'd')];
+/// exponential_equal_places_by(&rows, |row| row.0.cmp(&3)); // 1..3
+/// exponential_equal_places_by(&rows, |row| row.0.cmp(&4)); // 3..3
+/// ```
+#[inline]
+pub fn exponential_equal_places_by<T, F>(slice: &[T], mut f: F) -> Range<usize>
+where
+    F: FnMut(&T) -> Ordering,
+    requires { IsCallableOn F.FnMut slice.now f }
+    ensures order { result.start ≤ result.end }
+    ensures within { result.end ≤ length slice.now }
+    ensures questions { (t : F) × AsksRangeAt F.FnMut is_lt is_eq slice.now f result.start result.end t }
+    ensures local { (ord : T → Ordering) → ComputesOn F.FnMut slice.now ord f
+        → IsLocalRangeAt slice.now result.start result.end (λ x. is_lt (ord x)) (λ x. is_eq (ord x)) }
+    ensures range { (ord : T → Ordering) → ComputesOn F.FnMut slice.now ord f → IsLessEqualGreater ord slice.now
+        → IsRangeAt slice.now result.start result.end ord }
+    ensures start { (ord : T → Ordering) → ComputesOn F.FnMut slice.now ord f → IsLessEqualGreater ord slice.now
+        → result.start ≡ count_by (λ x. is_lt (ord x)) slice.now }
+    ensures filter { (ord : T → Ordering) → ComputesOn F.FnMut slice.now ord f → IsLessEqualGreater ord slice.now
+        → slice_range slice.now result.start result.end ≡ filter (λ x. is_eq (ord x)) slice.now }
+{
+    exponential_equal_places_by_ref(slice, &mut f)
+}
+
+/// The places of the equal elements by a comparator that is lent: it gives and asks what `exponential_equal_places_by` does, and the
+/// comparator comes back in the state that just these questions lead to, to be called again.
+///
+/// ```
+/// let mut asked = 0;
+/// let mut comparator = |x: &u32| {
+///     asked += 1;
+///     x.cmp(&3)
+/// };
+/// exponential_equal_places_by_ref(&[1, 3, 3, 5, 8], &mut comparator); // 1..3, and `asked` is at most 10
+/// ```
+#[inline]
+pub fn exponential_equal_places_by_ref<T, F>(slice: &[T], f: &mut F) -> Range<usize>
+where
+    F: FnMut(&T) -> Ordering,
+    requires { IsCallableOn F.FnMut slice.now f.old }
+    ensures order { result.start ≤ result.end }
+    ensures within { result.end ≤ length slice.now }
+    ensures questions { AsksRangeAt F.FnMut is_lt is_eq slice.now f.old result.start result.end f.new }
+    ensures local { (ord : T → Ordering) → ComputesOn F.FnMut slice.now ord f.old
+        → IsLocalRangeAt slice.now result.start result.end (λ x. is_lt (ord x)) (λ x. is_eq (ord x)) }
+    ensures range { (ord : T → Ordering) → ComputesOn F.FnMut slice.now ord f.old → IsLessEqualGreater ord slice.now
+        → IsRangeAt slice.now result.start result.end ord }
+    ensures start { (ord : T → Ordering) → ComputesOn F.FnMut slice.now ord f.old → IsLessEqualGreater ord slice.now
+        → result.start ≡ count_by (λ x. is_lt (ord x)) slice.now }
+    ensures filter { (ord : T → Ordering) → ComputesOn F.FnMut slice.now ord f.old → IsLessEqualGreater ord slice.now
+        → slice_range slice.now result.start result.end ≡ filter (λ x. is_eq (ord x)) slice.now }
+    ensures callable { IsCallableOn F.FnMut slice.now f.new }
+    ensures computes { (ord : T → Ordering) → ComputesOn F.FnMut slice.now ord f.old → ComputesOn F.FnMut slice.now ord f.new }
+{
+    places(slice, &Less {}, &Equal {}, f)
+}
+
+/// Where the elements stand that are equal to one that is given, in a slice that ascends: the places of those that
+/// `exponential_equal_range` gives.
+///
+/// It compares by `x.cmp(elem)`, as often as `exponential_equal_places_by` asks, and promises what that promises.
+///
+/// ```
+/// exponential_equal_places(&[0, 1, 1, 1, 1, 2, 3, 5, 8], &1); // 1..5
+/// ```
+#[inline]
+pub fn exponential_equal_places<T: Ord>(slice: &[T], elem: &T) -> Range<usize>
+    ensures order { result.start ≤ result.end }
+    ensures within { result.end ≤ length slice.now }
+    ensures local { IsLocalRangeAt slice.now result.start result.end
+        (λ x. is_lt (T.cmp x elem.now)) (λ x. is_eq (T.cmp x elem.now)) }
+    ensures range { IsLessEqualGreater (λ x. T.cmp x elem.now) slice.now
+        → IsRangeAt slice.now result.start result.end (λ x. T.cmp x elem.now) }
+    ensures sorted { NeverDescends T.cmp slice.now → IsRangeAt slice.now result.start result.end (λ x. T.cmp x elem.now) }
+    ensures start { NeverDescends T.cmp slice.now → result.start ≡ count_by (λ x. is_lt (T.cmp x elem.now)) slice.now }
+    ensures filter { NeverDescends T.cmp slice.now
+        → slice_range slice.now result.start result.end ≡ filter (λ x. is_eq (T.cmp x elem.now)) slice.now }
+{
+    exponential_equal_places_by(slice, |x| x.cmp(elem))
+}
+
+/// Where the elements with a key stand, which the function gives of each element, in a slice that ascends by the key: the places of
+/// those that `exponential_equal_range_by_key` gives.
+///
+/// It compares by `f(x).cmp(b)`, and promises what `exponential_equal_places_by` promises.
+///
+/// ```
+/// let rows = [(1, 'a'), (3, 'b'), (3, 'c'), (7, 'd')];
+/// exponential_equal_places_by_key(&rows, &3, |row| row.0); // 1..3
+/// ```
+#[inline]
+pub fn exponential_equal_places_by_key<T, B, F>(slice: &[T], b: &B, mut f: F) -> Range<usize>
+where
+    F: FnMut(&T) -> B,
+    B: Ord + Drop,
+    requires { IsCallableOn F.FnMut slice.now f }
+    ensures order { result.start ≤ result.end }
+    ensures within { result.end ≤ length slice.now }
+    ensures questions { (t : F) × AsksRangeAt F.FnMut (λ k. is_lt (B.cmp k b.now)) (λ k. is_eq (B.cmp k b.now))
+        slice.now f result.start result.end t }
+    ensures local { (key : T → B) → ComputesOn F.FnMut slice.now key f
+        → IsLocalRangeAt slice.now result.start result.end
+        (λ x. is_lt (B.cmp (key x) b.now)) (λ x. is_eq (B.cmp (key x) b.now)) }
+    ensures range { (key : T → B) → ComputesOn F.FnMut slice.now key f
+        → IsLessEqualGreater (λ x. B.cmp (key x) b.now) slice.now
+        → IsRangeAt slice.now result.start result.end (λ x. B.cmp (key x) b.now) }
+    ensures sorted { (key : T → B) → ComputesOn F.FnMut slice.now key f → NeverDescends B.cmp (map key slice.now)
+        → IsRangeAt slice.now result.start result.end (λ x. B.cmp (key x) b.now) }
+    ensures start { (key : T → B) → ComputesOn F.FnMut slice.now key f → NeverDescends B.cmp (map key slice.now)
+        → result.start ≡ count_by (λ x. is_lt (B.cmp (key x) b.now)) slice.now }
+    ensures filter { (key : T → B) → ComputesOn F.FnMut slice.now key f → NeverDescends B.cmp (map key slice.now)
+        → slice_range slice.now result.start result.end ≡ filter (λ x. is_eq (B.cmp (key x) b.now)) slice.now }
+{
+    exponential_equal_places_by_key_ref(slice, b, &mut f)
+}
+
+/// The places of the elements with a key by a key function that is lent: it gives and asks what `exponential_equal_places_by_key`
+/// does, and the function comes back in the state that just these calls lead to, to be called again.
+///
+/// ```
+/// let mut called = 0;
+/// let mut key = |row: &(u32, char)| {
+///     called += 1;
+///     row.0
+/// };
+/// exponential_equal_places_by_key_ref(&[(1, 'a'), (3, 'b'), (7, 'd')], &3, &mut key); // 1..2, and `called` is at most 10
+/// ```
+#[inline]
+pub fn exponential_equal_places_by_key_ref<T, B, F>(slice: &[T], b: &B, f: &mut F) -> Range<usize>
+where
+    F: FnMut(&T) -> B,
+    B: Ord + Drop,
+    requires { IsCallableOn F.FnMut slice.now f.old }
+    ensures order { result.start ≤ result.end }
+    ensures within { result.end ≤ length slice.now }
+    ensures questions { AsksRangeAt F.FnMut (λ k. is_lt (B.cmp k b.now)) (λ k. is_eq (B.cmp k b.now))
+        slice.now f.old result.start result.end f.new }
+    ensures local { (key : T → B) → ComputesOn F.FnMut slice.now key f.old
+        → IsLocalRangeAt slice.now result.start result.end
+        (λ x. is_lt (B.cmp (key x) b.now)) (λ x. is_eq (B.cmp (key x) b.now)) }
+    ensures range { (key : T → B) → ComputesOn F.FnMut slice.now key f.old
+        → IsLessEqualGreater (λ x. B.cmp (key x) b.now) slice.now
+        → IsRangeAt slice.now result.start result.end (λ x. B.cmp (key x) b.now) }
+    ensures sorted { (key : T → B) → ComputesOn F.FnMut slice.now key f.old → NeverDescends B.cmp (map key slice.now)
+        → IsRangeAt slice.now result.start result.end (λ x. B.cmp (key x) b.now) }
+    ensures start { (key : T → B) → ComputesOn F.FnMut slice.now key f.old → NeverDescends B.cmp (map key slice.now)
+        → result.start ≡ count_by (λ x. is_lt (B.cmp (key x) b.now)) slice.now }
+    ensures filter { (key : T → B) → ComputesOn F.FnMut slice.now key f.old → NeverDescends B.cmp (map key slice.now)
+        → slice_range slice.now result.start result.end ≡ filter (λ x. is_eq (B.cmp (key x) b.now)) slice.now }
+    ensures callable { IsCallableOn F.FnMut slice.now f.new }
+    ensures computes { (key : T → B) → ComputesOn F.FnMut slice.now key f.old → ComputesOn F.FnMut slice.now key f.new }
+{
+    places(slice, &LessKey { key: b }, &EqualKey { key: b }, f)
+}

@@ -1,0 +1,259 @@
+//! Groups by a key, with their keys.
+ghost use Rattle.std.specs.Prelude.{◌≡◌, ◌≢◌, [], Bool, List, length, map, nat_eq, slice_get, Option, Some, IfSome, if◌then◌else◌, option_map};
+ghost use Rattle.std.specs.Iterator.{Drains, UpTo};
+ghost use Rattle.std.specs.Iterator.SizeHint.{IsWithinCount};
+ghost use Rattle.std.proofs.lemmas.Iterator.{YieldsList};
+ghost use Rattle.sgb_search.specs.Split.{TakesPiece, from, split};
+ghost use Rattle.sgb_search.specs.declared.end.End.{End};
+ghost use Rattle.sgb_search.specs.declared.end.End.TheVariants.{Front, Back};
+ghost use Rattle.slice_group_by.specs.Keyed.{GivesWithKey, groups_within, keyed, keys_to_come};
+ghost use Rattle.slice_group_by.specs.declared.keyed.WithKeys.{WithKeys};
+
+use crate::laws::queue::GroupQueue;
+use crate::offsets::Offsets;
+use sgb_groups::groups::SliceGroups;
+use sgb_groups::way::Way;
+use sgb_linear_str_group::groups::LinearStrGroups;
+use sgb_search::judge::{CharKeyJudge, KeyJudge};
+use std::iter::FusedIterator;
+
+/// Groups by a key that can be asked for the key of a group.
+pub trait Keyed: Offsets {
+    type Key;
+
+    // The key function may be called on any element, in every state that its calls lead to.
+    ghost key_callable: { Self → Type 0 };
+
+    // It computes this key, and the groups are the pieces of what remains for equality of keys.
+    ghost is_keyed: { Self → (Self.Element → Self.Key) → Type 0 };
+
+    // Whether two keys are equal.
+    ghost same_key: { Self.Key → Self.Key → Bool };
+
+    // The groups before, a group, the key that one call of the key function gives of its first element, and the groups
+    // after.
+    ghost calls_key: { Self → Self.Item → Self.Key → Self → Type 0 };
+
+    /// The key of a group: one call of the key function, on its first element.
+    fn first_key(&mut self, group: &Self::Item) -> Self::Key
+        requires nonempty { Self.shows group.now ≢ [] }
+        requires callable { key_callable self.old }
+        ensures calls { calls_key self.old group.now result self.new }
+        ensures callable { key_callable self.new };
+
+    // So groups may be asked for, and then the key function may be called still.
+    ghost may_pop: { (q : Self) → key_callable q → Self.can_pop q };
+
+    ghost pop_callable: { (e : End) (q : Self) (group : Option Self.Item) (t : Self) → Self.gives e q group t
+        → key_callable q → key_callable t };
+
+    // A call of the key function takes no element off.
+    ghost call_leaves: { (q : Self) (group : Self.Item) (k : Self.Key) (t : Self) → calls_key q group k t
+        → (Self.left t ≡ Self.left q) × (Self.remainder t ≡ Self.remainder q) };
+
+    // Of a function that computes a key, groups are pieces, and the key of one is that of its first element.
+    ghost pop_keyed: { (e : End) (q : Self) (group : Option Self.Item) (t : Self) (key : Self.Element → Self.Key)
+        → Self.gives e q group t → is_keyed q key
+        → TakesPiece (λ x y. same_key (key x) (key y)) e (Self.remainder q) (option_map Self.shows group) (Self.remainder t)
+        × is_keyed t key };
+
+    ghost call_keyed: { (q : Self) (group : Self.Item) (k : Self.Key) (t : Self) (key : Self.Element → Self.Key)
+        → calls_key q group k t → is_keyed q key
+        → ((x : Self.Element) × (slice_get (Self.shows group) 0 ≡ Some x) × (k ≡ key x)) × is_keyed t key };
+}
+
+/// Groups by a key, each with its key: what `with_keys` gives.
+#[derive(Drop)]
+pub struct WithKeys<Q> {
+    groups: Q,
+}
+
+/// The groups that are still to come, each with the key of its first element.
+///
+/// Each call asks what a call on the groups asks, and then calls the key function once more, on the first element of
+/// the group. The key function must be callable on every element, in whatever state earlier calls left it; a closure
+/// whose body may run on all elements needs no proof.
+///
+/// ```
+/// for (key, group) in with_keys(LinearGroupByKey::new(&[10, 11, 20, 21, 22], |x| *x / 10)) {
+///     // (1, [10, 11]), and then (2, [20, 21, 22])
+/// }
+/// ```
+#[inline]
+pub fn with_keys<Q: Keyed>(groups: Q) -> WithKeys<Q>
+    ensures { groups_within result ≡ groups }
+{
+    WithKeys { groups }
+}
+
+/// What a loop or an adapter sees of groups with keys, if the key function computes a key: the pieces of the split in
+/// order, from the back in reverse, each with the key of its first element. `pieces_by_key` says that the keys of all
+/// its elements equal it.
+///
+/// Groups of a slice are `is_keyed` if the function, as it is now, computes the key (`ComputesKey`) and what remains fits,
+/// which is what the clause `settled` of `new` takes. For texts `ComputesCharKey` is enough.
+pub fn sees_keys<Q: Keyed>(_groups: &WithKeys<Q>)
+    ensures pieces { (key : Q.Element → Q.Key) (e : End) (s : WithKeys Q) → Q.is_keyed (groups_within s) key
+        → YieldsList (GivesWithKey Q.gives Q.calls_key e) (λ x. (x.0, Q.shows x.1)) s
+        (keyed key (from e (split (λ x y. Q.same_key (key x) (key y)) (Q.remainder (groups_within s))))) }
+    ensures whole { (key : Q.Element → Q.Key) (e : End) (s : WithKeys Q) (items : List (Q.Key × Q.Item))
+        → Q.is_keyed (groups_within s) key → Drains (GivesWithKey Q.gives Q.calls_key e) s items
+        → map (λ x. (x.0, Q.shows x.1)) items
+        ≡ keyed key (from e (split (λ x y. Q.same_key (key x) (key y)) (Q.remainder (groups_within s)))) }
+{}
+
+impl<Q: Keyed + Drop> Iterator for WithKeys<Q> {
+    type Item = (Q::Key, Q::Item);
+
+    ghost use Rattle.slice_group_by.specs.Keyed.{GivesWithKey, keys_to_come};
+
+    ghost can_next = { λ s. Q.key_callable s.groups };
+
+    ghost next_gives = { GivesWithKey Q.gives Q.calls_key Front };
+
+    ghost remaining = { keys_to_come Q.left };
+
+    /// The first group of the remainder, and its key, or `None` where nothing remains.
+    #[inline]
+    fn next(&mut self) -> Option<(Q::Key, Q::Item)> {
+        let group = self.groups.pop_front()?;
+        let key = self.groups.first_key(&group);
+        Some((key, group))
+    }
+
+    /// No groups where nothing remains, and else at least one and at most as many as elements or bytes remain.
+    #[inline]
+    fn size_hint(&self) -> (usize, Option<usize>)
+        ensures value { result ≡ (if nat_eq (length (Q.left (groups_within self.now))) 0 then (0, Some 0)
+            else (1, Some (length (Q.left (groups_within self.now))))) }
+        ensures lower { IsWithinCount result.0 (keys_to_come Q.left self.now) }
+        ensures upper { IfSome result.1 (UpTo (keys_to_come Q.left self.now)) }
+    {
+        let len = self.groups.remainder_len();
+        (len.min(1), Some(len))
+    }
+}
+
+impl<Q: Keyed + Drop> DoubleEndedIterator for WithKeys<Q> {
+    ghost use Rattle.slice_group_by.specs.Keyed.{GivesWithKey};
+
+    ghost can_next_back = { λ s. Q.key_callable s.groups };
+
+    ghost next_back_gives = { GivesWithKey Q.gives Q.calls_key Back };
+
+    /// The last group of the remainder, and its key, or `None` where nothing remains.
+    #[inline]
+    fn next_back(&mut self) -> Option<(Q::Key, Q::Item)> {
+        let group = self.groups.pop_back()?;
+        let key = self.groups.first_key(&group);
+        Some((key, group))
+    }
+}
+
+impl<Q: Keyed + Drop> FusedIterator for WithKeys<Q> {}
+
+impl<'a, T, F: FnMut(&T) -> K, K: PartialEq + Drop, W: Way> Keyed
+    for SliceGroups<'a, T, KeyJudge<F, K>, W> {
+    type Key = K;
+
+    ghost use Rattle.std.specs.Prelude.{option_copied};
+    ghost use Rattle.std.specs.Fn.{CalledAt, ComputesKey};
+    ghost use Rattle.std.proofs.Common.{sym, subst};
+    ghost use Rattle.sgb_groups.specs.Gives.{groups_of, place_of};
+    ghost use Rattle.sgb_groups.proofs.Cuts.{call};
+    ghost use Rattle.sgb_search.specs.Judges.{by_key};
+    ghost use Rattle.sgb_search.specs.declared.judge.KeyJudge.{KeyJudge};
+    ghost use Rattle.sgb_search.proofs.Questions.Closures as closures;
+    ghost use Rattle.slice_group_by.specs.Keyed.{CallsAtFirst};
+
+    ghost key_callable = { λ q. F.IsAlwaysCallable q.judge.func };
+
+    ghost is_keyed = { λ q key. ComputesKey F.FnMut key q.judge.func
+        × W.fits T (λ x y. K.eq (key x) (key y)) (groups_of q).remainder };
+
+    ghost same_key = { K.eq };
+
+    ghost calls_key = { λ q group k t. CallsAtFirst (CalledAt F.FnMut) q.judge.func group.now k t.judge.func
+        × ((groups_of t).remainder ≡ (groups_of q).remainder) × (place_of t ≡ place_of q) };
+
+    #[inline]
+    fn first_key(&mut self, group: &&'a [T]) -> K {
+        self.key_of(&group[0])
+    }
+
+    ghost may_pop = { λ q callable. closures.key_callable F.FnMut K.eq (W.allowed T (groups_of q).remainder) q.judge.func callable };
+
+    ghost pop_callable = { λ e q group t h. closures.key_callable_after F.FnMut K.eq q.judge _ t.judge
+        (W.asks_due T (KeyJudge F K) (by_key F.FnMut K.eq) e (groups_of q) (option_copied group) (groups_of t)
+        (call (W.asks T (KeyJudge F K) (by_key F.FnMut K.eq)) e q group t h)).asks };
+
+    ghost call_leaves = { λ q group k t h. (h.1, h.1) };
+
+    ghost pop_keyed = { λ e q group t key h by.
+        let taken = call (W.asks T (KeyJudge F K) (by_key F.FnMut K.eq)) e q group t h in
+        let piece = W.piece T (KeyJudge F K) (by_key F.FnMut K.eq) e (groups_of q) (option_copied group) (groups_of t)
+        (λ x y. K.eq (key x) (key y)) taken (W.settled_if_fits T (KeyJudge F K) (by_key F.FnMut K.eq) (groups_of q)
+        (λ x y. K.eq (key x) (key y)) (closures.key_settled F.FnMut K.eq key (W.allowed T (groups_of q).remainder) q.judge.func by.0)
+        by.1) in (
+          piece.0,
+          (
+            closures.key_computes_after F.FnMut K.eq key q.judge _ t.judge
+                (W.asks_due T (KeyJudge F K) (by_key F.FnMut K.eq) e (groups_of q) (option_copied group) (groups_of t) taken).asks by.0,
+            W.fits_if_settled T (KeyJudge F K) (by_key F.FnMut K.eq) (groups_of t) (λ x y. K.eq (key x) (key y)) piece.1,
+          ),
+        ) };
+
+    ghost call_keyed = { λ q group k t key h by.
+        let called = closures.key_next F.FnMut K.eq key q.judge.func h.0.0 k t.judge.func by.0 h.0.2 in
+        ((h.0.0, h.0.1, called.0), (called.1, subst (λ xs. W.fits T (λ x y. K.eq (key x) (key y)) xs) (sym h.1) by.1)) };
+}
+
+impl<'a, F: FnMut(char) -> K, K: PartialEq + Drop> Keyed
+    for LinearStrGroups<'a, CharKeyJudge<F, K>> {
+    type Key = K;
+
+    ghost use Rattle.std.specs.Str.{chars};
+    ghost use Rattle.std.proofs.Common.{ap};
+    ghost use Rattle.sgb_search.specs.Judges.{by_char_key, CalledAtChar, ComputesCharKey};
+    ghost use Rattle.sgb_search.proofs.Questions.Closures as closures;
+    ghost use Rattle.sgb_linear_str_group.specs.Texts.{text_groups_of, text_place_of};
+    ghost use Rattle.sgb_linear_str_group.proofs.Queue as queue;
+    ghost use Rattle.slice_group_by.specs.Keyed.{CallsAtFirst};
+
+    ghost key_callable = { λ q. F.IsAlwaysCallable q.judge.func };
+
+    ghost is_keyed = { λ q key. ComputesCharKey F.FnMut key q.judge.func };
+
+    ghost same_key = { K.eq };
+
+    ghost calls_key = { λ q group k t. CallsAtFirst (CalledAtChar F.FnMut) q.judge.func (chars group.now) k t.judge.func
+        × ((text_groups_of t).text ≡ (text_groups_of q).text) × (text_place_of t ≡ text_place_of q) };
+
+    #[inline]
+    fn first_key(&mut self, group: &&'a str) -> K {
+        let Some(first) = group.chars().next() else {
+            unreachable!()
+        };
+        self.key_of(first)
+    }
+
+    ghost may_pop = { λ q callable. closures.char_key_callable F.FnMut K.eq (chars (text_groups_of q).text) q.judge.func callable };
+
+    ghost pop_callable = { λ e q group t h. closures.char_key_callable_after F.FnMut K.eq q.judge _ t.judge
+        (queue.asks (by_char_key F.FnMut K.eq) e text_groups_of (λ x. x.now) q group t
+        (queue.call (by_char_key F.FnMut K.eq) e q group t h)).asks };
+
+    ghost call_leaves = { λ q group k t h. (h.1, ap chars h.1) };
+
+    ghost pop_keyed = { λ e q group t key h by.
+        let taken = queue.call (by_char_key F.FnMut K.eq) e q group t h in (
+          (queue.piece (by_char_key F.FnMut K.eq) e text_groups_of (λ x. x.now) q group t taken (λ x y. K.eq (key x) (key y))
+              (closures.char_key_settled F.FnMut K.eq key (chars (text_groups_of q).text) q.judge.func by)).0,
+          closures.char_key_computes_after F.FnMut K.eq key q.judge _ t.judge
+              (queue.asks (by_char_key F.FnMut K.eq) e text_groups_of (λ x. x.now) q group t taken).asks by,
+        ) };
+
+    ghost call_keyed = { λ q group k t key h by.
+        let called = closures.char_key_next F.FnMut K.eq key q.judge.func h.0.0 k t.judge.func by h.0.2 in
+        ((h.0.0, h.0.1, called.0), called.1) };
+}
