@@ -53,9 +53,7 @@ pub use sgb_linear_str_group::by_predicate::{LinearStrGroupBy, LinearStrGroupByM
 pub use sgb_merge_join::{EitherOrBoth, MergeJoinBy};
 pub use sgb_number_group::by_class::LinearClassGroup;
 pub use sgb_number_group::by_number::LinearNumberGroup;
-pub use sgb_number_group::class_counts::{
-    ClassCounts, class_after, class_counts_add_up, count_classes,
-};
+pub use sgb_number_group::class_counts::{ClassCounts, class_after, count_classes};
 pub use sgb_numbers::ascii_classes::{AsciiClass, AsciiClasses};
 pub use sgb_numbers::byte_classes::ByteClasses;
 pub use sgb_numbers::lanes::Lanes;

@@ -1,4 +1,1 @@
-pub mod TokenCounts
-pub mod TokensOfBlocks
 pub mod BytesOfCharacters
-pub mod ClassTable

@@ -6,11 +6,9 @@
 #![tactic(auto)]
 
 mod characters;
-mod class;
 mod counter;
 mod program;
 mod report;
-mod tally;
 
 use program_parts::arguments::arguments;
 use program_parts::input::open_input;

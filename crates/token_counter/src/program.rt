@@ -3,8 +3,7 @@ ghost use Rattle.std.specs.Prelude.{◌≡◌, ◌≢◌, [], IfSome, OnOk, code
 ghost use Rattle.std.specs.Str.{chars, IsUtf8};
 ghost use Rattle.std.specs.Io.KnownBytes.{Appends};
 ghost use Rattle.program_parts.specs.Arguments.{IsOnly};
-ghost use Rattle.token_counter.specs.Classes.{token_count};
-ghost use Rattle.token_counter.specs.Tallies.{report};
+ghost use Rattle.token_counter.specs.Tokens.{report, token_count};
 ghost use Rattle.token_counter.specs.declared.program.TheConstants.{USAGE};
 
 use crate::characters::characters_agree;
@@ -61,7 +60,7 @@ fn report_tokens<R: Read, W: Write>(alloc: Global, input: &mut R, out: &mut W) -
         → Appends (W.contents out.old) (W.contents out.new) (report (λ class. token_count class (chars bytes))))) }
 {
     characters_agree();
-    let tally = count_tokens(alloc, input)?;
-    write_report(out, &tally)?;
+    let counts = count_tokens(alloc, input)?;
+    write_report(out, &counts)?;
     out.flush()
 }

@@ -1,18 +1,19 @@
-//! What is printed of a tally.
+//! What is printed of numbers of tokens.
 ghost use Rattle.std.specs.Prelude.{OnOk};
 ghost use Rattle.std.specs.Io.KnownBytes.{Appends};
-ghost use Rattle.token_counter.specs.Tallies.{count_of, report};
+ghost use Rattle.slice_group_by.specs.Counted.{count_of};
+ghost use Rattle.token_counter.specs.Tokens.{report};
 
-use crate::tally::Tally;
+use slice_group_by::ClassCounts;
 use std::io;
 use std::io::Write;
 
 /// Writes a line for each class, with the number of its tokens.
-pub fn write_report<W: Write>(out: &mut W, tally: &Tally) -> io::Result<()>
-    ensures { OnOk result (Appends (W.contents out.old) (W.contents out.new) (report (λ class. count_of class tally.now))) }
+pub fn write_report<W: Write>(out: &mut W, counts: &ClassCounts) -> io::Result<()>
+    ensures { OnOk result (Appends (W.contents out.old) (W.contents out.new) (report (λ class. count_of class counts.now))) }
 {
-    writeln!(out, "letters: {}", tally.letters)?;
-    writeln!(out, "digits: {}", tally.digits)?;
-    writeln!(out, "space: {}", tally.space)?;
-    writeln!(out, "other: {}", tally.other)
+    writeln!(out, "letters: {}", counts.letters)?;
+    writeln!(out, "digits: {}", counts.digits)?;
+    writeln!(out, "space: {}", counts.spaces)?;
+    writeln!(out, "other: {}", counts.others)
 }

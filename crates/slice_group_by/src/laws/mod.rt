@@ -57,6 +57,7 @@ pub use sgb_merge_join::laws::{
     merges_count, merges_exist, merges_may_go_on, parts_or_empty, sees_merge, sees_merge_by_keys,
     sees_merge_in_order, semi_joins_are_filters, unions_ascend,
 };
+pub use sgb_number_group::class_counts::class_counts_add_up;
 use sgb_search::judge::Judge;
 pub use sgb_search::laws::{
     always_callable, always_callable_apart, always_callable_char_key, always_callable_chars,

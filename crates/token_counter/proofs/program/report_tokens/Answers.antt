@@ -3,14 +3,14 @@ use Rattle.std.specs.Prelude.{OnOk}
 use Rattle.std.specs.Str.{chars}
 use Rattle.std.specs.Io.KnownBytes.{Appends}
 use Rattle.std.proofs.KnownBytes.{Appends-kept}
-use Rattle.token_counter.specs.declared.class.Class.{Class}
-use Rattle.token_counter.specs.declared.class.Class.TheVariants.{Letter, Digit, Space, Other}
-use Rattle.token_counter.specs.Classes.{token_count}
-use Rattle.token_counter.specs.Tallies.{IsTally, count_of, report}
+use Rattle.slice_group_by.specs.AsciiClass.{AsciiClass}
+use Rattle.slice_group_by.specs.AsciiClass.TheVariants.{Letter, Digit, Space, Other}
+use Rattle.slice_group_by.specs.Counted.{count_of}
+use Rattle.token_counter.specs.Tokens.{report, token_count}
 use Rattle.token_counter.proofs.program.report_tokens.Given.{Over}
 use Rattle.token_counter.proofs.program.report_tokens.Goals as goal
 
-report_same : (f g : Class → ℕ) → ((c : Class) → f c ≡ g c) → report f ≡ report g
+report_same : (f g : AsciiClass → ℕ) → ((c : AsciiClass) → f c ≡ g c) → report f ≡ report g
 report_same f g h = rw (h Letter, h Digit, h Space, h Other) refl
 
 -- what is known of the input, where it is
@@ -24,7 +24,7 @@ on_ok (Ok x) p = p
 on_ok (Err e) p = tt
 
 module _ (g : Over) (c : goal.After-flush g) where
-  printed : (text : List ℕ) → ((k : Class) → count_of k c.in_ok-tally.tally ≡ token_count k text)
+  printed : (text : List ℕ) → ((k : AsciiClass) → count_of k c.in_ok-counts.counts ≡ token_count k text)
       → Appends (g.W.Write.contents c.args.out.now) (g.W.Write.contents c.flush.new.self) (report (λ k. token_count k text))
   printed text same =
       let contents = g.W.Write.contents in
@@ -34,9 +34,9 @@ module _ (g : Over) (c : goal.After-flush g) where
 pub returns-clause-bytes : goal.returns-clause-bytes
 returns-clause-bytes g c =
     on_ok c.flush.result
-    (where_known _ (λ text. IsTally text c.in_ok-tally.tally) _ (λ text t. printed g c text t.counts) c.in_ok-tally.ensures)
+    (where_known _ (λ text. (k : AsciiClass) → count_of k c.in_ok-counts.counts ≡ token_count k text) _ (λ text t. printed g c text t) c.in_ok-counts.ensures)
 
 pub returns-clause-characters : goal.returns-clause-characters
 returns-clause-characters g c =
-    on_ok c.flush.result (where_known _ (λ text. IsTally text c.in_ok-tally.tally) _
-    (λ text t is_utf8. printed g c (chars text) (λ k. t.counts k ∙ sym (c.characters_agree.ensures k text is_utf8))) c.in_ok-tally.ensures)
+    on_ok c.flush.result (where_known _ (λ text. (k : AsciiClass) → count_of k c.in_ok-counts.counts ≡ token_count k text) _
+    (λ text t is_utf8. printed g c (chars text) (λ k. t k ∙ sym (c.characters_agree.ensures k text is_utf8))) c.in_ok-counts.ensures)

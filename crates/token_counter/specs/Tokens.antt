@@ -1,0 +1,15 @@
+-- The tokens of a text, and what is printed of them.
+use Rattle.std.specs.Prelude.{ℕ, List, [], ◌∷◌, ◌++◌, None, codes, decimal}
+use Rattle.slice_group_by.specs.AsciiClass.{AsciiClass}
+use Rattle.slice_group_by.specs.AsciiClass.TheVariants.{Letter, Digit, Space, Other}
+use Rattle.slice_group_by.specs.Counted.{class_count}
+
+-- how many tokens of the class the text has: the longest runs of bytes or characters of it
+abbrev pub token_count : AsciiClass → List ℕ → ℕ
+token_count class text = class_count class None text
+
+-- what is printed of numbers of tokens: a line for each class
+abbrev pub report : (AsciiClass → ℕ) → List ℕ
+report count =
+    codes "letters: " ++ decimal (count Letter) ++ 10 ∷ [] ++ (codes "digits: " ++ decimal (count Digit) ++ 10 ∷ [])
+    ++ (codes "space: " ++ decimal (count Space) ++ 10 ∷ []) ++ (codes "other: " ++ decimal (count Other) ++ 10 ∷ [])
