@@ -35,6 +35,14 @@ pub fn words(alloc: Global, text: &str) -> Result<Vec<(usize, usize)>, AllocErro
     Ok(spans)
 }
 
+/// The runs of letters of a text, from the back.
+pub fn words_back(alloc: Global, text: &str) -> Result<Vec<&str>, AllocError> {
+    with_keys(LinearStrGroupByKey::new(text, |c| c.is_ascii_alphabetic()))
+        .rev()
+        .filter_map(|(is_word, run)| if is_word { Some(run) } else { None })
+        .collect(alloc)
+}
+
 /// The groups of rows of one key, each with the key.
 pub fn keyed(alloc: Global, rows: &[(u32, u64)]) -> Result<Vec<(u32, &[(u32, u64)])>, AllocError> {
     with_keys(LinearGroupByKey::new(rows, |row: &(u32, u64)| row.0)).collect(alloc)
@@ -67,10 +75,11 @@ pub fn print_all(rt: &(impl Print + AllocGlobal)) -> io::Result<()> {
     let sessions = sessions(rt.alloc(), &[0, 60, 90, 1000, 1060, 5000, 5061, 7], 60)?;
     let words = words(rt.alloc(), "to be, or é not")?;
     println!(rt;
-        "offsets: {sessions:?} {words:?} {:?} {:?} {:?} {:?}",
+        "offsets: {sessions:?} {words:?} {:?} {:?} {:?} {:?} {:?}",
         last_run(&[2, 2, 1, 2]),
         keyed(rt.alloc(), &[(7, 1), (7, 2), (8, 3), (7, 4)])?,
         means(rt.alloc(), &[(7, 1), (7, 3), (8, 5)])?,
-        counts(rt.alloc(), &[4, 4, 4, 9])?
+        counts(rt.alloc(), &[4, 4, 4, 9])?,
+        words_back(rt.alloc(), "to be, or é not")?
     )
 }
