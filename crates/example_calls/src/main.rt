@@ -14,6 +14,7 @@ mod rest;
 mod returned;
 mod searches;
 mod streams;
+mod tokens;
 
 use std::io;
 
@@ -28,6 +29,7 @@ fn main(rt: HostRuntime) -> io::Result<()> {
     rest::print_all(&rt)?;
     recipes::print_all(&rt)?;
     streams::print_all(&rt)?;
+    tokens::print_all(&rt)?;
     bytes::print_all(&rt)?;
     first_page::print_all(&rt)
 }
