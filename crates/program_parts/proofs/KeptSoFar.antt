@@ -8,7 +8,6 @@ use Rattle.std.specs.Io.BufRead.{first_line, DropsThrough}
 use Rattle.std.specs.Io.KnownBytes.{Appends, IsAtEnd}
 use Rattle.program_parts.specs.Complaints.{LeftOut, none_left_out, complaint, complaints, Complains}
 use Rattle.program_parts.specs.Kept.{AreKept, KeptLines, line_number}
-use Rattle.program_parts.specs.Lines.{GivesLines}
 use Rattle.program_parts.specs.Read.{AreRead}
 use Rattle.program_parts.proofs.Appended.{appends_nothing, appends_both}
 use Rattle.program_parts.proofs.Given.{gives_none, gives_more, gives_all, gives_same}

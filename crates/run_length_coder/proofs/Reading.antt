@@ -1,6 +1,6 @@
 -- What is written of lines, whatever lines they are.
 use Rattle.std.proofs.Common.{List, ℕ, Bool, Option, None, Some, IfSome, flat_map}
-use Rattle.std.specs.Io.KnownBytes.{Appends, IsAtEnd}
+use Rattle.std.specs.Io.KnownBytes.{Appends}
 use Rattle.program_parts.specs.Read.{AreRead}
 use Rattle.run_length_coder.specs.Coding.{copies}
 use Rattle.run_length_coder.specs.Decoded.{SaysRun, IsNoRun, Decodes}

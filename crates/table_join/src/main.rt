@@ -31,7 +31,10 @@ fn main(rt: HostRuntime) -> io::Result<ExitCode> {
         return Ok(ExitCode::from(status));
     };
     if left_name == "-" && right_name == "-" {
-        let _ = writeln!(complaints, "table_join: both files cannot be standard input");
+        let _ = writeln!(
+            complaints,
+            "table_join: both files cannot be standard input"
+        );
         return Ok(ExitCode::from(2));
     }
     let Some(left) = open_named(&rt, "table_join", left_name) else {

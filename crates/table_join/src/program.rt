@@ -53,7 +53,9 @@ pub fn run<L: BufRead + Drop, R: BufRead + Drop, W: Write, E: Write>(
         Joins kind left_name.now lefts right_name.now rights true (W.contents out.old) (W.contents out.new)
         (E.contents complaints.old) (E.contents complaints.new))) }
 {
-    let done = join_tables(alloc, kind, left_name, left, right_name, right, out, complaints);
+    let done = join_tables(
+        alloc, kind, left_name, left, right_name, right, out, complaints,
+    );
     status_of("table_join", done, complaints)
 }
 

@@ -1,4 +1,4 @@
-use Rattle.std.proofs.Common.{◌≡◌, ◌+◌, ◌++◌, ℕ, List, [], ◌∷◌, Option, None, Some, append-nil, take, arith, rules, refl, sym, ap, ◌∙◌}
+use Rattle.std.proofs.Common.{◌≡◌, ◌+◌, ◌++◌, ℕ, List, [], ◌∷◌, Option, None, Some, append-nil, take, arith, rules, refl, sym, ◌∙◌}
 use Rattle.std.proofs.lemmas.Grind.{common_steps}
 use Rattle.std.proofs.KnownBytes.{Consumes-nil, Consumes-trans, Consumes-whole}
 use Rattle.slice_group_by.specs.AsciiBytes.{ascii_class}
@@ -18,8 +18,7 @@ pub loop-preserved : goal.loop-preserved
 loop-preserved g c =
     let (text, read, counts, last, room) = c.loop.invariant in
     let same : c.deref.result.now ≡ c.read_block.new.buffer = grind (arith, common_steps) in
-    let bytes = take c.in_ok-len.len c.read_block.new.buffer in
-    (
+    let bytes = take c.in_ok-len.len c.read_block.new.buffer in (
       _,
       Consumes-trans _ _ _ text _ read c.in_ok-len.ensures.bytes.0,
       (λ k. c.in_ok-counts.ensures k ∙ (λ i. counts k i + c.count_classes.ensures k i)
