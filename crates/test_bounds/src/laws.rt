@@ -1,8 +1,8 @@
 //! Laws: each speaks of lists, functions and queues of whatever types it says.
 use slice_group_by::laws::*;
 use slice_group_by::{
-    BinaryGroupBy, ExponentialGroupByKeyMut, GroupQueue, LinearGroupBy, LinearStrGroupByKeyMut,
-    MergeJoin, MergeJoinBy, Offsets, WithOffsets,
+    BinaryGroupBy, DedupWithCount, ExponentialGroupByKeyMut, GroupQueue, Keyed, LinearGroupBy,
+    LinearStrGroupByKeyMut, MergeJoin, MergeJoinBy, Offsets, SliceQueue, WithKeys, WithOffsets,
 };
 use std::cmp::Ordering;
 use std::iter::Map;
@@ -92,7 +92,7 @@ pub fn of_offsets<Q: Offsets>(groups: &WithOffsets<Q>) {
     groups_stand(groups);
 }
 
-pub fn of_keys<Q: Keyed>(groups: &WithKeys<Q>) {
+pub fn of_keyed<Q: Keyed>(groups: &WithKeys<Q>) {
     sees_keys(groups);
 }
 

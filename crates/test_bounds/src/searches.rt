@@ -31,14 +31,7 @@ pub fn by<T, F: FnMut(&T) -> Ordering>(xs: &[T], f: F, g: F, h: F, lent: &mut F)
     let _ = exponential_equal_places_by_ref(xs, lent);
 }
 
-pub fn by_key<T, B: Ord + Drop, F: FnMut(&T) -> B>(
-    xs: &[T],
-    b: &B,
-    f: F,
-    g: F,
-    h: F,
-    lent: &mut F,
-)
+pub fn by_key<T, B: Ord + Drop, F: FnMut(&T) -> B>(xs: &[T], b: &B, f: F, g: F, h: F, lent: &mut F)
     requires f { IsCallableOn F.FnMut xs.now f }
     requires g { IsCallableOn F.FnMut xs.now g }
     requires h { IsCallableOn F.FnMut xs.now h }
