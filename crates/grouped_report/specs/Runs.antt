@@ -1,5 +1,5 @@
 -- What a run reads and writes.
-use Rattle.std.specs.Prelude.{◌≡◌, ℕ, List, [], ◌++◌, Bool, Option, flat_map}
+use Rattle.std.specs.Prelude.{ℕ, List, ◌++◌, Bool, Option, flat_map}
 use Rattle.std.specs.Io.KnownBytes.{Appends}
 use Rattle.program_parts.specs.Read.{AreRead}
 use Rattle.program_parts.specs.Pairs.{Says, IsWrong}

@@ -27,13 +27,6 @@ fn main(rt: HostRuntime) -> io::Result<ExitCode> {
     let input = BufReader::new(rt.alloc(), input)?;
     let mut out = BufWriter::new(rt.alloc(), io::writer(&rt))?;
     let mut complaints = BufWriter::new(rt.alloc(), rt.stderr())?;
-    let status = program::run(
-        rt.alloc(),
-        &words,
-        &name,
-        input,
-        &mut out,
-        &mut complaints,
-    );
+    let status = program::run(rt.alloc(), &words, &name, input, &mut out, &mut complaints);
     Ok(ExitCode::from(status))
 }

@@ -43,7 +43,15 @@ pub fn run<I: BufRead + Drop, Q: BufRead + Drop, W: Write, E: Write>(
         (λ asked. Answers index_name.now entries queries_name.now asked true (W.contents out.old) (W.contents out.new)
         (E.contents complaints.old) (E.contents complaints.new))) }
 {
-    let done = answer_all(alloc, index_name, index, queries_name, queries, out, complaints);
+    let done = answer_all(
+        alloc,
+        index_name,
+        index,
+        queries_name,
+        queries,
+        out,
+        complaints,
+    );
     status_of("index_reader", done, complaints)
 }
 

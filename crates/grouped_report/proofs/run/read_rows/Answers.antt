@@ -1,4 +1,4 @@
-use Rattle.std.proofs.Common.{◌∷◌, [], ◌++◌, append_assoc, append-nil, arith}
+use Rattle.std.proofs.Common.{◌∷◌, [], ◌++◌, append_assoc, append-nil}
 use Rattle.program_parts.proofs.Given.{none_found, some_found}
 use Rattle.program_parts.proofs.KeptSoFar.{none_so_far, one_kept, one_left, are_read}
 use Rattle.grouped_report.specs.Runs.{SaysRow, IsNoRow}

@@ -1,4 +1,3 @@
-use Rattle.std.proofs.Common.{arith}
 use Rattle.program_parts.proofs.Given.{none_found, some_found}
 use Rattle.program_parts.proofs.KeptSoFar.{none_so_far, one_kept, one_left, are_read}
 use Rattle.index_reader.specs.Runs.{SaysEntry, IsNoEntry}
