@@ -51,6 +51,9 @@ numbers! {
 }
 
 extern "C" {
+    pub fn class_front(bytes: *const u8, len: usize) -> usize;
+    pub fn class_back(bytes: *const u8, len: usize) -> usize;
+    pub fn class_counts(bytes: *const u8, len: usize) -> usize;
     pub fn text_front(bytes: *const u8, len: usize) -> usize;
     pub fn text_back(bytes: *const u8, len: usize) -> usize;
     pub fn text_both_ends(bytes: *const u8, len: usize) -> usize;

@@ -53,6 +53,36 @@ pub fn slice(count: usize, lengths: Lengths) -> Vec<u32> {
     xs
 }
 
+/// About `count` bytes of words, numbers and marks with gaps between them: 2.7 bytes a token.
+pub fn tokens(count: usize) -> Vec<u8> {
+    let mut numbers = Numbers(4);
+    let mut bytes = Vec::new();
+    while bytes.len() < count {
+        for _ in 0..=numbers.below(9) {
+            bytes.push(b'a' + numbers.below(26) as u8);
+        }
+        match numbers.below(8) {
+            0 => bytes.extend(b", "),
+            1 => bytes.extend(format!(" {} ", numbers.below(10_000)).bytes()),
+            2 => bytes.extend(b".\n"),
+            _ => bytes.push(b' '),
+        }
+    }
+    bytes
+}
+
+/// `count` bytes in words of about a hundred letters, with a space between them.
+pub fn long_words(count: usize) -> Vec<u8> {
+    let mut numbers = Numbers(5);
+    let mut bytes = Vec::new();
+    while bytes.len() < count {
+        let len = Lengths::Around(100).next(&mut numbers);
+        bytes.extend(std::iter::repeat(b'a').take(len));
+        bytes.push(b' ');
+    }
+    bytes
+}
+
 /// About `count` characters in groups of these lengths, of one byte each, or of one to four.
 pub fn text(count: usize, lengths: Lengths, mixed: bool) -> String {
     let letters: &[char] = if mixed { &['a', 'é', '€', '𝄞'] } else { &['a', 'b', 'c', 'd'] };

@@ -121,6 +121,25 @@ fn all_numbers(rounds: usize) {
     numbers(rounds, "f64", f64::from, [ffi::number_f64_front, ffi::number_f64_back]);
 }
 
+/// Groups of bytes by their class, walked and counted, beside a table of 256 classes.
+fn tokens(rounds: usize) {
+    let source = include_bytes!("main.rs").repeat(COUNT / include_bytes!("main.rs").len() + 1);
+    let inputs = [("2.7", inputs::tokens(COUNT)), ("source text", source), ("~100", inputs::long_words(COUNT))];
+    let walks: [(&str, &str, ffi::Text, fn(&[u8]) -> usize); 3] = [
+        ("front", "`chunk_by`", ffi::class_front, peers::chunk_by_class),
+        ("back", "`chunk_by(..).rev()`", ffi::class_back, peers::chunk_by_class_rev),
+        ("counted", "`chunk_by`, counted", ffi::class_counts, peers::class_counts),
+    ];
+    for (way, peer_name, walk, peer) in walks {
+        head(&format!("Bytes by ASCII class, {way}"), "a byte", peer_name);
+        for (name, bytes) in &inputs {
+            let ours = || unsafe { walk(bytes.as_ptr(), bytes.len()) };
+            assert_eq!(ours(), peer(bytes), "{name}");
+            row(name, bytes.len(), &in_turn(rounds, &mut [&mut || ours(), &mut || peer(bytes)]));
+        }
+    }
+}
+
 /// The texts of a row: of characters of one byte, and of one to four.
 const KINDS: [(bool, &str); 2] = [(false, "ASCII"), (true, "one to four bytes a character")];
 
@@ -362,6 +381,7 @@ fn main() {
         writing(rounds, &format!("{name} for writing, back"), walks[1], "`chunk_by_mut(..).rev()`", peers[1]);
     }
     all_numbers(rounds);
+    tokens(rounds);
     texts(rounds);
     searches(rounds);
     joins(rounds);

@@ -8,12 +8,12 @@ ghost use Rattle.std.specs.Prelude.{◌≡◌};
 ghost use Rattle.std.specs.Str.{IsUtf8};
 
 use slice_group_by::{
-    BinaryGroup, BinaryGroupBy, BinaryGroupByKey, BinaryGroupByKeyMut, BinaryGroupByMut,
+    AsciiClasses, BinaryGroup, BinaryGroupBy, BinaryGroupByKey, BinaryGroupByKeyMut, BinaryGroupByMut,
     BinaryGroupMut, ExponentialGroup, ExponentialGroupBy, ExponentialGroupByKey,
     ExponentialGroupByKeyMut, ExponentialGroupByMut, ExponentialGroupMut, LinearGroup,
     LinearGroupBy, LinearGroupByKey, LinearGroupByKeyMut, LinearGroupByMut, LinearGroupMut,
-    LinearNumberGroup, LinearStrGroup, LinearStrGroupMut, MergeJoin, MergeJoinBy,
-    exponential_search,
+    LinearClassGroup, LinearNumberGroup, LinearStrGroup, LinearStrGroupMut, MergeJoin, MergeJoinBy,
+    count_classes, exponential_search,
 };
 
 macro_rules! lengths {
@@ -137,6 +137,24 @@ pub extern "C" fn number_f64_front(xs: &[f64]) -> usize {
 #[unsafe(no_mangle)]
 pub extern "C" fn number_f64_back(xs: &[f64]) -> usize {
     lengths!(LinearNumberGroup::new(xs).rev())
+}
+
+#[unsafe(no_mangle)]
+pub extern "C" fn class_front(bytes: &[u8]) -> usize {
+    lengths!(LinearClassGroup::<AsciiClasses>::new(bytes))
+}
+
+#[unsafe(no_mangle)]
+pub extern "C" fn class_back(bytes: &[u8]) -> usize {
+    lengths!(LinearClassGroup::<AsciiClasses>::new(bytes).rev())
+}
+
+#[unsafe(no_mangle)]
+pub extern "C" fn class_counts(bytes: &[u8]) -> usize {
+    let counts = count_classes(None, bytes);
+    [counts.letters, counts.digits, counts.spaces, counts.others]
+        .iter()
+        .fold(0usize, |sum, count| sum.wrapping_mul(31).wrapping_add(*count))
 }
 
 #[unsafe(no_mangle)]

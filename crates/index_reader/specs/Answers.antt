@@ -1,16 +1,16 @@
 -- The line that answers a query.
-use Rattle.std.specs.Prelude.{ℕ, List, [], ◌∷◌, ◌++◌, codes, decimal, flat_map}
+use Rattle.std.specs.Prelude.{ℕ, List, [], ◌∷◌, ◌++◌, codes, decimal, flat_map, map}
 use Rattle.index_reader.specs.declared.entry.Entry.{Entry}
 
--- an entry's place, after a blank
-abbrev pub place_text : Entry → List ℕ
-place_text entry = codes " " ++ decimal entry.place
+-- a place, after a blank
+abbrev pub place_text : ℕ → List ℕ
+place_text place = codes " " ++ decimal place
 
--- the places of the entries, or that there are none
-abbrev pub places : List Entry → List ℕ
-places [] = codes " none"
-places (entry ∷ entries) = flat_map place_text (entry ∷ entries)
+-- places, or that there are none
+abbrev pub places_text : List ℕ → List ℕ
+places_text [] = codes " none"
+places_text (place ∷ places) = flat_map place_text (place ∷ places)
 
 -- the key, and the places of its entries
 abbrev pub answer_line : ℕ → List Entry → List ℕ
-answer_line key entries = decimal key ++ codes ":" ++ places entries ++ codes "\n"
+answer_line key entries = decimal key ++ codes ":" ++ places_text (map (λ entry. entry.place) entries) ++ codes "\n"

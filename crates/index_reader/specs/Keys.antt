@@ -1,5 +1,5 @@
 -- What is said of the keys of entries.
-use Rattle.std.specs.Prelude.{◌≡◌, ℕ, ◌-◌, ◌<◌, List, length, not, nat_eq, nat_lt, Option, Some}
+use Rattle.std.specs.Prelude.{◌≡◌, ℕ, ◌-◌, ◌<◌, List, [], ◌∷◌, length, not, nat_eq, nat_lt, Option, Some}
 use Rattle.std.specs.List.{filter, slice_get}
 use Rattle.std.specs.Option.{option_map}
 use Rattle.std.specs.List.Sorted.{IsNonDecreasingBy}
@@ -13,6 +13,12 @@ use Rattle.index_reader.specs.declared.entry.Entry.{Entry}
 -- the keys ascend, where one may stand several times
 abbrev pub IsAscending : List Entry → Type 0
 IsAscending entries = IsNonDecreasingBy (λ entry. entry.key) entries
+
+-- the entries of these keys and these places
+abbrev pub entries : List ℕ → List ℕ → List Entry
+entries [] places = []
+entries (key ∷ keys) [] = []
+entries (key ∷ keys) (place ∷ places) = record { key = key; place = place } ∷ entries keys places
 
 -- the entries of the key, in order
 abbrev pub of_key : ℕ → List Entry → List Entry

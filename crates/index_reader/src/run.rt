@@ -56,7 +56,7 @@ fn read_index<R: BufRead, E: Write>(
         if !lines.advance()? {
             return Ok((index, is_whole));
         }
-        match next_entry(index.entries(), &lines.line) {
+        match next_entry(&index, &lines.line) {
             Ok(entry) => index.push(entry)?,
             Err(problem) => {
                 complain(complaints, name, lines.number, problem)?;
@@ -90,7 +90,7 @@ fn answer_queries<R: BufRead, W: Write, E: Write>(
         }
         match parse_query(&lines.line) {
             Ok(key) => {
-                write_answer(index.entries(), key, out)?;
+                write_answer(index, key, out)?;
                 queries = queries.saturating_add(1);
             }
             Err(problem) => {

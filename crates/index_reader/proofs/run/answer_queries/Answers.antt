@@ -36,7 +36,7 @@ loop-preserved g c =
           rw (w.out-is, w.complaints-is, w.queries-is, w.is_whole-is) (
             keys ++ w.in-Ok.key ∷ [],
             appends_last _ _ _ (λ key. answer_line key (of_key key c.args.index.now)) keys w.in-Ok.key writes
-                (rw w.entries.ensures.entries at w.in_ok-write_answer-in-Ok.ensures),
+                w.in_ok-write_answer-in-Ok.ensures,
             (let added = w.saturating_add-queries.ensures in omega (arith, count, added, length-append keys (w.in-Ok.key ∷ []))),
             one_kept SaysQuery IsNoQuery _ words _ _ _ _ _ _ _ keys whole line s some found.line found.rest counts w.in-Ok.key
                 (rw c.deref.ensures.value at w.in-Ok.ensures.read),

@@ -25,12 +25,12 @@ loop-preserved g c =
     elim c.match-next_entry.branch [
       | in-Ok+in_ok-push-in-Ok w ↦
           let says = rw c.deref.ensures.value at w.in-Ok.ensures.says in
-          let ascends = rw c.entries.ensures.entries at w.in-Ok.ensures.ascending in
+          let ascends = w.in-Ok.ensures.ascending in
           rw (w.index-is, w.complaints-is, w.is_whole-is, w.in_ok-push-in-Ok.ensures.ok)
           (one_kept SaysEntry IsNoEntry _ words _ _ _ _ _ _ _ index whole line so_far some found.line found.rest counts
           w.in-Ok.entry (says, ascends))
       | in-Err+in_ok-complain-in-Err w ↦
-          let wrong = rw (c.deref.ensures.value, c.entries.ensures.entries) at w.in-Err.ensures.wrong in
+          let wrong = rw c.deref.ensures.value at w.in-Err.ensures.wrong in
           rw (w.index-is, w.complaints-is, w.is_whole-is)
           (one_left SaysEntry IsNoEntry _ words _ _ _ _ _ _ _ index whole line so_far some found.line found.rest counts _
           w.in-Err.problem wrong w.in_ok-complain-in-Err.ensures)
