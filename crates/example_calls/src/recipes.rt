@@ -1,6 +1,7 @@
 //! What groups and searches are good for, each in a few lines.
 use slice_group_by::{
-    LinearGroupBy, LinearGroupByKeyMut, exponential_equal_range_by, exponential_partition_point,
+    LinearGroup, LinearGroupBy, LinearGroupByKeyMut, exponential_equal_range_by,
+    exponential_partition_point,
 };
 use std::alloc::{AllocError, Global};
 use std::cmp::Ordering;
@@ -54,6 +55,14 @@ pub fn merged(alloc: Global, spans: &[(u64, u64)]) -> Result<Vec<(u64, u64)>, Al
         .collect(alloc)
 }
 
+/// The k longest runs of equal numbers, the longest first.
+pub fn longest_runs(alloc: Global, slice: &[u32], k: usize) -> Result<Vec<&[u32]>, AllocError> {
+    let mut runs: Vec<&[u32]> = LinearGroup::new(slice).collect(alloc)?;
+    runs.sort_by_key(|run| usize::MAX - run.len())?;
+    runs.truncate(k);
+    Ok(runs)
+}
+
 /// Keeps the last row of each run of rows with one key.
 pub fn keep_last(rows: &mut Vec<(u32, u64)>) {
     for group in LinearGroupByKeyMut::new(rows.as_mut_slice(), |row: &(u32, u64)| row.0) {
@@ -67,9 +76,10 @@ pub fn print_all(rt: &(impl Print + AllocGlobal)) -> io::Result<()> {
     let mut rows = vec![in rt.alloc(); (7, 1), (7, 2), (8, 3), (7, 4)]?;
     keep_last(&mut rows);
     println!(rt;
-        "recipes: {:?} {:?} {:?} {rows:?}",
+        "recipes: {:?} {:?} {:?} {:?} {rows:?}",
         with_prefix(&["also", "group", "grow", "key"], "gr"),
         as_of(rt.alloc(), &[1, 5, 6, 9], &[(2, 20), (5, 50), (5, 51)])?,
-        merged(rt.alloc(), &[(0, 5), (1, 2), (4, 7), (8, 9)])?
+        merged(rt.alloc(), &[(0, 5), (1, 2), (4, 7), (8, 9)])?,
+        longest_runs(rt.alloc(), &[3, 3, 5, 8, 8, 8], 2)?
     )
 }
