@@ -19,7 +19,7 @@ use std::process::ExitCode;
 
 fn main(rt: HostRuntime) -> io::Result<ExitCode> {
     let words = arguments(&rt)?;
-    let mut out = BufWriter::new(rt.alloc(), rt.stdout())?;
+    let mut out = BufWriter::with_capacity(rt.alloc(), 65536, rt.stdout())?;
     let mut complaints = BufWriter::new(rt.alloc(), rt.stderr())?;
     let (index_name, queries_name) = match words.as_slice() {
         [index] if !index.starts_with("--") => (index.as_str(), "-"),

@@ -3,7 +3,7 @@ use Rattle.std.proofs.Common.{◌≡◌, ◌≢◌, ℕ, suc, ◌+◌, ◌<◌, 
 use Rattle.std.proofs.Common.{sym, ◌∙◌, arith, append_assoc, append-nil, Option, None, Some, IfSome, ltb, map, subst}
 use borrow.Author.Tests.{ltb-false}
 use Rattle.std.specs.Option.{unwrap_or}
-use Rattle.std.specs.Io.KnownBytes.{IsAtEnd}
+use Rattle.std.specs.Io.KnownBytes.{Consumes, IsAtEnd}
 use Rattle.std.proofs.lemmas.List.{drop-drop, map-append}
 use Rattle.std.proofs.lemmas.List.Sums.{prefix_len-le-length}
 use Rattle.std.specs.List.{position, position_or_len, onto_first}
@@ -58,108 +58,33 @@ onto_joined : (x : ℕ) (a b : List (List ℕ)) → (a ≡ [] → b ≡ []) → 
 onto_joined x [] b h = rw (h refl) refl
 onto_joined x (l ∷ ls) b h = refl
 
--- nothing is left where nothing came
-some_came : (x : ℕ) (xs : List ℕ) (b : Bool) → is_feed x ≡ b → lines (take_through 10 (x ∷ xs)) ≢ []
-some_came x xs true e h = let t : take_through 10 (x ∷ xs) ≡ x ∷ [] = rw e refl in some_line x [] (is_feed x) refl (ap lines (sym t) ∙ h)
-some_came x xs false e h =
-    let t : take_through 10 (x ∷ xs) ≡ x ∷ take_through 10 xs = rw e refl in
-    some_line x (take_through 10 xs) (is_feed x) refl (ap lines (sym t) ∙ h)
+-- a line feed ends a line: what stands behind it begins the next
+fed_some : (front : List ℕ) → lines (front ++ 10 ∷ []) ≢ []
+fed_some [] e = cc
+fed_some (x ∷ front) e = some_line x (front ++ 10 ∷ []) (is_feed x) refl e
 
-none_left : (xs : List ℕ) → lines (take_through 10 xs) ≡ [] → lines (drop_through 10 xs) ≡ []
-none_left [] e = refl
-none_left (x ∷ xs) e = absurd (some_came x xs (is_feed x) refl e)
+lines_both : (front more : List ℕ) → lines ((front ++ 10 ∷ []) ++ more) ≡ lines (front ++ 10 ∷ []) ++ lines more
+lines_both [] more = refl
+lines_both (x ∷ front) more = by (is_feed x) refl (lines_both front more)
+  where
+    by : (b : Bool) → is_feed x ≡ b → lines ((front ++ 10 ∷ []) ++ more) ≡ lines (front ++ 10 ∷ []) ++ lines more
+        → lines ((x ∷ front ++ 10 ∷ []) ++ more) ≡ lines (x ∷ front ++ 10 ∷ []) ++ lines more
+    by true e rest =
+        lines_at_feed x ((front ++ 10 ∷ []) ++ more) e ∙ ap (λ l. [] ∷ l) rest
+        ∙ ap (λ l. l ++ lines more) (sym (lines_at_feed x (front ++ 10 ∷ []) e))
+    by false e rest =
+        lines_at_other x ((front ++ 10 ∷ []) ++ more) e ∙ ap (onto_first x) rest
+        ∙ onto_joined x (lines (front ++ 10 ∷ [])) (lines more) (λ k. absurd (fed_some front k))
+        ∙ ap (λ l. l ++ lines more) (sym (lines_at_other x (front ++ 10 ∷ []) e))
 
--- the lines up to a first line feed and those after it
-IsCutThrough : List ℕ → Type 0
-IsCutThrough xs = lines xs ≡ lines (take_through 10 xs) ++ lines (drop_through 10 xs)
-
-through_after : (x : ℕ) (xs : List ℕ) (b : Bool) → is_feed x ≡ b → IsCutThrough xs → IsCutThrough (x ∷ xs)
-unfolding IsCutThrough
-through_after x xs true e h = rw e (rw e refl)
-through_after x xs false e h =
-    rw e (rw e (ap (onto_first x) h ∙ onto_joined x _ _ (none_left xs)))
-
-cut_through : (xs : List ℕ) → IsCutThrough xs
-unfolding IsCutThrough
-cut_through [] = refl
-cut_through (x ∷ xs) = through_after x xs (is_feed x) refl (cut_through xs)
-
-pub lines_through : (xs : List ℕ) → lines xs ≡ lines (take_through 10 xs) ++ lines (drop_through 10 xs)
-unfolding IsCutThrough
-lines_through xs = cut_through xs
-
--- what stands before a line feed ends a line
-abbrev pub EndsLine : List ℕ → Type 0
-EndsLine text = (more : List ℕ) → lines (text ++ more) ≡ lines text ++ lines more
-
-ends_after : (x : ℕ) (xs : List ℕ) (b : Bool) → is_feed x ≡ b → (drop_through 10 xs ≢ [] → EndsLine (take_through 10 xs))
-    → drop_through 10 (x ∷ xs) ≢ [] → EndsLine (take_through 10 (x ∷ xs))
-ends_after x xs true e h some more =
-    let t : take_through 10 (x ∷ xs) ≡ x ∷ [] = rw e refl in
-    rw t (lines_at_feed x more e ∙ ap (λ l. l ++ lines more) (sym (lines_at_feed x [] e)))
-ends_after x [] false e h some more = absurd (some (rw e refl))
-ends_after x (y ∷ ys) false e h some more =
-    let t : take_through 10 (x ∷ y ∷ ys) ≡ x ∷ take_through 10 (y ∷ ys) = rw e refl in
-    let d : drop_through 10 (x ∷ y ∷ ys) ≡ drop_through 10 (y ∷ ys) = rw e refl in
-    let front = take_through 10 (y ∷ ys) in
-    rw t (lines_at_other x (front ++ more) e ∙ ap (onto_first x) (h (λ k. some (d ∙ k)) more)
-    ∙ onto_joined x (lines front) (lines more) (λ k. absurd (some_came y ys (is_feed y) refl k))
-    ∙ ap (λ l. l ++ lines more) (sym (lines_at_other x front e)))
-
-through_ends : (xs : List ℕ) → drop_through 10 xs ≢ [] → EndsLine (take_through 10 xs)
-through_ends [] some more = refl
-through_ends (x ∷ xs) some more = ends_after x xs (is_feed x) refl (through_ends xs) some more
-
--- a text that ends a line still does so with a line feed's bytes after it
-ends_both : (text more : List ℕ) → EndsLine text → EndsLine more → EndsLine (text ++ more)
-ends_both text more p q rest =
-    ap lines (append_assoc text more rest) ∙ p (more ++ rest) ∙ ap (λ l. lines text ++ l) (q rest)
-    ∙ sym (append_assoc (lines text) (lines more) (lines rest)) ∙ ap (λ l. l ++ lines rest) (sym (p more))
-
--- the text holds the lines that a reader gave, and ends a line unless nothing is left
-abbrev pub Reads : Option (List ℕ) → Option (List ℕ) → List ℕ → Type 0
-Reads None new text = Unit {0}
-Reads (Some all) None text = ⊥
-Reads (Some all) (Some xs) text = (lines all ≡ lines text ++ lines xs) × (xs ≢ [] → EndsLine text)
-
-pub Reads-none : (a : Option (List ℕ)) → Reads a a []
-Reads-none None = tt
-Reads-none (Some xs) = (refl, λ some more. refl)
-
-pub Reads-gives : (a b : Option (List ℕ)) (text : List ℕ) → Reads a b text → GivesLines a b (lines text)
-Reads-gives None b text p = tt
-Reads-gives (Some all) None text p = p
-Reads-gives (Some all) (Some xs) text p = p.0
-
--- one more line
-pub Reads-more : (a b c : Option (List ℕ)) (text new : List ℕ) → Reads a b text
-    → IfSome b (λ xs. new ≡ text ++ take_through 10 xs) → DropsThrough b c 10 → Reads a c new
-Reads-more None b c text new p grown left = tt
-Reads-more (Some all) None c text new p grown left = absurd p
-Reads-more (Some all) (Some []) c text new p grown left = rw (left, grown, append-nil text) (p.0, λ some. absurd (some refl))
-Reads-more (Some all) (Some (x ∷ xs)) c text new p grown left =
-    let front = take_through 10 (x ∷ xs) in
-    let rest = drop_through 10 (x ∷ xs) in
-    let ends = p.1 (λ e. cc) in
-    rw (left, grown) (
-      p.0 ∙ ap (λ l. lines text ++ l) (lines_through (x ∷ xs)) ∙ sym (append_assoc (lines text) (lines front) (lines rest))
-          ∙ ap (λ l. l ++ lines rest) (sym (ends front)),
-      λ some. ends_both text front ends (through_ends (x ∷ xs) some),
-    )
-
--- how many bytes stand before the first line feed
-pub unwrap_or_position : (p : ℕ → Bool) (xs : List ℕ) → unwrap_or (position p xs) (length xs) ≡ position_or_len p xs
-unwrap_or_position p xs = at_end (ltb (position_or_len p xs) (length xs)) refl where
-  at_end : (b : Bool) → ltb (position_or_len p xs) (length xs) ≡ b → unwrap_or (position p xs) (length xs) ≡ position_or_len p xs
-  at_end true e = rw e refl
-  at_end false e = rw e (omega (arith, ltb-false, prefix_len-le-length (λ x. not (p x)) xs))
-
--- a reader at its end is at its end behind one read more
-pub Reads-end : (a b c : Option (List ℕ)) (text : List ℕ) → Reads a b text → IsAtEnd b → DropsThrough b c 10
-    → IfSome a (λ _. IsAtEnd c)
-Reads-end None b c text p end left = tt
-Reads-end (Some all) None c text p end left = absurd p
-Reads-end (Some all) (Some xs) c text p end left = rw (left, end) refl
+through_whole : (xs : List ℕ) → take_through 10 xs ++ drop_through 10 xs ≡ xs
+through_whole [] = refl
+through_whole (x ∷ xs) = by (is_feed x) refl (through_whole xs)
+  where
+    by : (b : Bool) → is_feed x ≡ b → take_through 10 xs ++ drop_through 10 xs ≡ xs
+        → take_through 10 (x ∷ xs) ++ drop_through 10 (x ∷ xs) ≡ x ∷ xs
+    by true e rest = rw e refl
+    by false e rest = rw e (ap (λ l. x ∷ l) rest)
 
 -- what is cut before the end ends with a line feed
 through_feed : (xs : List ℕ) → drop_through 10 xs ≢ [] → (front : List ℕ) × (take_through 10 xs ≡ front ++ 10 ∷ [])
@@ -172,19 +97,46 @@ through_feed (x ∷ xs) some = feed_after x xs (is_feed x) refl (through_feed xs
   feed_after x xs false e h some =
       let (front, cut) = h (λ k. some (rw e k)) in (x ∷ front, rw e (ap (λ l. x ∷ l) cut))
 
--- so a reader is at its end behind a line with no line feed
-pub Reads-cut : (a b c : Option (List ℕ)) (text new : List ℕ) → Reads a b text → IfSome b (λ xs. new ≡ text ++ take_through 10 xs)
-    → DropsThrough b c 10 → ends_with_byte 10 new ≡ false → IfSome a (λ _. IsAtEnd c)
-Reads-cut None b c text new p grown left no_feed = tt
-Reads-cut (Some all) None c text new p grown left no_feed = absurd p
-Reads-cut (Some all) (Some xs) c text new p grown left no_feed = at_end (drop_through 10 xs) refl where
+-- a text that a reader gave, up to the end of a line
+pub line_read : (a b c : Option (List ℕ)) (text new : List ℕ) → Consumes a b text
+    → IfSome b (λ xs. new ≡ text ++ take_through 10 xs) → DropsThrough b c 10 → GivesLines a c (lines new)
+line_read None b c text new read grown left = tt
+line_read (Some all) None c text new read grown left = absurd read
+line_read (Some all) (Some xs) c text new read grown left = rw left (by (drop_through 10 xs) refl)
+  where
+    whole : all ≡ new ++ drop_through 10 xs
+    whole =
+        read ∙ ap (λ l. text ++ l) (sym (through_whole xs)) ∙ sym (append_assoc text (take_through 10 xs) (drop_through 10 xs))
+        ∙ ap (λ l. l ++ drop_through 10 xs) (sym grown)
+
+    by : (rest : List ℕ) → drop_through 10 xs ≡ rest → lines all ≡ lines new ++ lines (drop_through 10 xs)
+    by [] e = ap lines (whole ∙ ap (λ l. new ++ l) e ∙ append-nil new) ∙ sym (ap (λ l. lines new ++ lines l) e ∙ append-nil (lines new))
+    by (y ∷ ys) e =
+        let (front, cut) = through_feed xs (λ none. let k = sym e ∙ none in cc) in
+        let fed = grown ∙ ap (λ l. text ++ l) cut ∙ sym (append_assoc text front (10 ∷ [])) in
+        ap lines (whole ∙ ap (λ l. l ++ drop_through 10 xs) fed) ∙ lines_both (text ++ front) (drop_through 10 xs)
+        ∙ ap (λ l. lines l ++ lines (drop_through 10 xs)) (sym fed)
+
+-- which are all, where it ends with no line feed
+pub cut_short : (a b c : Option (List ℕ)) (text new : List ℕ) → Consumes a b text
+    → IfSome b (λ xs. new ≡ text ++ take_through 10 xs) → DropsThrough b c 10 → ends_with_byte 10 new ≡ false → IfSome a (λ _. IsAtEnd c)
+cut_short None b c text new read grown left no_feed = tt
+cut_short (Some all) None c text new read grown left no_feed = absurd read
+cut_short (Some all) (Some xs) c text new read grown left no_feed = at_end (drop_through 10 xs) refl where
   at_end : (rest : List ℕ) → drop_through 10 xs ≡ rest → IsAtEnd c
   at_end [] e = rw (left, e) refl
   at_end (y ∷ ys) e =
       let (front, cut) = through_feed xs (λ none. let k = sym e ∙ none in cc) in
-      let read = grown ∙ ap (λ l. text ++ l) cut ∙ sym (append_assoc text front (10 ∷ [])) in
-      let fed : ends_with_byte 10 new ≡ true = ap (ends_with_byte 10) read ∙ (feed_last (text ++ front)).0 in
-      let k = sym fed ∙ no_feed in cc
+      let fed = grown ∙ ap (λ l. text ++ l) cut ∙ sym (append_assoc text front (10 ∷ [])) in
+      let found : ends_with_byte 10 new ≡ true = ap (ends_with_byte 10) fed ∙ (feed_last (text ++ front)).0 in
+      let k = sym found ∙ no_feed in cc
+
+-- how many bytes stand before the first line feed
+pub unwrap_or_position : (p : ℕ → Bool) (xs : List ℕ) → unwrap_or (position p xs) (length xs) ≡ position_or_len p xs
+unwrap_or_position p xs = at_end (ltb (position_or_len p xs) (length xs)) refl where
+  at_end : (b : Bool) → ltb (position_or_len p xs) (length xs) ≡ b → unwrap_or (position p xs) (length xs) ≡ position_or_len p xs
+  at_end true e = rw e refl
+  at_end false e = rw e (omega (arith, ltb-false, prefix_len-le-length (λ x. not (p x)) xs))
 
 -- one more line is found
 pub lines_push : {A : Type 0} (f : A → List ℕ) (found new : List A) (line : A) (rest after next : List ℕ) (all : List (List ℕ)) (n : ℕ)

@@ -5,6 +5,7 @@ ghost use Rattle.uniq_count.specs.Counting.{Counts, copies, counted, lines};
 
 use crate::lines::{lines_of, read_lines};
 use crate::repeated::Repeated;
+use program_parts::blocks::new_block;
 use slice_group_by::LinearGroup;
 use slice_group_by::laws::{one_split, sees_pieces};
 use std::alloc::Global;
@@ -22,10 +23,11 @@ pub fn count_lines<R: BufRead, W: Write>(
     ensures { OnOk result (IfSome (R.remaining input.old)
         (λ bytes. Appends (W.contents out.old) (W.contents out.new) (counted (lines bytes)))) }
 {
+    let mut buffer = new_block(alloc)?;
     let mut text = Vec::new(alloc);
     let mut last = Repeated::none(alloc);
     for _ in 0..u64::MAX {
-        let may_go_on = read_lines(input, &mut text)?;
+        let may_go_on = read_lines(input, &mut buffer, &mut text)?;
         let found = lines_of(alloc, &text)?;
         take_lines(&mut last, &found, out)?;
         if !may_go_on {

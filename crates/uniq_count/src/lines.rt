@@ -1,34 +1,42 @@
 //! The lines of an input, some at a time.
-ghost use Rattle.std.specs.Prelude.{◌≡◌, ◌==◌, drop, false, map, IfOk, IfSome, OnOk};
+ghost use Rattle.std.specs.Prelude.{◌≡◌, ◌<◌, ◌==◌, drop, false, length, map, IfOk, IfSome, OnOk};
 ghost use Rattle.std.specs.List.{position, position_or_len};
 ghost use Rattle.std.specs.Io.BufRead.{ends_with_byte};
 ghost use Rattle.std.specs.Io.KnownBytes.{IsAtEnd};
 ghost use Rattle.uniq_count.specs.Counting.{lines, GivesLines};
 
+use program_parts::blocks::read_block;
 use std::alloc::{AllocError, Global};
 use std::io;
 use std::io::BufRead;
 
-/// How many bytes of lines are read at once, where no line is longer.
+/// So many bytes are read before the line in which they end.
 const BLOCK_LEN: usize = 65536;
 
-/// Reads the next lines into the text, in place of what it holds: as many as make a block, or all that are left. The answer is
-/// whether the input may go on; where it may not, nothing is read behind its end.
-pub fn read_lines<R: BufRead>(input: &mut R, text: &mut Vec<u8>) -> io::Result<bool>
+/// Reads the next lines into the text, in place of what it holds: as many as make a block, or all that are left. They come through the
+/// buffer. The answer is whether the input may go on; where it may not, it is at its end.
+pub fn read_lines<R: BufRead>(
+    input: &mut R,
+    buffer: &mut [u8],
+    text: &mut Vec<u8>,
+) -> io::Result<bool>
+    requires { 0 < length buffer.old }
     ensures given { OnOk result (GivesLines (R.remaining input.old) (R.remaining input.new) (lines text.new.items)) }
     ensures end { IfOk result (λ may_go_on. may_go_on ≡ false
         → IfSome (R.remaining input.old) (λ _. IsAtEnd (R.remaining input.new))) }
 {
     text.clear();
-    'block: while text.len() < BLOCK_LEN {
-        if input.read_until(b'\n', text)? == 0 {
+    while text.len() < BLOCK_LEN {
+        let len = read_block(input, buffer)?;
+        if len == 0 {
             return Ok(false);
         }
-        if !ends_with_feed(text) {
-            return Ok(false);
-        }
+        text.extend_from_slice(&buffer[..len])?;
     }
-    Ok(true)
+    if input.read_until(b'\n', text)? == 0 {
+        return Ok(false);
+    }
+    Ok(ends_with_feed(text))
 }
 
 /// Whether the last byte is a line feed.

@@ -20,7 +20,7 @@ fn main(rt: HostRuntime) -> io::Result<ExitCode> {
         return Ok(ExitCode::from(1));
     };
     let mut input = BufReader::with_capacity(rt.alloc(), 65536, input)?;
-    let mut out = BufWriter::new(rt.alloc(), rt.stdout())?;
+    let mut out = BufWriter::with_capacity(rt.alloc(), 65536, rt.stdout())?;
     let mut complaints = BufWriter::new(rt.alloc(), rt.stderr())?;
     let status = program::run(rt.alloc(), &words, &mut input, &mut out, &mut complaints);
     Ok(ExitCode::from(status))
