@@ -8,11 +8,11 @@ ghost use Rattle.std.specs.Prelude.{◌≡◌};
 ghost use Rattle.std.specs.Str.{IsUtf8};
 
 use slice_group_by::{
-    AsciiClasses, BinaryGroup, BinaryGroupBy, BinaryGroupByKey, BinaryGroupByKeyMut, BinaryGroupByMut,
-    BinaryGroupMut, ExponentialGroup, ExponentialGroupBy, ExponentialGroupByKey,
-    ExponentialGroupByKeyMut, ExponentialGroupByMut, ExponentialGroupMut, LinearGroup,
-    LinearGroupBy, LinearGroupByKey, LinearGroupByKeyMut, LinearGroupByMut, LinearGroupMut,
-    LinearClassGroup, LinearNumberGroup, LinearStrGroup, LinearStrGroupMut, MergeJoin, MergeJoinBy,
+    AsciiClasses, BinaryGroup, BinaryGroupBy, BinaryGroupByKey, BinaryGroupByKeyMut,
+    BinaryGroupByMut, BinaryGroupMut, ExponentialGroup, ExponentialGroupBy, ExponentialGroupByKey,
+    ExponentialGroupByKeyMut, ExponentialGroupByMut, ExponentialGroupMut, LinearClassGroup,
+    LinearGroup, LinearGroupBy, LinearGroupByKey, LinearGroupByKeyMut, LinearGroupByMut,
+    LinearGroupMut, LinearNumberGroup, LinearStrGroup, LinearStrGroupMut, MergeJoin, MergeJoinBy,
     count_classes, exponential_search,
 };
 
@@ -154,7 +154,10 @@ pub extern "C" fn class_counts(bytes: &[u8]) -> usize {
     let counts = count_classes(None, bytes);
     [counts.letters, counts.digits, counts.spaces, counts.others]
         .iter()
-        .fold(0usize, |sum, count| sum.wrapping_mul(31).wrapping_add(*count))
+        .fold(
+            0usize,
+            |sum, count| sum.wrapping_mul(31).wrapping_add(*count),
+        )
 }
 
 #[unsafe(no_mangle)]
