@@ -6,7 +6,6 @@ mod by_name;
 #[cfg(test)]
 mod calls;
 #[cfg(test)]
-mod classes;
 #[cfg(test)]
 mod debug;
 #[cfg(test)]
