@@ -4,16 +4,12 @@
 //! without their lowest bit.
 #![tactic(auto)]
 
-ghost use Rattle.std.specs.Prelude.{◌≡◌};
-ghost use Rattle.std.specs.Str.{IsUtf8};
-
 use slice_group_by::{
     AsciiClasses, BinaryGroup, BinaryGroupBy, BinaryGroupByKey, BinaryGroupByKeyMut,
     BinaryGroupByMut, BinaryGroupMut, ExponentialGroup, ExponentialGroupBy, ExponentialGroupByKey,
     ExponentialGroupByKeyMut, ExponentialGroupByMut, ExponentialGroupMut, LinearClassGroup,
     LinearGroup, LinearGroupBy, LinearGroupByKey, LinearGroupByKeyMut, LinearGroupByMut,
-    LinearGroupMut, LinearNumberGroup, LinearStrGroup, LinearStrGroupMut, MergeJoin, MergeJoinBy,
-    count_classes, exponential_search,
+    LinearGroupMut, LinearNumberGroup, MergeJoin, MergeJoinBy, count_classes, exponential_search,
 };
 
 macro_rules! lengths {
@@ -55,6 +51,8 @@ macro_rules! questions {
     }};
 }
 
+mod texts;
+
 #[inline]
 fn equal(a: &u32, b: &u32) -> bool {
     a == b
@@ -68,15 +66,6 @@ fn key(x: &u32) -> u32 {
 #[inline]
 fn itself(x: &u32) -> u32 {
     *x
-}
-
-// Bytes that are known to be UTF-8, as a text: the walk is timed, and not the test.
-#[inline]
-fn text_of(bytes: &[u8]) -> &str
-    requires { IsUtf8 bytes.now }
-    ensures { result.now ≡ bytes.now }
-{
-    unsafe { std::str::from_utf8_unchecked(bytes) }
 }
 
 #[unsafe(no_mangle)]
@@ -320,34 +309,6 @@ pub extern "C" fn exponential_by_key_mut_back(xs: &mut [u32]) -> usize {
     lengths!(ExponentialGroupByKeyMut::new(xs, key).rev())
 }
 
-#[unsafe(no_mangle)]
-pub extern "C" fn text_front(bytes: &[u8]) -> usize
-    requires { IsUtf8 bytes.now }
-{
-    lengths!(LinearStrGroup::new(text_of(bytes)))
-}
-
-#[unsafe(no_mangle)]
-pub extern "C" fn text_mut_front(bytes: &mut [u8]) -> usize
-    requires { IsUtf8 bytes.old }
-{
-    lengths!(LinearStrGroupMut::new(bytes))
-}
-
-#[unsafe(no_mangle)]
-pub extern "C" fn text_back(bytes: &[u8]) -> usize
-    requires { IsUtf8 bytes.now }
-{
-    lengths!(LinearStrGroup::new(text_of(bytes)).rev())
-}
-
-#[unsafe(no_mangle)]
-pub extern "C" fn text_mut_back(bytes: &mut [u8]) -> usize
-    requires { IsUtf8 bytes.old }
-{
-    lengths!(LinearStrGroupMut::new(bytes).rev())
-}
-
 /// Where each of the keys is found, or belongs, in one number.
 #[unsafe(no_mangle)]
 pub extern "C" fn searches(xs: &[u32], keys: &[u32]) -> usize {
@@ -388,13 +349,6 @@ pub extern "C" fn merge_join_by(left: &[u32], right: &[u32]) -> usize {
 #[unsafe(no_mangle)]
 pub extern "C" fn linear_both_ends(xs: &[u32]) -> usize {
     lengths_from_both_ends!(LinearGroup::new(xs), xs.len())
-}
-
-#[unsafe(no_mangle)]
-pub extern "C" fn text_both_ends(bytes: &[u8]) -> usize
-    requires { IsUtf8 bytes.now }
-{
-    lengths_from_both_ends!(LinearStrGroup::new(text_of(bytes)), bytes.len())
 }
 
 #[unsafe(no_mangle)]

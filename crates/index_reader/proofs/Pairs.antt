@@ -1,5 +1,6 @@
 -- Entries of keys and of places.
-use Rattle.std.proofs.Common.{◌≡◌, ℕ, ◌-◌, ◌≤◌, List, [], ◌∷◌, ◌++◌, length, map, take, drop, get_or, Bool, true, false, Option, Some, None, refl, sym, ap, subst, ◌∙◌, arith}
+use Rattle.std.proofs.Common.{◌≡◌, ℕ, ◌-◌, ◌≤◌, List, [], ◌∷◌, ◌++◌, length, map, take, drop, get_or, Bool, true, false}
+use Rattle.std.proofs.Common.{Option, Some, None, refl, sym, ap, subst, ◌∙◌, arith}
 use Rattle.std.specs.Prelude.{count_by, slice_range}
 use Rattle.std.specs.List.{AllByRecursion, filter, slice_get}
 use Rattle.std.specs.Option.{option_map}
@@ -39,7 +40,8 @@ one_more (j ∷ ks) (q ∷ ps) k p e = ap (λ l. record { key = j; place = q } �
 pub last_key : (xs : List Entry) (key : ℕ) (d : Entry) → slice_get (map (λ e. e.key) xs) (length (map (λ e. e.key) xs) - 1) ≡ Some key
     → (option_map (λ e. e.key) (slice_get xs (length xs - 1)) ≡ Some key) × ((get_or xs (length xs - 1) d).key ≡ key)
 last_key xs key d is =
-    let found = sym (slice_get-map (λ e. e.key) xs (length xs - 1)) ∙ ap (λ n. slice_get (map (λ e. e.key) xs) (n - 1)) (sym (length-map xs (λ e. e.key))) ∙ is in
+    let found = sym (slice_get-map (λ e. e.key) xs (length xs - 1))
+    ∙ ap (λ n. slice_get (map (λ e. e.key) xs) (n - 1)) (sym (length-map xs (λ e. e.key))) ∙ is in
     (found, of (slice_get xs (length xs - 1)) refl found)
   where
     of : (o : Option Entry) → slice_get xs (length xs - 1) ≡ o → option_map (λ e. e.key) (slice_get xs (length xs - 1)) ≡ Some key
@@ -82,7 +84,9 @@ module _ (key : ℕ) (xs : List Entry) (s e : ℕ) (order : s ≤ e) where
         whole = sym (take-append-drop s xs) ∙ ap (λ l. take s xs ++ l) (drop_split xs s e order);
         less = of_map (λ k. nat_cmp k key ≡ Less) (take s xs) (subst (AllByRecursion _) (sym seam ∙ take-map (λ e. e.key) s xs) r.less);
         equal = of_map (λ k. nat_cmp k key ≡ Equal) (slice_range xs s e) (subst (AllByRecursion _) (range_map (λ e. e.key) xs s e) r.equal);
-        greater = of_map (λ k. nat_cmp k key ≡ Greater) (drop e xs) (subst (AllByRecursion _) (sym after ∙ drop-map (λ e. e.key) e xs) r.greater);
+        greater =
+            of_map (λ k. nat_cmp k key ≡ Greater) (drop e xs)
+            (subst (AllByRecursion _) (sym after ∙ drop-map (λ e. e.key) e xs) r.greater);
       }
 
 -- what a test of keys picks
@@ -96,7 +100,9 @@ filter_keys p (x ∷ xs) = by (p x.key) refl (filter_keys p xs)
     by false e rest = rw e rest
 
 pub count_keys : (p : ℕ → Bool) (xs : List Entry) → count_by p (map (λ e. e.key) xs) ≡ length (filter (λ e. p e.key) xs)
-count_keys p xs = sym (length-filter p (map (λ e. e.key) xs)) ∙ ap length (filter_keys p xs) ∙ length-map (filter (λ e. p e.key) xs) (λ e. e.key)
+count_keys p xs =
+    sym (length-filter p (map (λ e. e.key) xs)) ∙ ap length (filter_keys p xs)
+    ∙ length-map (filter (λ e. p e.key) xs) (λ e. e.key)
 
 -- keys that ascend rise
 pub keys_rise : (key : ℕ) (xs : List Entry) → IsAscending xs → IsLessEqualGreater (λ k. nat_cmp k key) (map (λ e. e.key) xs)

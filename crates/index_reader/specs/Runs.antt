@@ -35,7 +35,8 @@ count_line keys = count_text (min (length keys) (2 ^ 64 - 1))
 
 -- The answers are written to the queries that are kept of the lines of the one file, by the entries that are kept of those of the other;
 -- each other line is complained of, first those of the index, and `is_whole` says whether there is none.
-pub record Answers (index_name entries queries_name queries : List ℕ) (is_whole : Bool) (before after said_before said_after : Option (List ℕ)) : Type 0
+pub record Answers (index_name entries queries_name queries : List ℕ) (is_whole : Bool)
+    (before after said_before said_after : Option (List ℕ)) : Type 0
   where
     pub index : List Entry
     pub keys : List ℕ

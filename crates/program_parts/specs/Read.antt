@@ -4,9 +4,10 @@ use Rattle.program_parts.specs.Complaints.{LeftOut, none_left_out, Complains}
 use Rattle.program_parts.specs.Kept.{AreKept}
 use Rattle.program_parts.specs.Lines.{AreLines}
 
--- these are kept of the lines of the bytes, which a file of this name has; each other line is complained of, and `is_whole` says whether there is none
+-- these are kept of the lines of a file of this name; each other line is complained of, and `is_whole` says whether there is none
 pub record AreRead {A P : Type 0} (Says : List A → List ℕ → A → Type 0) (IsWrong : List A → List ℕ → P → Type 0)
-    (name : List ℕ) (words : P → Option (List ℕ)) (bytes : List ℕ) (kept : List A) (is_whole : Bool) (said_before said_after : Option (List ℕ)) : Type 0
+    (name : List ℕ) (words : P → Option (List ℕ)) (bytes : List ℕ) (kept : List A) (is_whole : Bool)
+    (said_before said_after : Option (List ℕ)) : Type 0
   where
     pub lines : List (List ℕ)
     pub are_lines : AreLines bytes lines

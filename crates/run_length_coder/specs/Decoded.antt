@@ -15,8 +15,8 @@ SaysRun before line run = Says line run.count run.byte
 abbrev pub IsNoRun : List Run → List ℕ → RunError → Type 0
 IsNoRun before line error = IsWrong line error
 
--- The bytes of the runs that the lines of a file of this name say are written; each other line is complained of, and `are_runs` says whether
--- there is none.
+-- The bytes of the runs that the lines of a file of this name say are written; each other line is complained of, and `are_runs` says
+-- whether there is none.
 pub record Decodes (name bytes : List ℕ) (are_runs : Bool) (before after said_before said_after : Option (List ℕ)) : Type 0 where
   pub runs : List Run
   pub reads : AreRead SaysRun IsNoRun name words bytes runs are_runs said_before said_after

@@ -1,5 +1,6 @@
 -- The bytes of a text have the tokens of its characters.
-use Rattle.std.proofs.Common.{◌≡◌, ℕ, suc, ◌+◌, ◌<◌, ◌≤◌, List, [], ◌∷◌, ◌++◌, length, get_or, Bool, true, false, cond, refl, ap, sym, subst, ◌∙◌, append-nil, arith, Option, None, Some, ⊎_elim}
+use Rattle.std.proofs.Common.{◌≡◌, ℕ, suc, ◌+◌, ◌<◌, ◌≤◌, List, [], ◌∷◌, ◌++◌, length, get_or, Bool, true, false, cond}
+use Rattle.std.proofs.Common.{refl, ap, sym, subst, ◌∙◌, append-nil, arith, Option, None, Some, ⊎_elim}
 use Rattle.std.proofs.lemmas.Bool.{cases_lt}
 use Rattle.std.proofs.lemmas.Bool.Decides.{nat_tests}
 use Rattle.std.proofs.lemmas.Str.{encode_ascii, inside_one, length-encode, len_utf8_bounds, encodes-chars}
@@ -28,7 +29,9 @@ all_high (x ∷ xs) h = (high_is_other x (h 0 (omega arith)), all_high xs (λ k 
 
 -- the bytes of a character beyond ASCII are of the class `Other`, as the character is
 bytes_high : (c : ℕ) → 128 ≤ c → (k : ℕ) → k < length (encode c) → 128 ≤ get_or (encode c) k 0
-bytes_high c h k l = ⊎_elim (λ low. absurd (omega (arith, inside_one c [] (encode c) k (sym (append-nil (encode c))) l low))) (λ high. high) (cases_lt (get_or (encode c) k 0) 128)
+bytes_high c h k l =
+    ⊎_elim (λ low. absurd (omega (arith, inside_one c [] (encode c) k (sym (append-nil (encode c))) l low))) (λ high. high)
+    (cases_lt (get_or (encode c) k 0) 128)
 
 encode_class : (c : ℕ) → IsOfClass (ascii_class c) (encode c)
 encode_class c =
@@ -59,13 +62,15 @@ class_after_one before c x [] h = ap Some h.0
 class_after_one before c x (y ∷ ys) h = class_after_one (Some (ascii_class x)) c y ys h.1
 
 -- how many of one group are of the class, after a byte of another or of none
-count_one : (k : AsciiClass) (g : List ℕ) → count_by (λ g. is_class (class_of_group g) k) (g ∷ []) ≡ cond (is_class (class_of_group g) k) 1 0
+count_one : (k : AsciiClass) (g : List ℕ) → count_by (λ g. is_class (class_of_group g) k) (g ∷ [])
+    ≡ cond (is_class (class_of_group g) k) 1 0
 count_one k g =
     let one = sum_by-cons (λ (t : List ℕ). cond (is_class (class_of_group t) k) 1 0) g [] in
     one ∙ omega arith
 
 counts_by_class : (k : AsciiClass) (before : Option AsciiClass) (g h : List ℕ) → class_of_group g ≡ class_of_group h
-    → count_by (λ g. is_class (class_of_group g) k) (begun before (g ∷ [])) ≡ count_by (λ g. is_class (class_of_group g) k) (begun before (h ∷ []))
+    → count_by (λ g. is_class (class_of_group g) k) (begun before (g ∷ []))
+    ≡ count_by (λ g. is_class (class_of_group g) k) (begun before (h ∷ []))
 counts_by_class k None g h e = count_one k g ∙ ap (λ d. cond (is_class d k) 1 0) e ∙ sym (count_one k h)
 counts_by_class k (Some p) g h e = by (is_class p (class_of_group h)) refl
   where

@@ -39,7 +39,8 @@ loop-preserved g c =
           rw (w.sums-is, w.complaints-is, w.is_whole-is) (
             rows,
             same,
-            one_left SaysRow IsNoRow _ words _ _ _ _ _ _ _ rows whole line lines some found.line found.rest counts _ w.in-Err.problem.0 wrong
+            one_left SaysRow IsNoRow _ words _ _ _ _ _ _ _ rows whole line lines some found.line found.rest counts _
+                w.in-Err.problem.0 wrong
                 w.in_ok-complain-in-Err.ensures,
           )
     ]

@@ -26,7 +26,8 @@ module _ (c : goal.After-result-1) where
   range =
       let computes = c.always_computes.ensures c.keys.result.now (λ k. nat_cmp k c.args.key) _
       (answers_by _ _ (λ f. f.1 ≡ c.args.key) (λ f a r f' k i. search (rules, i)) _ (search rules)) in
-      let found = rw c.keys.ensures.keys at (c.exponential_equal_places_by_ref-found.ensures.range (λ k. nat_cmp k c.args.key) computes rises) in
+      let of_keys = c.exponential_equal_places_by_ref-found.ensures.range (λ k. nat_cmp k c.args.key) computes rises in
+      let found = rw c.keys.ensures.keys at of_keys in
       entries_range c.args.key c.args.index.now start end c.exponential_equal_places_by_ref-found.ensures.order found.0 found.1
 
   lower_before : start ≡ length (lower c.args.key c.args.index.now)
@@ -57,10 +58,12 @@ returns-clause-comparisons c =
     let asks = c.exponential_equal_places_by_ref-found.ensures.questions in
     let k = c.range_calls_count.ensures.range (λ f. f.0.now) (λ f. f.0.ghost_name) 1 (λ f h x a called. search rules) _ _ _ _ _ _ asks.0 in
     let passed = asks.1 ∙ lower_before c in
-    let as_many = (λ i. length (slice_range (c.keys.ensures.keys i) (start c) (end c))) ∙ ap length (range_map (λ e. e.key) c.args.index.now (start c) (end c))
+    let as_many = (λ i. length (slice_range (c.keys.ensures.keys i) (start c) (end c)))
+    ∙ ap length (range_map (λ e. e.key) c.args.index.now (start c) (end c))
     ∙ length-map found (λ e. e.key) ∙ sym (length-map found (λ e. e.place)) ∙ sym (ap length (places c)) in
     let most = subst (λ n. c.exponential_equal_places_by_ref-found.new.f.0.now ≤ 2 * digits (n + 1)
     + 2 * digits (length (take (end c - start c) (drop (start c) c.places.result.now)) + 1) + 2) passed
-    (subst (λ n. c.exponential_equal_places_by_ref-found.new.f.0.now ≤ 2 * digits (length asks.0.before + 1) + 2 * digits (n + 1) + 2) as_many
+    (subst (λ n. c.exponential_equal_places_by_ref-found.new.f.0.now ≤ 2 * digits (length asks.0.before + 1)
+    + 2 * digits (n + 1) + 2) as_many
     (omega (arith, k.1))) in
     search (rules, k.0, most)

@@ -8,7 +8,8 @@ use Rattle.program_parts.proofs.lines.complain.Goals as goal
 
 -- the text is known where that of the problem is
 known : (name : List ℕ) (o old new : Option (List ℕ)) (n : ℕ)
-    → IfSome (Some name ++? (Some (codes ": line ") ++? (Some (decimal n) ++? (Some (codes " is left out: ") ++? (o ++? Some (10 ∷ [])))))) (Appends old new)
+    → IfSome (Some name ++? (Some (codes ": line ") ++? (Some (decimal n) ++? (Some (codes " is left out: ") ++? (o ++? Some (10 ∷ []))))))
+    (Appends old new)
     → IfSome o (λ why. Appends old new (complaint name n why))
 known name None old new n h = tt
 known name (Some why) old new n h = h

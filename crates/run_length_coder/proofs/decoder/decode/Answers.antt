@@ -19,7 +19,8 @@ pub returns-then-not-branch-clause-any : goal.returns-then-not-branch-clause-any
 returns-then-not-branch-clause-any g c =
     let ((runs, writes, s), again) = c.loop.invariant in
     let end = none_found _ c.in_ok-advance.field-0 c.in_ok-advance.ensures.found c.if-not-branch.true in
-    rw c.new-lines.ensures.reader at (decodes _ _ _ _ _ _ runs c.loop.are_runs writes (are_read SaysRun IsNoRun _ words _ _ _ _ _ runs c.loop.are_runs s end))
+    let read = are_read SaysRun IsNoRun _ words _ _ _ _ _ runs c.loop.are_runs s end in
+    rw c.new-lines.ensures.reader at (decodes _ _ _ _ _ _ runs c.loop.are_runs writes read)
 
 pub returns-then-not-branch-clause-again : goal.returns-then-not-branch-clause-again
 returns-then-not-branch-clause-again g c bytes small few known =

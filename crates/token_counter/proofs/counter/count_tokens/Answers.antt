@@ -22,7 +22,8 @@ loop-preserved g c =
       _,
       Consumes-trans _ _ _ text _ read c.in_ok-len.ensures.bytes.0,
       (λ k. c.in_ok-counts.ensures k ∙ (λ i. counts k i + c.count_classes.ensures k i)
-          ∙ (λ i. token_count k text + class_count k (last i) (take c.in_ok-len.len (same i))) ∙ sym (c.class_counts_add_up.ensures k None text bytes)),
+          ∙ (λ i. token_count k text + class_count k (last i) (take c.in_ok-len.len (same i)))
+          ∙ sym (c.class_counts_add_up.ensures k None text bytes)),
       c.class_after-last.ensures ∙ (λ i. class_after (last i) (take c.in_ok-len.len (same i))) ∙ sym (class_after-append None text bytes),
       room,
     )

@@ -34,7 +34,8 @@ module _ (g : Over) (c : goal.After-flush g) where
 pub returns-clause-bytes : goal.returns-clause-bytes
 returns-clause-bytes g c =
     on_ok c.flush.result
-    (where_known _ (λ text. (k : AsciiClass) → count_of k c.in_ok-counts.counts ≡ token_count k text) _ (λ text t. printed g c text t) c.in_ok-counts.ensures)
+    (where_known _ (λ text. (k : AsciiClass) → count_of k c.in_ok-counts.counts ≡ token_count k text) _ (λ text t. printed g c text t)
+    c.in_ok-counts.ensures)
 
 pub returns-clause-characters : goal.returns-clause-characters
 returns-clause-characters g c =

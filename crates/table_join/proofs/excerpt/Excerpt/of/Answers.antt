@@ -7,7 +7,9 @@ use Rattle.table_join.proofs.excerpt.Excerpt.of.Goals as goal
 -- a text goes on where some of it is left
 goes_on : (rest : List ℕ) (is_empty : Bool) → is_empty ≡ (length rest == 0) → (not is_empty ≡ true) ↔ (rest ≢ [])
 goes_on [] is_empty h = ((λ t. cc), (λ some. absurd (some refl)))
-goes_on (x ∷ rest) is_empty h = ((λ t none. cc), (λ some. let some : (length (x ∷ rest) == 0) ≡ false = grind (arith, nat_tests) in rw (h, some) refl))
+goes_on (x ∷ rest) is_empty h =
+    let some : (length (x ∷ rest) == 0) ≡ false = grind (arith, nat_tests) in
+    ((λ t none. cc), (λ left. rw (h, some) refl))
 
 pub returns : goal.returns
 returns c =
