@@ -5,6 +5,7 @@ pub mod Halving
 pub mod Galloping
 pub mod SearchRuns
 pub mod Partitions
+pub mod RangePlaces
 pub mod SearchQueue
 pub mod PartitionPoint
 pub mod Ascending

@@ -15,6 +15,9 @@ pub fn of_lists<T, U>() {
     first_group_agrees::<T>();
     parts_are_grouped::<T>();
     range_parts::<T>();
+    range_places::<T>();
+    searchable_is_partitioned::<T>();
+    pairs_are_elements::<T>();
     equal_pieces_are_copies::<T>();
     pieces_add_up::<T>();
     folds_add_up::<T>();
@@ -36,6 +39,8 @@ pub fn of_keys<T, U, E: PartialEq, K: Ord>() {
     sorts_ascend::<T, K>();
     sorted_by_key_ascends::<T, K>();
     pieces_by_key::<T, K>();
+    pieces_are_filters::<T, K>();
+    merges_interleave::<K>();
     pairs_match::<T, U, K>();
     partners_are_unique::<T, U, K>();
     pairs_ascend::<T, U, K>();
@@ -66,6 +71,7 @@ pub fn of_functions<T, F: FnMut(&T) -> K, K, G: Fn(&T) -> K>(f: &F, g: &G) {
     range_starts(f);
     range_calls_count(f);
     callable_now(g);
+    callable_unchanged(f);
 }
 
 pub fn of_searches<T, W: FnMut(&T) -> Ordering, F: FnMut(&T) -> K, K: Ord>(by: &W, key: &F) {
@@ -143,6 +149,7 @@ pub fn of_merges<A, B, K: Ord, F: FnMut(&A, &B) -> Ordering, G: FnMut(&K, &K) ->
 ) {
     always_compares(compare);
     sees_merge(join);
+    join_counts(join);
     sees_merge_by_keys::<A, B, K, F>(join);
     merge_parts_join(join);
     merges_may_go_on(join);

@@ -13,7 +13,7 @@ use Rattle.sgb_search.proofs.Lists.AllByRecursion.{all_of_first, all_of_rest}
 use Rattle.sgb_search.proofs.Lists.Pairs.{neighbours-append}
 use Rattle.sgb_search.proofs.Splits.Grouped.{AgreesIn, grouped_of_parts}
 
-not_greater : (r : Ordering) → r ≢ Greater → is_gt r ≡ false
+pub not_greater : (r : Ordering) → r ≢ Greater → is_gt r ≡ false
 not_greater Less h = refl
 not_greater Equal h = refl
 not_greater Greater h = absurd (h refl)

@@ -1,9 +1,11 @@
 -- What the pieces of a list share with the list, and with each other.
-use Rattle.std.specs.Prelude.{◌≡◌, ℕ, ◌+◌, Bool, true, false, cond, List, [], ◌∷◌, length, get_or, map, replicate, sum_by, Some}
-use Rattle.std.proofs.Common.{refl, sym, ap, ◌∙◌, subst, length-append}
+use Rattle.std.specs.Prelude.{◌≡◌, ℕ, ◌+◌, ◌⊎◌, Bool, true, false, cond, List, [], ◌∷◌, ◌++◌, length, get_or, map, replicate, sum_by, Some}
+use Rattle.std.proofs.Common.{refl, sym, ap, ◌∙◌, subst, length-append, arith, inl, inr}
+use Rattle.std.proofs.lemmas.List.{append-nil}
+use Rattle.std.proofs.lemmas.List.Elements.{filter-append}
 use Rattle.std.proofs.lemmas.List.{length-map}
 use Rattle.std.proofs.lemmas.List.Sums.{sum_by-cons, sum_by-append}
-use Rattle.std.specs.List.{AllByRecursion, Contains, dedup, dedup_from}
+use Rattle.std.specs.List.{AllByRecursion, Contains, dedup, dedup_from, filter}
 use Rattle.std.specs.List.Sorted.{IsStrictlySortedBy}
 use Rattle.std.specs.Cmp.{IsTotalOrder, IsPartialEquivalence, per_alike, tied_itself}
 use Rattle.std.specs.Ordering.{is_eq}
@@ -11,8 +13,10 @@ use Rattle.std.specs.declared.cmp.Ordering.{Ordering}
 use Rattle.std.specs.declared.cmp.Ordering.TheVariants.{Less, Equal}
 use Rattle.sgb_search.specs.Search.{NeverDescends}
 use Rattle.sgb_search.specs.Split.{IsAccepted, concat, first, without_first, put_before, split}
-use Rattle.sgb_search.proofs.Lists.AllByRecursion.{all_contains}
-use Rattle.sgb_search.proofs.Lists.Order.{equal_if_tied}
+use Rattle.sgb_search.proofs.Lists.AllByRecursion.{all_contains, all_each}
+use Rattle.sgb_search.proofs.Lists.Contained.{contains_cases}
+use Rattle.sgb_search.proofs.Lists.Filters.{keeps_all, keeps_none}
+use Rattle.sgb_search.proofs.Lists.Order.{equal_if_tied, turned_around}
 use Rattle.sgb_search.proofs.Splits.Split.{split_is}
 use Rattle.slice_group_by.proofs.Joins.FirstGroups.{IsAbove, Ascends, split_ascends}
 use Rattle.slice_group_by.proofs.Joins.JoinPairs.{EachLater, IsUniform, compared_alike, split_uniform}
@@ -174,6 +178,35 @@ module _ {K : Type 0} (cmp : K → K → Ordering) (o : IsTotalOrder cmp) (eq : 
 
   pub pieces_climb : (xs : List T) → NeverDescends cmp (map key xs) → EachLater KeysBelow (split same xs)
   pieces_climb xs h = climb (split same xs) (split_uniform cmp o eq ties key xs) (split_ascends cmp key o eq ties xs h)
+
+  -- a filter by the key of an element of one piece keeps that piece: those before it have lesser keys, and those after it greater ones
+  kept : (gs : List (List T)) → AllByRecursion (IsUniform cmp o eq ties key) gs → EachLater KeysBelow gs → (g : List T) (x : T)
+      → Contains gs g → Contains g x → filter (λ y. same y x) (concat gs) ≡ g
+  kept [] u l g x c d = absurd (omega (arith, c.1))
+  kept (h ∷ hs) u l g x c d = filter-append (λ y. same y x) h (concat hs) ∙ by (contains_cases h hs g c) (λ later. kept hs u.1 l.1 g x later d)
+    where
+      none : (ks : List (List T)) → AllByRecursion (λ k. (y : T) → Contains k y → same y x ≡ false) ks
+          → filter (λ y. same y x) (concat ks) ≡ []
+      none [] a = refl
+      none (k ∷ ks) a = filter-append (λ y. same y x) k (concat ks) ∙ (λ i. keeps_none _ k a.0 i ++ none ks a.1 i)
+
+      by : (h ≡ g) ⊎ Contains hs g → (Contains hs g → filter (λ y. same y x) (concat hs) ≡ g)
+          → filter (λ y. same y x) h ++ filter (λ y. same y x) (concat hs) ≡ g
+      by (inl e) rest =
+          let at : Contains h x = subst (λ k. Contains k x) (sym e) d in
+          let greater : AllByRecursion (λ k. (y : T) → Contains k y → same y x ≡ false) hs =
+          all_each _ _ (λ k b y c. ties (key y) (key x) ∙ ap is_eq (turned_around cmp o (key x) (key y) Less (b x y at c))) hs l.0 in
+          (λ i. keeps_all _ h (λ y c. alike h u.0 y x c at) i ++ none hs greater i) ∙ append-nil h ∙ e
+      by (inr later) rest =
+          let lesser : (y : T) → Contains h y → same y x ≡ false =
+          λ y c. ties (key y) (key x) ∙ ap is_eq (all_contains (KeysBelow h) hs g l.0 later y x c d) in
+          λ i. keeps_none _ h lesser i ++ rest later i
+
+  pub piece_filter : (xs g : List T) (x : T) → NeverDescends cmp (map key xs) → Contains (split same xs) g → Contains g x
+      → g ≡ filter (λ y. same y x) xs
+  piece_filter xs g x h c d =
+      sym (kept (split same xs) (split_uniform cmp o eq ties key xs) (pieces_climb xs h) g x c d)
+      ∙ ap (filter (λ y. same y x)) (split_is same xs).covers
 
   -- the keys of the first elements ascend as the pieces do
   heads_above : (k : K) (gs : List (List T)) (ys : List T) → map first gs ≡ map Some ys → AllByRecursion (IsAbove cmp key k) gs

@@ -6,6 +6,10 @@ use Rattle.std.specs.Iterator.Adapters.{rev_source, rev_steps}
 use Rattle.std.specs.declared.iter.Rev.{Rev}
 use Rattle.std.proofs.lemmas.List.{append-nil, reverse-append}
 use Rattle.sgb_search.specs.Split.{from, put_at, TakesPart, item_at, without, last, without_last, concat, split, TakesPiece}
+use Rattle.std.specs.List.{Contains}
+use Rattle.std.proofs.lemmas.List.Elements.{Contains-append_right}
+use Rattle.sgb_search.proofs.Lists.AllByRecursion.{all_contains, all_reverse, all_when}
+use Rattle.sgb_search.proofs.Lists.Contained.{contains_head}
 use Rattle.sgb_search.proofs.Splits.Split.{last_push, without_last_push}
 use Rattle.sgb_search.specs.declared.end.End.{End}
 use Rattle.sgb_search.specs.declared.end.End.TheVariants.{Front, Back}
@@ -32,6 +36,11 @@ from_taken Back x (y ∷ []) h = cc h
 from_taken Back x (y ∷ z ∷ zs) h =
     reverse-append (y ∷ []) (z ∷ zs) ∙ ap (λ l. l ++ y ∷ []) (from_taken Back x (z ∷ zs) h)
     ∙ ap (λ l. x ∷ l) (sym (reverse-append (y ∷ []) (without_last (z ∷ zs))))
+
+contains_from : {X : Type 0} (e : End) (xs : List X) (x : X) → Contains (from e xs) x → Contains xs x
+contains_from Front xs x c = c
+contains_from Back xs x c =
+    all_contains (Contains xs) (reverse xs) x (all_reverse (Contains xs) xs (all_when (Contains xs) xs (λ y d. d))) c
 
 pub none_some : {X : Type 0} {x : X} → Some x ≡ None → ⊥
 none_some e = cc e
@@ -67,6 +76,15 @@ module _ {Q I A : Type 0} (gives : End → Q → Option I → Q → Type 0) (rem
       let k = taken e q (Some x) y.0 y.1 h in
       let later = yields_settled e y.0 t xs (piece e q (Some x) y.0 p y.1 h).1 y.2 in
       (later.0, from_taken e (shows x) (split p (remainder q)) (sym k.0) ∙ ap (λ l. shows x ∷ l) (ap (from e) (sym k.1) ∙ later.1))
+
+  -- the group that comes after them is a piece
+  pub turn_piece : (e : End) (q s t : Q) (xs : List I) (x : I) → settled q p → Yields (gives e) q xs s → gives e s (Some x) t
+      → Contains (split p (remainder q)) (shows x)
+  turn_piece e q s t xs x h y g =
+      let so_far = yields_settled e q s xs h y in
+      let next = from_taken e (shows x) (split p (remainder s)) (sym (taken e s (Some x) t g so_far.0).0) in
+      contains_from e (split p (remainder q)) (shows x)
+      (rw (so_far.1, next) (Contains-append_right (map shows xs) (shows x ∷ _) (shows x) (contains_head (shows x) _)))
 
   none_left : (e : End) (ps : List (List A)) → None ≡ item_at e ps → ps ≡ []
   none_left Front [] h = refl

@@ -11,7 +11,7 @@ ghost use Rattle.std.specs.declared.iter.Rev.{Rev};
 ghost use Rattle.std.proofs.lemmas.Iterator.{YieldsList};
 ghost use Rattle.std.specs.Str.{chars, IsUtf8};
 ghost use Rattle.std.proofs.Math.Utf8.{encodes};
-ghost use Rattle.std.specs.List.{AllByRecursion};
+ghost use Rattle.std.specs.List.{AllByRecursion, Contains};
 ghost use Rattle.sgb_search.specs.Split.{from, put_at, first, last, without, concat, IsAccepted, split};
 ghost use Rattle.sgb_search.specs.Judges.{IsRunOf, AsksWithin};
 ghost use Rattle.sgb_search.specs.declared.end.End.{End};
@@ -42,20 +42,22 @@ pub use crate::join::{
 pub use crate::keyed::sees_keys;
 pub use crate::offsets::groups_stand;
 pub use counts::{
-    calls_ask, comparisons_count, key_calls_count, linear_counts, mapped_calls_ask,
+    calls_ask, comparisons_count, join_counts, key_calls_count, linear_counts, mapped_calls_ask,
     questions_count, range_calls_count, search_asks,
 };
 pub use families::{chunk_by_agrees, families_agree, groups_end_locally};
 pub use judged::{Judged, Lends, OfText};
-pub use pieces::{equal_pieces_are_copies, pieces_add_up, pieces_begin_as_dedup, pieces_by_key};
+pub use pieces::{
+    equal_pieces_are_copies, pieces_add_up, pieces_are_filters, pieces_begin_as_dedup, pieces_by_key,
+};
 pub use plans::{Plan, refute};
 use queue::GroupQueue;
 pub use ranks::rank_groups;
 use sgb_linear_group::linear_group::Linear;
 pub use sgb_merge_join::laws::{
     always_compares, joins_find_partners, merge_is_unique, merge_parts_join, merges_ask,
-    merges_count, merges_exist, merges_may_go_on, parts_or_empty, sees_merge, sees_merge_by_keys,
-    sees_merge_in_order, semi_joins_are_filters, unions_ascend,
+    merges_count, merges_exist, merges_interleave, merges_may_go_on, parts_or_empty, sees_merge,
+    sees_merge_by_keys, sees_merge_in_order, semi_joins_are_filters, unions_ascend,
 };
 pub use sgb_number_group::class_counts::class_counts_add_up;
 use sgb_search::judge::Judge;
@@ -63,10 +65,11 @@ pub use sgb_search::laws::{
     always_callable, always_callable_apart, always_callable_char_key, always_callable_chars,
     always_callable_key, always_callable_key_apart, always_callable_on_elements, always_computes,
     ascending_is_grouped, ascending_is_searchable, callable_now, callable_on_elements,
-    callable_on_pairs, computes_on_char_pairs, computes_on_chars, computes_on_elements,
-    computes_on_pairs, descending_is_grouped, digits_is_least, equality_judges, first_group_agrees,
-    one_split, parts_are_grouped, question_count, range_parts, range_starts, searches_call,
-    splits_join,
+    callable_on_pairs, callable_unchanged, callable_unchanged_on_pairs, computes_on_char_pairs,
+    computes_on_chars, computes_on_elements, computes_on_pairs, descending_is_grouped,
+    digits_is_least, equality_judges, first_group_agrees, one_split, pairs_are_elements,
+    parts_are_grouped, question_count, range_parts, range_places, range_starts,
+    searchable_is_partitioned, searches_call, splits_join,
 };
 pub use sorted::{is_sorted_for_groups, sorted_by_key_ascends, sorts_ascend};
 pub use streams::{folds_add_up, streams_give};
@@ -122,7 +125,8 @@ pub fn chains_answer<Q: GroupQueue>(_queue: &Q)
 /// standard library that take it stand in `Rattle.std.proofs.lemmas.Iterator.Consumers`, as `count_from_yields_List`.
 ///
 /// `part` and `whole` say it of the groups that calls at one end gave, some of them or all, as a loop keeps them; `more` adds a
-/// call to such calls, whatever the judge answers; and `settled` says that the queue is settled after them.
+/// call to such calls, whatever the judge answers; `settled` says that the queue is settled after them, and `turn` that the group
+/// that comes is one of the pieces.
 pub fn sees_pieces<Q: GroupQueue>(_queue: &Q)
     ensures pieces { (p : Q.Element → Q.Element → Bool) (e : End) (q : Q) → Q.is_settled q p
         → YieldsList (Q.gives e) Q.shows q (from e (split p (Q.remainder q))) }
@@ -139,6 +143,9 @@ pub fn sees_pieces<Q: GroupQueue>(_queue: &Q)
         → Q.gives e s (Some group) t → Yields (Q.gives e) q (groups ++ group ∷ []) t }
     ensures settled { (p : Q.Element → Q.Element → Bool) (e : End) (q t : Q) (groups : List Q.Item) → Q.is_settled q p
         → Yields (Q.gives e) q groups t → Q.is_settled t p }
+    ensures turn { (p : Q.Element → Q.Element → Bool) (e : End) (q s t : Q) (groups : List Q.Item) (group : Q.Item)
+        → Q.is_settled q p → Yields (Q.gives e) q groups s → Q.gives e s (Some group) t
+        → Contains (split p (Q.remainder q)) (Q.shows group) }
 {}
 
 /// The groups that calls at one end give, joined in their order, are what goes off that end, whatever the judge answers: all of

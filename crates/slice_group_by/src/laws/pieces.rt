@@ -1,6 +1,6 @@
 //! Laws of the pieces of a list.
 ghost use Rattle.std.specs.Prelude.{◌≡◌, ℕ, ◌<◌, Bool, true, List, length, get_or, map, replicate, sum_by, Some, slice_get};
-ghost use Rattle.std.specs.List.{AllByRecursion, Contains, dedup};
+ghost use Rattle.std.specs.List.{AllByRecursion, Contains, dedup, filter};
 ghost use Rattle.std.specs.List.Sorted.{IsStrictlySortedBy};
 ghost use Rattle.std.specs.declared.cmp.Ordering.TheVariants.{Less};
 ghost use Rattle.sgb_search.specs.Search.{NeverDescends};
@@ -18,6 +18,12 @@ pub fn pieces_by_key<T, K: Ord>()
         → K.cmp (key x) (key y) ≡ Less }
     ensures firsts { (key : T → K) (xs : List T) → NeverDescends K.cmp (map key xs)
         → IsStrictlySortedBy K.cmp (map key (dedup (λ a b. K.eq (key a) (key b)) xs)) }
+{}
+
+/// In a list that ascends by a key, a piece has all elements of its key: it is what a filter by the key of any element of it keeps.
+pub fn pieces_are_filters<T, K: Ord>()
+    ensures { (key : T → K) (xs g : List T) (x : T) → NeverDescends K.cmp (map key xs)
+        → Contains (split (λ a b. K.eq (key a) (key b)) xs) g → Contains g x → g ≡ filter (λ y. K.eq (key y) (key x)) xs }
 {}
 
 /// A piece by a test that accepts equal elements alone is its first element, so many times.

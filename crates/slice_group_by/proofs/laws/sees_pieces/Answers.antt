@@ -3,7 +3,7 @@ use Rattle.std.proofs.lemmas.List.{length-map, reverse-reverse}
 use Rattle.std.specs.Iterator.Adapters.{rev_source}
 use Rattle.sgb_search.specs.declared.end.End.TheVariants.{Back}
 use Rattle.sgb_search.proofs.Lists.Ends.{from-from, length-from}
-use Rattle.slice_group_by.proofs.Queues.Yields.{yields_pieces, yields_settled, drains_settled, yields_more, rev_always}
+use Rattle.slice_group_by.proofs.Queues.Yields.{yields_pieces, yields_settled, turn_piece, drains_settled, yields_more, rev_always}
 use Rattle.slice_group_by.proofs.laws.sees_pieces.Goals as goal
 
 pub returns-clause-pieces : goal.returns-clause-pieces
@@ -30,3 +30,6 @@ returns-clause-more g c e = yields_more (g.Q.GroupQueue.gives e)
 
 pub returns-clause-settled : goal.returns-clause-settled
 returns-clause-settled g c p e q t groups h y = (yields_settled _ _ _ _ p g.met.Q.GroupQueue.piece e q t groups h y).0
+
+pub returns-clause-turn : goal.returns-clause-turn
+returns-clause-turn g c p e q s t groups group = turn_piece _ _ _ _ p g.met.Q.GroupQueue.piece e q s t groups group
