@@ -5,10 +5,11 @@ ghost use Rattle.slice_group_by.specs.Searching.{digits};
 ghost use Rattle.slice_group_by.specs.Split.{IsGrouped, split};
 
 use slice_group_by::laws::{
-    calls_ask, linear_counts, mapped_calls_ask, questions_count, search_asks,
+    calls_ask, join_counts, linear_counts, mapped_calls_ask, merges_ask, questions_count,
+    search_asks,
 };
 use slice_group_by::{
-    BinaryGroupBy, End, ExponentialGroupBy, LinearGroupBy, LinearGroupByKey, walk,
+    BinaryGroupBy, End, ExponentialGroupBy, LinearGroupBy, LinearGroupByKey, MergeJoinBy, walk,
 };
 
 /// How many questions a walk over linear groups asks: one less than there are elements, and none where there are none.
@@ -119,4 +120,19 @@ pub fn longest_and_questions(xs: &[u32]) -> (usize, usize)
         longest = longest.max(len);
     }
     (longest, count)
+}
+
+/// How many comparisons a walk over a join makes: at most four for each element of both sides.
+pub fn comparisons_of_join(left: &[u32], right: &[u32]) -> usize
+    ensures { result ≤ 4 * (length left.now + length right.now) }
+{
+    let mut count = 0usize;
+    let join = MergeJoinBy::new(left, right, |x: &u32, y: &u32| {
+        count = count.wrapping_add(1);
+        x.cmp(y)
+    });
+    merges_ask(&join);
+    join_counts(&join);
+    for _ in join {}
+    count
 }

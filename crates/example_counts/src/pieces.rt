@@ -1,8 +1,7 @@
 //! What the pieces of a slice share with the slice: as many as `dedup` leaves, and the same from a descending slice by halving.
-ghost use Rattle.std.specs.Prelude.{◌≡◌, ◌≤◌, ℕ, List, ◌∷◌, None, length, map, nat_eq, IfOk, IfSome, IsSome};
-ghost use Rattle.std.specs.List.{dedup, Contains};
+ghost use Rattle.std.specs.Prelude.{◌≡◌, count_by, length, map, nat_eq, IfOk, IfSome, IsSome};
+ghost use Rattle.std.specs.List.{All, dedup};
 ghost use Rattle.std.specs.List.Sorted.{IsStrictlySortedBy};
-ghost use Rattle.std.specs.declared.cmp.Ordering.TheVariants.{Less};
 ghost use Rattle.std.specs.Ordering.{flip_args, nat_cmp};
 ghost use Rattle.slice_group_by.specs.Search.{NeverDescends};
 ghost use Rattle.slice_group_by.specs.Split.{split};
@@ -11,8 +10,8 @@ ghost use Rattle.example_counts.specs.Keys.{key, same_key};
 
 use crate::joins::{Entry, count_common_keys};
 use slice_group_by::laws::{
-    chunk_by_agrees, descending_is_grouped, pieces_begin_as_dedup, pieces_by_key, sees_pieces,
-    sorted_by_key_ascends,
+    chunk_by_agrees, descending_is_grouped, pieces_are_filters, pieces_begin_as_dedup,
+    pieces_by_key, sees_pieces, sorted_by_key_ascends,
 };
 use slice_group_by::{BinaryGroup, LinearGroup, LinearGroupByKey};
 use std::alloc::{AllocError, Global};
@@ -50,21 +49,20 @@ pub fn count_descending(xs: &[u32]) -> usize
     groups.count()
 }
 
-/// The first two groups of rows by their keys, or `None` of fewer. Where the rows ascend, each key of the first group is less
-/// than each of the second.
-pub fn first_two<'a>(rows: &'a [Entry]) -> Option<(&'a [Entry], &'a [Entry])>
-    ensures none { result ≡ None → length (split same_key rows.now) ≤ 1 }
-    ensures groups { IfSome result (λ groups. (rest : List (List (ℕ × ℕ)))
-        × (split same_key rows.now ≡ groups.0.now ∷ groups.1.now ∷ rest)) }
-    ensures ascend { NeverDescends nat_cmp (map key rows.now) → IfSome result (λ groups. (x y : ℕ × ℕ)
-        → Contains groups.0.now x → Contains groups.1.now y → nat_cmp (key x) (key y) ≡ Less) }
+/// Each key of rows that ascend by it, with how many of all rows have it.
+pub fn rows_by_key(alloc: Global, rows: &[Entry]) -> Result<Vec<(u32, usize)>, AllocError>
+    requires { NeverDescends nat_cmp (map key rows.now) }
+    ensures { IfOk result
+        (λ counts. All (λ e. e.1 ≡ count_by (λ row. nat_eq (key row) e.0) rows.now) counts.items) }
 {
-    pieces_by_key::<Entry, u32>();
-    let mut groups = LinearGroupByKey::new(rows, |e: &Entry| e.0);
+    pieces_are_filters::<Entry, u32>();
+    let groups = LinearGroupByKey::new(rows, |e: &Entry| e.0);
     sees_pieces(&groups);
-    let first = groups.next()?;
-    let second = groups.next()?;
-    Some((first, second))
+    let mut counts = Vec::new(alloc);
+    for group in groups {
+        counts.push((group[0].0, group.len()))?;
+    }
+    Ok(counts)
 }
 
 /// The key of each group of rows that ascend by their keys, in a vector: those of the rows that `dedup` by the keys leaves, each

@@ -1,13 +1,30 @@
-//! Searches that are lent their comparator or key function, which counts its calls in a variable of the caller's.
-ghost use Rattle.std.specs.Prelude.{◌+◌, ◌*◌, ◌≤◌, map};
-ghost use Rattle.std.specs.Ordering.{nat_cmp};
+//! Searches: a lower bound, and searches that are lent a function which counts its calls in a variable of the caller's.
+ghost use Rattle.std.specs.Prelude.{◌≡◌, ◌+◌, ◌*◌, ◌≤◌, count_by, map};
+ghost use Rattle.std.specs.Ordering.{is_lt, nat_cmp};
 ghost use Rattle.slice_group_by.specs.Search.{FindsIn, IsLessEqualGreater, NeverDescends};
 ghost use Rattle.slice_group_by.specs.Searching.{digits, answer_place};
 ghost use Rattle.example_counts.specs.Keys.{key};
 
 use crate::joins::Entry;
-use slice_group_by::laws::{always_computes, comparisons_count, key_calls_count};
-use slice_group_by::{exponential_search_by_key_ref, exponential_search_by_ref};
+use slice_group_by::laws::{
+    always_computes, ascending_is_searchable, comparisons_count, key_calls_count,
+    searchable_is_partitioned,
+};
+use slice_group_by::{
+    exponential_partition_point, exponential_search_by_key_ref, exponential_search_by_ref,
+};
+
+/// How many elements are less than one that is given, of a slice that ascends.
+pub fn lower_bound<T: Ord>(slice: &[T], sought: &T) -> usize
+    requires { NeverDescends T.cmp slice.now }
+    ensures { result ≡ count_by (λ x. is_lt (T.cmp x sought.now)) slice.now }
+{
+    ascending_is_searchable::<T, T>();
+    searchable_is_partitioned::<T>();
+    let less = |x: &T| x.cmp(sought).is_lt();
+    always_computes(&less);
+    exponential_partition_point(slice, less)
+}
 
 /// A search, and how many questions it asked: few, where the place is near the beginning.
 pub fn questions_of_search(xs: &[u32], elem: u32) -> (Result<usize, usize>, usize)

@@ -3,8 +3,8 @@
 
 pub mod alone;
 pub mod kinds;
-pub mod matches;
 pub mod names;
 pub mod parts;
 pub mod sets;
 pub mod visits;
+pub mod whole;
