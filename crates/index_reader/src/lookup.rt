@@ -6,7 +6,7 @@ ghost use Rattle.index_reader.specs.Keys.{at_least, lower, of_key};
 use crate::entry::Entry;
 use crate::index::Index;
 use slice_group_by::exponential_equal_places_by_ref;
-use slice_group_by::laws::{always_computes, range_calls_count, range_parts};
+use slice_group_by::laws::{always_computes, range_calls_count, range_places};
 
 /// The places of the entries of a key, and how many comparisons it took to find them.
 #[derive(Clone, Copy)]
@@ -36,7 +36,8 @@ pub fn places_of(index: &Index, key: u32) -> Found<'_>
         other.cmp(&key)
     };
     always_computes(&compare);
-    range_parts::<Entry>();
+    range_places::<u32>();
+    range_places::<Entry>();
     range_calls_count(&compare);
     let found = exponential_equal_places_by_ref(index.keys(), &mut compare);
     Found {
