@@ -5,8 +5,8 @@ ghost use Rattle.std.specs.List.Sorted.{IsStrictlySortedBy};
 ghost use Rattle.std.specs.Ordering.{flip_args, nat_cmp};
 ghost use Rattle.slice_group_by.specs.Search.{NeverDescends};
 ghost use Rattle.slice_group_by.specs.Split.{split};
-ghost use Rattle.slice_group_by.specs.Keys.{common_keys};
-ghost use Rattle.example_counts.specs.Keys.{key, same_key};
+ghost use Rattle.slice_group_by.specs.JoinKinds.{has_partner};
+ghost use Rattle.example_counts.specs.Keys.{by_key, key, same_key};
 
 use crate::joins::{Entry, count_common_keys};
 use slice_group_by::laws::{
@@ -85,7 +85,7 @@ pub fn keys_once(alloc: Global, rows: &[Entry]) -> Result<Vec<u32>, AllocError>
 
 /// How many keys both slices have, or `None` where one of them does not ascend by its keys.
 pub fn common_keys_if_sorted(left: &[Entry], right: &[Entry]) -> Option<usize>
-    ensures counts { IfSome result (λ count. count ≡ common_keys (map key left.now) (map key right.now)) }
+    ensures counts { IfSome result (λ count. count ≡ count_by (has_partner by_key right.now) (dedup same_key left.now)) }
     ensures sorted { NeverDescends nat_cmp (map key left.now) → NeverDescends nat_cmp (map key right.now)
         → IsSome result }
 {

@@ -3,7 +3,6 @@ pub mod Walk
 pub mod Ranks
 pub mod Plans
 pub mod Join
-pub mod Keys
 pub mod Counts
 pub mod Chunks
 pub mod NumberGives

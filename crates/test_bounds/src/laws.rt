@@ -22,7 +22,6 @@ pub fn of_lists<T, U>() {
     pieces_add_up::<T>();
     folds_add_up::<T>();
     streams_give::<T, T>();
-    pairs_count::<T, U>();
     merge_is_unique::<T, U>();
     semi_joins_are_filters::<T, U>();
     joins_find_partners::<T, U>();
@@ -42,6 +41,7 @@ pub fn of_keys<T, U, E: PartialEq, K: Ord>() {
     pieces_are_filters::<T, K>();
     merges_interleave::<K>();
     pairs_match::<T, U, K>();
+    pairs_count::<T, U, K>();
     partners_are_unique::<T, U, K>();
     pairs_ascend::<T, U, K>();
     merges_agree::<T, U, K>();
