@@ -1,5 +1,6 @@
 //! Searches: a lower bound, and searches that are lent a function which counts its calls in a variable of the caller's.
-ghost use Rattle.std.specs.Prelude.{◌≡◌, ◌+◌, ◌*◌, ◌≤◌, count_by, map};
+ghost use Rattle.std.specs.Prelude.{◌≡◌, ◌+◌, ◌*◌, ◌≤◌, count_by, map, string_bytes, string_cmp};
+ghost use Rattle.std.specs.Cmp.Lexicographic.{slice_cmp};
 ghost use Rattle.std.specs.Ordering.{is_lt, nat_cmp};
 ghost use Rattle.slice_group_by.specs.Search.{FindsIn, IsLessEqualGreater, NeverDescends};
 ghost use Rattle.slice_group_by.specs.Searching.{digits, answer_place};
@@ -8,10 +9,11 @@ ghost use Rattle.example_counts.specs.Keys.{key};
 use crate::joins::Entry;
 use slice_group_by::laws::{
     always_computes, ascending_is_searchable, comparisons_count, key_calls_count,
-    searchable_is_partitioned,
+    searchable_is_partitioned, sorts_ascend,
 };
 use slice_group_by::{
-    exponential_partition_point, exponential_search_by_key_ref, exponential_search_by_ref,
+    exponential_partition_point, exponential_search_by, exponential_search_by_key_ref,
+    exponential_search_by_ref,
 };
 
 /// How many elements are less than one that is given, of a slice that ascends.
@@ -24,6 +26,17 @@ pub fn lower_bound<T: Ord>(slice: &[T], sought: &T) -> usize
     let less = |x: &T| x.cmp(sought).is_lt();
     always_computes(&less);
     exponential_partition_point(slice, less)
+}
+
+/// Where a word stands in words that ascend. The word is a text of its own, and no `String`.
+pub fn place_of_word(words: &[String], word: &str) -> Result<usize, usize>
+    requires { NeverDescends string_cmp words.now }
+    ensures { FindsIn (λ w. slice_cmp nat_cmp (string_bytes w) word.now) words.now result }
+{
+    sorts_ascend::<String, String>();
+    let compare = |w: &String| w.as_str().cmp(word);
+    always_computes(&compare);
+    exponential_search_by(words, compare)
 }
 
 /// A search, and how many questions it asked: few, where the place is near the beginning.

@@ -1,11 +1,14 @@
-//! Groups in loops and through adapters of iterators: `count`, `rev`, `map`, `nth`, a `for`, and how many questions were asked.
-ghost use Rattle.std.specs.Prelude.{◌≡◌, ◌-◌, [], length, map, option_map, fold, max, slice_get};
+//! Groups in loops and through adapters of iterators: `count`, `rev`, `map`, `filter`, `find`, `nth`, a `for`, and how many questions
+//! were asked.
+ghost use Rattle.std.specs.Prelude.{◌≡◌, ◌-◌, [], length, map, option_map, fold, max, nat_lt, slice_get, IfOk};
+ghost use Rattle.std.specs.List.{filter, find};
 ghost use Rattle.slice_group_by.specs.Gives.{groups_of};
 ghost use Rattle.slice_group_by.specs.Queue.{pops, after_pops};
 ghost use Rattle.slice_group_by.specs.Split.{split};
 
 use slice_group_by::laws::{each_pair_asked_once, equality_judges, sees_pieces};
 use slice_group_by::{End, LinearGroup, walk};
+use std::alloc::{AllocError, Global};
 
 /// How many groups there are.
 pub fn count_groups<T: PartialEq>(xs: &[T]) -> usize
@@ -36,6 +39,29 @@ pub fn longest<T: PartialEq>(xs: &[T]) -> usize
         best = best.max(group.len());
     }
     best
+}
+
+/// The first group of more than `len` elements, if there is one.
+pub fn first_longer<T: PartialEq>(xs: &[T], len: usize) -> Option<&[T]>
+    ensures { option_map (λ group. group.now) result ≡ find (λ g. nat_lt len (length g)) (split T.eq xs.now) }
+{
+    let mut groups = LinearGroup::new(xs);
+    sees_pieces(&groups);
+    groups.find(|group| group.len() > len)
+}
+
+/// All groups of more than `len` elements, in a vector.
+pub fn all_longer<'a, T: PartialEq>(
+    alloc: Global,
+    xs: &'a [T],
+    len: usize,
+) -> Result<Vec<&'a [T]>, AllocError>
+    ensures { IfOk result (λ groups. map (λ group. group.now) groups.items
+        ≡ filter (λ g. nat_lt len (length g)) (split T.eq xs.now)) }
+{
+    let groups = LinearGroup::new(xs);
+    sees_pieces(&groups);
+    groups.filter(|group| group.len() > len).collect(alloc)
 }
 
 /// The length of the k-th group, from 0 on.
