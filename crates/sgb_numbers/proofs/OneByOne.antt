@@ -1,21 +1,13 @@
 -- A mask that is made of one test after another.
-use Rattle.std.proofs.Common.{◌≡◌, ℕ, suc, ◌+◌, ◌-◌, ◌*◌, ◌<◌, ◌≤◌, cond, pow_mono, Bool, true, false, List, [], ◌∷◌, ◌++◌, length, map, take, drop, drop-cons, get_or, refl, ap, ◌∙◌, arith}
+use Rattle.std.proofs.Common.{◌≡◌, ℕ, suc, ◌+◌, ◌-◌, ◌*◌, ◌<◌, ◌≤◌, cond, pow_mono, Bool, false, List, [], ◌∷◌, ◌++◌, length, map}
+use Rattle.std.proofs.Common.{take, drop, drop-cons, get_or, ap, ◌∙◌, arith}
 use Rattle.std.specs.Prelude.{reverse}
 use Rattle.std.proofs.lemmas.List.{length-reverse, reverse-append, take_more, take-map, drop-map, get_or-drop, length-drop}
 use Rattle.std.proofs.lemmas.Simd.{length-chunk, mask_l-lt}
 use Rattle.std.specs.Simd.Lanes.{chunk, mask_l}
-use mir.Val.{bool_byte}
 
 pub map-chunk : {X Y : Type 0} (f : X → Y) (at n : ℕ) (xs : List X) → chunk at n (map f xs) ≡ map f (chunk at n xs)
 map-chunk f at n xs = ap (take n) (drop-map f at xs) ∙ take-map f n (drop at xs)
-
-bit_is : (b : Bool) → bool_byte b ≡ cond b 1 0
-bit_is true = refl
-bit_is false = refl
-
-pub bit_few : (b : Bool) → bool_byte b ≤ 1
-bit_few true = omega arith
-bit_few false = omega arith
 
 module _ (bs : List Bool) where
   few : (at n : ℕ) → at + n ≤ length bs → n ≤ 16 → mask_l (chunk at n bs) < 65536
@@ -30,14 +22,15 @@ module _ (bs : List Bool) where
     pub more_fits : m < 65536
     more_fits = omega (arith, mask, few (at + k) (16 - k) (omega (arith, most, room)) (omega arith))
 
-    pub more : (b : Bool) → b ≡ get_or bs (at + (k - 1)) false → 2 * m + bool_byte b ≡ mask_l (chunk (at + (k - 1)) (16 - (k - 1)) bs)
+    pub more : (b : Bool) → b ≡ get_or bs (at + (k - 1)) false
+        → 2 * m + cond b 1 0 ≡ mask_l (chunk (at + (k - 1)) (16 - (k - 1)) bs)
     more b e =
         let p = at + (k - 1) in
         let n : 16 - (k - 1) ≡ suc (16 - k) = omega (arith, some, most) in
         let cons : chunk p (suc (16 - k)) bs ≡ get_or bs p false ∷ chunk (at + k) (16 - k) bs =
         ap (take (suc (16 - k))) (drop-cons bs p false (omega (arith, some, most, room)))
         ∙ ap (λ (i : ℕ). get_or bs p false ∷ chunk i (16 - k) bs) {x = suc p} {y = at + k} (omega (arith, some)) in
-        let bit : bool_byte b ≡ cond (get_or bs p false) 1 0 = bit_is b ∙ ap (λ a. cond a 1 0) e in
+        let bit = ap {B = ℕ} (λ (a : Bool). cond a 1 0) e in
         omega (arith, bit, mask, ap (λ (i : ℕ). mask_l (chunk p i bs)) n, ap mask_l cons)
 
   -- one test more, behind those of a mask that has the last one first
@@ -45,13 +38,15 @@ module _ (bs : List Bool) where
     pub more_back_fits : m < 65536
     more_back_fits =
         let lanes = chunk at k bs in
-        let long : length (reverse lanes) ≤ 16 = omega (arith, length-reverse lanes, length-chunk at k bs (omega (arith, most, room)), most) in
+        let long : length (reverse lanes) ≤ 16 =
+        omega (arith, length-reverse lanes, length-chunk at k bs (omega (arith, most, room)), most) in
         omega (arith, mask, mask_l-lt (reverse lanes), pow_mono {i = length (reverse lanes)} {j = 16} long)
 
-    pub more_back : (b : Bool) → b ≡ get_or bs (at + k) false → 2 * m + bool_byte b ≡ mask_l (reverse (chunk at (k + 1) bs))
+    pub more_back : (b : Bool) → b ≡ get_or bs (at + k) false → 2 * m + cond b 1 0 ≡ mask_l (reverse (chunk at (k + 1) bs))
     more_back b e =
         let cons : chunk at (k + 1) bs ≡ chunk at k bs ++ get_or bs (at + k) false ∷ [] =
         take_more (drop at bs) k false (omega (arith, length-drop at bs, most, room))
         ∙ ap (λ c. chunk at k bs ++ c ∷ []) (get_or-drop at bs k false) in
-        let bit : bool_byte b ≡ cond (get_or bs (at + k) false) 1 0 = bit_is b ∙ ap (λ a. cond a 1 0) e in
-        omega (arith, bit, mask, ap (λ cs. mask_l (reverse cs)) cons ∙ ap mask_l (reverse-append (chunk at k bs) (get_or bs (at + k) false ∷ [])))
+        let bit = ap {B = ℕ} (λ (a : Bool). cond a 1 0) e in
+        let back = ap mask_l (reverse-append (chunk at k bs) (get_or bs (at + k) false ∷ [])) in
+        omega (arith, bit, mask, ap (λ cs. mask_l (reverse cs)) cons ∙ back)

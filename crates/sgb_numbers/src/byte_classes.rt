@@ -1,5 +1,5 @@
 //! Classes of bytes, and the judge of bytes of one class.
-ghost use Rattle.std.specs.Prelude.{◌≡◌, ℕ, ◌+◌, ◌<◌, ◌≤◌, not, refl, length, map, reverse};
+ghost use Rattle.std.specs.Prelude.{◌≡◌, ℕ, ◌+◌, ◌*◌, ◌<◌, ◌≤◌, cond, not, refl, length, map, reverse};
 ghost use Rattle.std.specs.Ordering.{on};
 ghost use Rattle.std.specs.Simd.Lanes.{mask_l, chunk};
 ghost use Rattle.sgb_numbers.specs.Boundaries.{boundaries};
@@ -41,7 +41,7 @@ pub trait ByteClasses {
         let mut k = 16;
         while 0 < k {
             k -= 1;
-            mask = 2 * mask + (Self::class(slice[at + k]) != class) as u64;
+            mask = pushed(mask, Self::class(slice[at + k]) != class);
         }
         mask
     }
@@ -59,7 +59,7 @@ pub trait ByteClasses {
         while 0 < k {
             k -= 1;
             let class = Self::class(slice[at + k]);
-            mask = 2 * mask + (class != next) as u64;
+            mask = pushed(mask, class != next);
             next = class;
         }
         mask
@@ -77,11 +77,20 @@ pub trait ByteClasses {
         while k < 16 {
             k += 1;
             let next = Self::class(slice[at + k]);
-            mask = 2 * mask + (class != next) as u64;
+            mask = pushed(mask, class != next);
             class = next;
         }
         mask
     }
+}
+
+// A mask of sixteen bits at most, with one bit more below its lowest.
+#[inline(always)]
+fn pushed(mask: u64, bit: bool) -> u64
+    requires { mask < 65536 }
+    ensures { result ≡ 2 * mask + cond bit 1 0 }
+{
+    2 * mask + bit as u64
 }
 
 /// Asks whether two bytes are of one class. It may always be asked.

@@ -2,26 +2,16 @@ use Rattle.std.proofs.Common.{◌+◌, ◌≡◌, get_or, not, sym, ap, ap₂, �
 use Rattle.std.specs.Ordering.{on}
 use Rattle.sgb_numbers.specs.Boundaries.{boundaries, differs}
 use Rattle.sgb_numbers.proofs.Pairs.{length-boundaries, differs_or}
-use Rattle.sgb_numbers.proofs.OneByOne.{more_back, more_back_fits, bit_few}
+use Rattle.sgb_numbers.proofs.OneByOne.{more_back, more_back_fits}
 use Rattle.sgb_numbers.proofs.byte_classes.ByteClasses.cuts_back.Goals as goal
 
-pub overflow_mul-mask : goal.overflow_mul-mask
-overflow_mul-mask g c =
+pub pushed-mask-requires : goal.pushed-mask-requires
+pushed-mask-requires g c =
     let same = on g.Self.ByteClasses.class_of g.Self.Class.PartialEq.eq in
     let xs = c.args.slice.now in
     let l = c.loop-k in
-    let few = more_back_fits (boundaries same xs) c.args.at l.k l.mask c.loop-k-test.true
-    (omega (arith, length-boundaries same xs, c.requires)) l.invariant.mask in
-    record { fits = omega (arith, few) }
-
-pub overflow_add-mask : goal.overflow_add-mask
-overflow_add-mask g c =
-    let same = on g.Self.ByteClasses.class_of g.Self.Class.PartialEq.eq in
-    let xs = c.args.slice.now in
-    let l = c.loop-k in
-    let few = more_back_fits (boundaries same xs) c.args.at l.k l.mask c.loop-k-test.true
-    (omega (arith, length-boundaries same xs, c.requires)) l.invariant.mask in
-    record { fits = omega (arith, few, bit_few c.ne.result) }
+    more_back_fits (boundaries same xs) c.args.at l.k l.mask c.loop-k-test.true
+    (omega (arith, length-boundaries same xs, c.requires)) l.invariant.mask
 
 pub loop-k-preserved : goal.loop-k-preserved
 unfolding differs
@@ -37,7 +27,7 @@ loop-k-preserved g c =
     record {
       most = omega (arith, c.loop-k-test.true);
       class = c.class-next.ensures;
-      mask = more_back (boundaries same xs) c.args.at l.k l.mask c.loop-k-test.true
+      mask = c.pushed-mask.ensures ∙ more_back (boundaries same xs) c.args.at l.k l.mask c.loop-k-test.true
           (omega (arith, length-boundaries same xs, c.requires)) l.invariant.mask c.ne.result
           (read ∙ sym (differs_or same xs p 0 (omega (arith, c.loop-k-test.true, c.requires))));
     }

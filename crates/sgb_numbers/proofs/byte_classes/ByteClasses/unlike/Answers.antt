@@ -2,24 +2,15 @@ use Rattle.std.proofs.Common.{ℕ, ◌+◌, ◌-◌, ◌≡◌, get_or, map, fal
 use Rattle.std.specs.Ordering.{on}
 use Rattle.std.specs.Simd.Lanes.{mask_l, chunk}
 use Rattle.std.proofs.lemmas.List.{length-map, get_or-map}
-use Rattle.sgb_numbers.proofs.OneByOne.{more, more_fits, bit_few, map-chunk}
+use Rattle.sgb_numbers.proofs.OneByOne.{more, more_fits, map-chunk}
 use Rattle.sgb_numbers.proofs.byte_classes.ByteClasses.unlike.Goals as goal
 
-pub overflow_mul-mask : goal.overflow_mul-mask
-overflow_mul-mask g c =
+pub pushed-mask-requires : goal.pushed-mask-requires
+pushed-mask-requires g c =
     let test = λ (y : ℕ). not (on g.Self.ByteClasses.class_of g.Self.Class.PartialEq.eq y c.args.byte) in
     let l = c.loop-k in
-    let few = more_fits (map test c.args.slice.now) c.args.at l.k l.mask c.loop-k-test.true l.invariant.most
-    (omega (arith, length-map c.args.slice.now test, c.requires)) l.invariant.mask in
-    record { fits = omega (arith, few) }
-
-pub overflow_add-mask : goal.overflow_add-mask
-overflow_add-mask g c =
-    let test = λ (y : ℕ). not (on g.Self.ByteClasses.class_of g.Self.Class.PartialEq.eq y c.args.byte) in
-    let l = c.loop-k in
-    let few = more_fits (map test c.args.slice.now) c.args.at l.k l.mask c.loop-k-test.true l.invariant.most
-    (omega (arith, length-map c.args.slice.now test, c.requires)) l.invariant.mask in
-    record { fits = omega (arith, few, bit_few c.ne.result) }
+    more_fits (map test c.args.slice.now) c.args.at l.k l.mask c.loop-k-test.true l.invariant.most
+    (omega (arith, length-map c.args.slice.now test, c.requires)) l.invariant.mask
 
 pub loop-k-preserved : goal.loop-k-preserved
 loop-k-preserved g c =
@@ -31,7 +22,7 @@ loop-k-preserved g c =
     c.ne.ensures ∙ ap₂ (λ a b. not (g.Self.Class.PartialEq.eq a b)) c.class.ensures c.class-class.ensures in
     record {
       most = omega (arith, l.invariant.most);
-      mask = more (map test xs) c.args.at l.k l.mask c.loop-k-test.true l.invariant.most
+      mask = c.pushed-mask.ensures ∙ more (map test xs) c.args.at l.k l.mask c.loop-k-test.true l.invariant.most
           (omega (arith, length-map xs test, c.requires)) l.invariant.mask c.ne.result
           (read ∙ sym (get_or-map test xs p 0 false (omega (arith, c.loop-k-test.true, l.invariant.most, c.requires))));
     }
