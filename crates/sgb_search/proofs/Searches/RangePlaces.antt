@@ -1,6 +1,6 @@
 -- Where the elements stand that are Equal, in a list whose answers are Less, then Equal, then Greater.
-use Rattle.std.specs.Prelude.{cond, ◌≡◌, ℕ, ◌+◌, ◌-◌, ◌≤◌, false, List, [], ◌∷◌, ◌++◌, length, slice_range, take, drop}
-use Rattle.std.proofs.Common.{zero, suc, refl, sym, ap, ◌∙◌, subst, length-append, arith}
+use Rattle.std.specs.Prelude.{cond, ◌≡◌, ℕ, ◌+◌, ◌-◌, ◌≤◌, false, List, [], ◌∷◌, ◌++◌, length, slice_range, drop}
+use Rattle.std.proofs.Common.{suc, refl, sym, ap, ◌∙◌, subst, arith}
 use Rattle.std.specs.List.{Contains, count_by, filter}
 use Rattle.std.specs.Ordering.{ordering_index, is_lt, is_le, is_eq, is_gt}
 use Rattle.std.specs.declared.cmp.Ordering.{Ordering}
