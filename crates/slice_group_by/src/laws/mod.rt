@@ -48,7 +48,8 @@ pub use counts::{
 pub use families::{chunk_by_agrees, families_agree, groups_end_locally};
 pub use judged::{Judged, Lends, OfText};
 pub use pieces::{
-    equal_pieces_are_copies, pieces_add_up, pieces_are_filters, pieces_begin_as_dedup, pieces_by_key,
+    equal_pieces_are_copies, pieces_add_up, pieces_are_filters, pieces_begin_as_dedup,
+    pieces_by_key,
 };
 pub use plans::{Plan, refute};
 use queue::GroupQueue;

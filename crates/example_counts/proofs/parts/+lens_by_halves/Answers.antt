@@ -1,5 +1,4 @@
 use Rattle.std.proofs.Common.{nat_eq, refl}
-use Rattle.slice_group_by.specs.Seams.{lens_joined}
 use Rattle.example_counts.proofs.GroupLens.{lens_at}
 use Rattle.example_counts.proofs.parts.+lens_by_halves.Goals as goal
 

@@ -1,7 +1,7 @@
-use Rattle.std.proofs.Common.{suc, ◌≡◌, ◌+◌, ◌-◌, ◌≤◌, ◌++◌, Bool, true, false, List, [], ◌∷◌, ℕ, cond, length, nat_eq, take, drop, refl, sym, ap, ◌∙◌, subst, arith}
+use Rattle.std.proofs.Common.{◌≡◌, ◌+◌, ◌-◌, ◌++◌, Bool, true, false, List, ℕ, cond, length, nat_eq, take, drop, refl, sym, ◌∙◌, subst, arith}
 use Rattle.std.proofs.lemmas.List.{take-append-drop}
 use Rattle.std.specs.List.{slice_get}
-use Rattle.slice_group_by.specs.Split.{split, first, last}
+use Rattle.slice_group_by.specs.Split.{split}
 use Rattle.slice_group_by.specs.Seams.{are_accepted, is_accepted_across}
 use Rattle.example_counts.proofs.GroupLens.{across_slices}
 use Rattle.example_counts.proofs.parts.count_in_parts.Goals as goal

@@ -1,4 +1,4 @@
-use Rattle.std.proofs.Common.{◌≡◌, ◌+◌, List, [], ◌∷◌, ◌++◌, ℕ, append_assoc, sym, ◌∙◌}
+use Rattle.std.proofs.Common.{◌≡◌, ◌+◌, [], ◌∷◌, ◌++◌, append_assoc, sym, ◌∙◌}
 use Rattle.slice_group_by.specs.Seams.{lens_joined}
 use Rattle.example_counts.proofs.GroupLens.{grown_if_ok, joined_apart, joined_push, joined_with_none}
 use Rattle.example_counts.proofs.parts.join_lens.Goals as goal

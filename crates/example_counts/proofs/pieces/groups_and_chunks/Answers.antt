@@ -1,4 +1,4 @@
-use Rattle.std.proofs.Common.{nat_eq, ◌∙◌, sym, rules}
+use Rattle.std.proofs.Common.{nat_eq, rules}
 use Rattle.std.proofs.lemmas.Fn.{always_returns_same}
 use Rattle.std.proofs.lemmas.Iterator.Consumers.{count_from_yields_List}
 use Rattle.std.specs.Slice.Iter.{chunk_by_steps}

@@ -1,5 +1,4 @@
 use Rattle.std.proofs.Common.{◌≡◌, nat_eq, get_or, length, count_by, rules, ap, ◌∙◌}
-use Rattle.std.specs.List.{All}
 use Rattle.std.proofs.lemmas.Fn.{always_returns_same}
 use Rattle.std.proofs.lemmas.List.Elements.{All-push, Contains-get_or}
 use Rattle.std.proofs.lemmas.List.Sums.{length-filter}

@@ -5,11 +5,11 @@ use Rattle.std.proofs.lemmas.List.Sums.{length-filter}
 use Rattle.std.specs.Ordering.{is_lt, is_le, nat_cmp}
 use Rattle.std.specs.Prelude.{count_by, slice_range}
 use Rattle.slice_group_by.specs.Ranges.{IsRangeAt}
-use Rattle.slice_group_by.specs.Search.{ComputesOn, IsLessEqualGreater}
+use Rattle.slice_group_by.specs.Search.{IsLessEqualGreater}
 use Rattle.slice_group_by.specs.Searching.{digits}
 use Rattle.index_reader.proofs.Cuts.{stands, stands_rises, keys_rise, lower_is, of_key_is, at_least_is}
 use Rattle.index_reader.proofs.Pairs.{range_map, count_keys}
-use Rattle.index_reader.specs.Keys.{lower, of_key}
+use Rattle.index_reader.specs.Keys.{of_key}
 use Rattle.index_reader.proofs.lookup.places_of.Goals as goal
 
 module _ (c : goal.After-result-1) where
