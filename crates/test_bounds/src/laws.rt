@@ -58,6 +58,14 @@ pub fn of_closures<T, P: FnMut(&T, &T) -> bool, F: FnMut(&T) -> K, K: PartialEq 
     computes_on_elements::<T, F, K>();
 }
 
+pub fn of_unchanged<T, P: FnMut(&T, &T) -> bool, F: FnMut(&T) -> K, K: PartialEq + Drop>(
+    predicate: &P,
+    key: &F,
+) {
+    callable_unchanged(key);
+    callable_unchanged_on_pairs(predicate);
+}
+
 pub fn of_characters<P: FnMut(char, char) -> bool, F: FnMut(char) -> K, K: PartialEq + Drop>() {
     always_callable_char_key::<F, K>();
     computes_on_char_pairs::<P>();
@@ -71,7 +79,6 @@ pub fn of_functions<T, F: FnMut(&T) -> K, K, G: Fn(&T) -> K>(f: &F, g: &G) {
     range_starts(f);
     range_calls_count(f);
     callable_now(g);
-    callable_unchanged(f);
 }
 
 pub fn of_searches<T, W: FnMut(&T) -> Ordering, F: FnMut(&T) -> K, K: Ord>(by: &W, key: &F) {
