@@ -8,9 +8,7 @@ use slice_group_by::laws::{
     calls_ask, join_counts, linear_counts, mapped_calls_ask, merges_ask, questions_count,
     search_asks,
 };
-use slice_group_by::{
-    BinaryGroupBy, End, ExponentialGroupBy, LinearGroupBy, LinearGroupByKey, MergeJoinBy, walk,
-};
+use slice_group_by::{BinaryGroupBy, End, ExponentialGroupBy, LinearGroupBy, MergeJoinBy, walk};
 
 /// How many questions a walk over linear groups asks: one less than there are elements, and none where there are none.
 pub fn linear_questions(xs: &[u32]) -> usize
@@ -71,21 +69,6 @@ pub fn first_exponential_group(xs: &[u32]) -> (Option<&[u32]>, usize)
     search_asks(&groups);
     let first = groups.next();
     (first, count)
-}
-
-/// How many keys a walk over linear groups computes: two for each question.
-pub fn linear_keys(xs: &[u32]) -> usize
-    ensures { result ≡ 2 * (length xs.now - 1) }
-{
-    let mut count = 0usize;
-    let mut groups = LinearGroupByKey::new(xs, |x: &u32| {
-        count = count.wrapping_add(1);
-        *x / 10
-    });
-    calls_ask(&groups);
-    linear_counts(&groups);
-    while let Some(_) = groups.next() {}
-    count
 }
 
 /// The questions of a walk over linear groups by a `for`.

@@ -1,65 +1,15 @@
--- The longest of lists, with one more.
+-- The first longest of lists, with one more.
 use Rattle.std.proofs.Common.{◌≡◌, ℕ, zero, suc, ◌+◌, ◌<◌, ◌≤◌, refl, append_assoc, append-nil, List, [], ◌∷◌, ◌++◌, Option, None}
 use Rattle.std.proofs.Common.{Some, All, length, Bor, MatchOption, ap, sym, subst, ◌∙◌, arith, length-append}
-use Rattle.std.specs.List.{slice_get}
 use Rattle.std.specs.Option.{option_map}
-use Rattle.std.proofs.Math.ListN.{get_or-append}
-use Rattle.std.proofs.Math.Seq.{get_or-append_seam}
 use Rattle.std.proofs.lemmas.List.Elements.{All-append}
-use Rattle.std.proofs.lemmas.Option.{slice_get-get_or, slice_get_within, get_or_from_slice_get}
 use Rattle.slice_group_by.specs.Split.{concat}
-use Rattle.example_walks.specs.LongGroups.{IsFirstLongest, IsLongest}
+use Rattle.example_walks.specs.LongGroups.{IsFirstLongest}
 
 module _ {T : Type 0} where
-  -- the longest of the lists so far
-  abbrev pub KeepsLongest : Option (List T) → List (List T) → Type 0
-  KeepsLongest None lists = lists ≡ []
-  KeepsLongest (Some best) lists = IsLongest best lists
-
   one : (P : List T → Type 0) (x : List T) → P x → All P (x ∷ [])
   one P x is zero d l = is
   one P x is (suc k) d l = absurd (omega (arith, l))
-
-  last_there : (lists : List (List T)) (x : List T) → slice_get (lists ++ x ∷ []) (length lists) ≡ Some x
-  last_there lists x =
-      let size = length-append lists (x ∷ []) in
-      slice_get-get_or (lists ++ x ∷ []) (length lists) x (omega (arith, size)) ∙ ap Some (get_or-append_seam lists x [] x)
-
-  -- the new one, where none was kept, and where it is longer
-  pub first_kept : (lists : List (List T)) (x : List T) → lists ≡ [] → IsLongest x (lists ++ x ∷ [])
-  first_kept lists x none = rw none record { place = 0; there = last_there [] x; longest = one (λ other. length other ≤ length x) x (omega arith) }
-
-  pub longer_kept : (lists : List (List T)) (best x : List T) → IsLongest best lists → length best < length x → IsLongest x
-      (lists ++ x ∷ [])
-  longer_kept lists best x is longer = record {
-    place = length lists;
-    there = last_there lists x;
-    longest =
-        All-append (λ other. length other ≤ length x) lists (x ∷ []) (λ k d l. let le = is.longest k d l in omega (arith, le, longer))
-        (one (λ other. length other ≤ length x) x (omega arith));
-  }
-
-  -- and the one before it where it is not
-  pub still_longest : (lists : List (List T)) (best x : List T) → IsLongest best lists → length x ≤ length best → IsLongest best
-      (lists ++ x ∷ [])
-  still_longest lists best x is few =
-      let within = slice_get_within lists is.place best is.there in
-      let size = length-append lists (x ∷ []) in
-      record {
-        place = is.place;
-        there =
-            slice_get-get_or (lists ++ x ∷ []) is.place x (omega (arith, within, size))
-            ∙ ap Some (get_or-append lists (x ∷ []) x is.place within ∙ get_or_from_slice_get lists is.place best x is.there);
-        longest = All-append (λ other. length other ≤ length best) lists (x ∷ []) is.longest
-            (one (λ other. length other ≤ length best) x few);
-      }
-
-  -- once all lists are seen
-  pub longest_of_all : (kept : Option (Bor (List T))) (seen all : List (List T)) (xs : List T) → KeepsLongest (option_map
-      (λ group. group.now) kept) seen
-      → seen ≡ all → xs ≡ concat all → MatchOption kept (xs ≡ []) (λ group. IsLongest group.now all)
-  longest_of_all None seen all xs none same covers = covers ∙ ap concat (sym same ∙ none)
-  longest_of_all (Some best) seen all xs is same covers = subst (IsLongest best.now) same is
 
   -- the first longest of the lists so far, and the row at which it begins
   abbrev pub KeepsFirst : Option (ℕ × List T) → List (List T) → Type 0

@@ -8,15 +8,6 @@ ghost use Rattle.slice_group_by.specs.Queue.{pops};
 use slice_group_by::laws::{always_callable, always_callable_key};
 use slice_group_by::{End, GroupBy, LinearGroupBy, LinearGroupByKey, walk};
 
-/// A walk by a closure that computes nothing beside its answer.
-pub fn equal_bytes<'a>(slice: &'a &[u8], ends: &[End], out: &mut [Option<&'a [u8]>])
-    requires { length out.old ≡ length ends.now }
-    ensures { map (option_map (λ group. group.now)) out.new ≡ pops (split nat_eq slice.now.now) ends.now }
-{
-    let mut groups = slice.linear_group_by(|a, b| a == b);
-    walk(&mut groups, ends, out);
-}
-
 /// A walk by a test that is not symmetric.
 pub fn ascending<'a>(slice: &'a &[u32], ends: &[End], out: &mut [Option<&'a [u32]>])
     requires { length out.old ≡ length ends.now }

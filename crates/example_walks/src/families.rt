@@ -9,8 +9,8 @@ use slice_group_by::laws::{
     ascending_is_grouped, families_agree, groups_end_locally, sees_pieces, sorts_ascend,
 };
 use slice_group_by::{
-    BinaryGroup, End, ExponentialGroup, ExponentialGroupMut, GroupBy, LinearGroup,
-    is_sorted_for_groups, walk,
+    BinaryGroup, End, ExponentialGroup, ExponentialGroupMut, LinearGroup, is_sorted_for_groups,
+    walk,
 };
 
 /// The same calls on two families, for reading and for writing, over slices that hold the same: the law that the families agree.
@@ -35,17 +35,6 @@ pub fn walk_two_families<'a, T: Ord>(
     families_agree(&others, &groups);
     walk(&mut groups, ends, reading);
     walk(&mut others, ends, writing);
-}
-
-/// By a predicate for which the slice is grouped.
-pub fn walk_by_tens<'a>(slice: &'a &[u8], ends: &[End], out: &mut [Option<&'a [u8]>])
-    requires grouped { IsGrouped (λ a b. nat_eq (a / 10) (b / 10)) slice.now.now }
-    requires len { length out.old ≡ length ends.now }
-    ensures { map (option_map (λ group. group.now)) out.new
-        ≡ pops (split (λ a b. nat_eq (a / 10) (b / 10)) slice.now.now) ends.now }
-{
-    let mut groups = slice.binary_group_by(|a, b| *a / 10 == *b / 10);
-    walk(&mut groups, ends, out);
 }
 
 /// How many groups a sorted slice has, and none of one that is not.

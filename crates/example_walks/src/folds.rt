@@ -1,7 +1,7 @@
 //! What a loop over groups keeps: a count, a total, and one of the groups.
 ghost use Rattle.std.specs.Prelude.{◌≡◌, [], length, nat_eq, sum_by, IfSome, MatchOption};
 ghost use Rattle.slice_group_by.specs.Split.{split};
-ghost use Rattle.example_walks.specs.LongGroups.{IsFirstLongest, IsLongest};
+ghost use Rattle.example_walks.specs.LongGroups.{IsFirstLongest};
 
 use slice_group_by::laws::{calls_take_pieces, one_split, pieces_add_up, sees_pieces};
 use slice_group_by::{LinearGroup, with_offsets};
@@ -42,23 +42,6 @@ fn sum(group: &[u32]) -> Option<u64>
         sum = sum.checked_add(u64::from(*x))?;
     }
     Some(sum)
-}
-
-/// The longest group, the first of several, or `None` where there is none.
-pub fn longest_group<T: PartialEq>(xs: &[T]) -> Option<&[T]>
-    ensures { MatchOption result (xs.now ≡ []) (λ group. IsLongest group.now (split T.eq xs.now)) }
-{
-    let groups = LinearGroup::new(xs);
-    sees_pieces(&groups);
-    one_split::<T>();
-    let mut longest: Option<&[T]> = None;
-    for group in groups {
-        match longest {
-            Some(best) if group.len() <= best.len() => {}
-            _ => longest = Some(group),
-        }
-    }
-    longest
 }
 
 /// The longest group, the first of several, and the row at which it begins, or `None` where there is none.

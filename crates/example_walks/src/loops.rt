@@ -1,6 +1,6 @@
 //! Groups in loops and through adapters of iterators: `count`, `rev`, `map`, `filter`, `find`, `nth`, a `for`, and how many questions
 //! were asked.
-ghost use Rattle.std.specs.Prelude.{◌≡◌, ◌-◌, [], length, map, option_map, fold, max, nat_lt, slice_get, IfOk};
+ghost use Rattle.std.specs.Prelude.{◌≡◌, ◌-◌, [], length, map, option_map, nat_lt, slice_get, IfOk};
 ghost use Rattle.std.specs.List.{filter, find};
 ghost use Rattle.slice_group_by.specs.Gives.{groups_of};
 ghost use Rattle.slice_group_by.specs.Queue.{pops, after_pops};
@@ -26,19 +26,6 @@ pub fn count_from_the_back<T: PartialEq>(xs: &[T]) -> usize
     let groups = LinearGroup::new(xs);
     sees_pieces(&groups);
     groups.rev().count()
-}
-
-/// The length of the longest group.
-pub fn longest<T: PartialEq>(xs: &[T]) -> usize
-    ensures { result ≡ fold max 0 (map length (split T.eq xs.now)) }
-{
-    let groups = LinearGroup::new(xs);
-    sees_pieces(&groups);
-    let mut best = 0usize;
-    for group in groups {
-        best = best.max(group.len());
-    }
-    best
 }
 
 /// The first group of more than `len` elements, if there is one.

@@ -1,6 +1,5 @@
 //! Groups with the offsets at which they begin.
-ghost use Rattle.std.specs.Prelude.{◌≡◌, ◌+◌, map, nat_eq, IfOk, slice_range, length, ◌≤◌};
-ghost use Rattle.std.specs.List.{AllByRecursion};
+ghost use Rattle.std.specs.Prelude.{◌≡◌, map, nat_eq, IfOk};
 ghost use Rattle.slice_group_by.specs.Split.{split};
 ghost use Rattle.slice_group_by.specs.Offsets.{with_offsets};
 

@@ -1,5 +1,5 @@
 //! Groups of a stream that comes in blocks.
-ghost use Rattle.std.specs.Prelude.{◌≡◌, ℕ, ◌++◌, List, flat_map, nat_eq, IfOk, OnOk};
+ghost use Rattle.std.specs.Prelude.{ℕ, ◌++◌, List, flat_map, nat_eq, IfOk, OnOk};
 ghost use Rattle.slice_group_by.specs.Numbers.{by_number};
 ghost use Rattle.slice_group_by.specs.Split.{split};
 ghost use Rattle.slice_group_by.specs.Streams.{AreGivenAs, Folds, GivesAll, HasOpen, MayGoOn};

@@ -2,7 +2,7 @@
 use example_conditions::{count_by_distance, count_equal_characters, count_of_one};
 use example_walks::closures::counted;
 use example_walks::families::sort_and_count;
-use example_walks::folds::{longest_group, longest_with_row, total_by_groups};
+use example_walks::folds::{longest_with_row, total_by_groups};
 use example_walks::offsets::runs_with_rows;
 use example_walks::writers::clear_ends;
 use slice_group_by::End;
@@ -33,7 +33,6 @@ fn sorts_and_counts(rt: HostRuntime) {
 // The first of several is the longest.
 #[test]
 fn folds(rt: HostRuntime) {
-    assert!(rt; longest_group(&[1, 1, 2, 2, 3]) == Some([1, 1].as_slice()));
     assert!(rt; longest_with_row(&[1, 2, 2, 3, 3]) == Some((1, [2, 2].as_slice())));
     assert!(rt; total_by_groups(&[u32::MAX, u32::MAX, 1]) == Some(8_589_934_591));
 }

@@ -1,8 +1,0 @@
-use Rattle.std.proofs.Common.{rules, nat_eq}
-use Rattle.std.proofs.lemmas.Fn.{always_returns_same}
-use Rattle.example_walks.proofs.closures.equal_bytes.Goals as goal
-
-pub returns : goal.returns
-returns c =
-    let settled = c.linear_group_by-groups.ensures.settled nat_eq (always_returns_same _ _ _ (λ a r f' k. search rules)) in
-    rw c.linear_group_by-groups.ensures.remainder at (c.walk.ensures.pieces nat_eq settled)
