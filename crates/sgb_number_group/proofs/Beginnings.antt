@@ -1,5 +1,7 @@
 -- How many groups of a class begin in some bytes: by masks, and by the split.
-use Rattle.std.proofs.Common.{◌≡◌, ℕ, zero, suc, ◌+◌, ◌-◌, ◌*◌, ◌^◌, ◌<◌, ◌≤◌, cond, not, ◌&&◌, Bool, true, false, List, [], ◌∷◌, ◌++◌, length, map, take, drop, drop-cons, get_or, bit_and, refl, sym, ap, ap₂, ◌∙◌, arith, Option, None, Some}
+use Rattle.std.proofs.Common.{◌≡◌, ℕ, zero, suc, ◌+◌, ◌-◌, ◌*◌, ◌^◌, ◌<◌, ◌≤◌, cond, not, ◌&&◌, Bool, true, false, List, []}
+use Rattle.std.proofs.Common.{◌∷◌, ◌++◌, length, map, take, drop, drop-cons, get_or, bit_and, refl, sym, ap, ap₂, ◌∙◌, arith}
+use Rattle.std.proofs.Common.{Option, None, Some}
 use Rattle.std.specs.Prelude.{count_by}
 use Rattle.std.specs.Int.RustNames.{count_ones}
 use Rattle.std.specs.Simd.Lanes.{zip2, chunk, mask_l}
@@ -201,7 +203,8 @@ held-starts k (x ∷ y ∷ ys) =
     ∙ ap (λ n. cond (same_class x y) 0 (begins k None (ascii_class x)) + n) rest ∙ sym (starts-before k (same_class x y) x y ys refl)
 
 -- the first group goes on, or begins
-held-first : (k p : AsciiClass) (x : ℕ) (xs : List ℕ) (b : Bool) → is_class p (ascii_class x) ≡ b → (h : Begins x (split same_class (x ∷ xs)))
+held-first : (k p : AsciiClass) (x : ℕ) (xs : List ℕ) (b : Bool) → is_class p (ascii_class x) ≡ b
+    → (h : Begins x (split same_class (x ∷ xs)))
     → held k (cond b h.more ((x ∷ h.rest) ∷ h.more)) ≡ starts k (Some p) (x ∷ xs)
 held-first k p x xs true e h =
     let all : held k ((x ∷ h.rest) ∷ h.more) ≡ starts k None (x ∷ xs) = ap (held k) (sym h.is) ∙ held-starts k (x ∷ xs) in

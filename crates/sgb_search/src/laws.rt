@@ -1,8 +1,9 @@
 //! Laws of the definitions. Each is a function that does nothing: its contract is the law, and a caller cites it.
-ghost use Rattle.std.specs.Prelude.{cond, ◌≡◌, ℕ, ◌+◌, ◌-◌, ◌^◌, ◌<◌, ◌≤◌, ◌++◌, Bool, List, Result, Some, length, map, slice_range, take, drop, nat_lt};
+ghost use Rattle.std.specs.Prelude.{cond, ◌≡◌, ℕ, ◌+◌, ◌-◌, ◌^◌, ◌<◌, ◌≤◌, ◌++◌, Bool, List, Result, Some, length, map, nat_lt};
+ghost use Rattle.std.specs.Prelude.{slice_range};
 ghost use Rattle.sgb_search.specs.Calls.{ComputesBy, IsCallableBy};
 ghost use Rattle.std.specs.Fn.{ComputesKey, TakesAt, TakesAtTwo, Called, CalledAt, CalledAtTwo};
-ghost use Rattle.std.specs.List.{AllByRecursion, Contains, slice_get, count_by, filter};
+ghost use Rattle.std.specs.List.{Contains, slice_get, count_by, filter};
 ghost use Rattle.std.specs.List.Sorted.{IsPartitionedBy};
 ghost use Rattle.std.specs.Ordering.{flip_args, is_lt, is_le, is_eq, is_gt};
 ghost use Rattle.std.specs.declared.cmp.Ordering.{Ordering};
@@ -10,11 +11,13 @@ ghost use Rattle.std.specs.declared.cmp.Ordering.TheVariants.{Less, Greater};
 ghost use Rattle.sgb_search.specs.declared.end.End.{End};
 ghost use Rattle.sgb_search.specs.Searching.{digits, QuestionsAt};
 ghost use Rattle.sgb_search.specs.Ranges.{AsksRange, IsRange, IsRangeAt};
-ghost use Rattle.sgb_search.specs.Split.{AreApart, neighbours, AreNeighbours, IsGrouped, IsSplit, concat, first, last, without_last, split, refused_pairs};
+ghost use Rattle.sgb_search.specs.Split.{AreApart, neighbours, AreNeighbours, IsGrouped, IsSplit, concat, first, last};
+ghost use Rattle.sgb_search.specs.Split.{without_last, split, refused_pairs};
 ghost use Rattle.sgb_search.specs.Seams.{is_accepted_across, lens_joined, seam};
-ghost use Rattle.sgb_search.specs.Search.{IsCallableOn, ComputesOn, IsGap, IsLessEqualGreater, IsSearch, NeverDescends};
+ghost use Rattle.sgb_search.specs.Search.{IsCallableOn, ComputesOn, IsLessEqualGreater, IsSearch, NeverDescends};
 ghost use Rattle.sgb_search.specs.Linear.{questions};
-ghost use Rattle.sgb_search.specs.Judges.{IsRunOf, by_predicate, predicate_judge, CalledAtChar, by_key, key_judge, by_char_predicate, char_predicate_judge, by_char_key, char_key_judge, by_equality};
+ghost use Rattle.sgb_search.specs.Judges.{IsRunOf, by_predicate, predicate_judge, CalledAtChar, by_key, key_judge};
+ghost use Rattle.sgb_search.specs.Judges.{by_char_predicate, char_predicate_judge, by_char_key, char_key_judge, by_equality};
 ghost use Rattle.sgb_search.specs.declared.judge.EqualityJudge.{EqualityJudge};
 
 /// Each list has exactly one split for a test, whose pieces joined are the list. It has one piece more than the test refuses
@@ -97,15 +100,9 @@ pub fn computes_on_elements<T, F: FnMut(&T) -> K, K: PartialEq + Drop>()
         → ComputesOn F.FnMut (before ++ (part ++ after)) key func → ComputesOn F.FnMut part key func }
 {}
 
-/// An `Fn` stays as it is when it is called: where it may be called on each element now, it may be called so in every state
-/// that its answers can lead to. It takes a reference to one, which names its type.
-pub fn callable_now<T, F: Fn(&T) -> K, K>(_f: &F)
-    ensures { (xs : List T) (f : F) → ((x : T) → Contains xs x → TakesAt F.FnMut f x) → IsCallableOn F.FnMut xs f }
-{}
-
-/// A function whose calls leave it as it was, as a closure that captures nothing by `&mut`: where it may be called on each element
-/// now, it may be called so in every state that its answers can lead to. So a judge by key that has it may be asked about
-/// neighbouring pairs, and about every two different places, in both orders. It takes a reference to one, which names its type.
+/// A function that its calls leave unchanged, such as a closure that captures nothing by `&mut`. If it may be called on each element
+/// now, it may be called on them in every later state too (`elements`), and a judge by its keys may be asked about neighbouring pairs
+/// (`along`) and about every two different places (`apart`). The reference names the function's type.
 pub fn callable_unchanged<T, F: FnMut(&T) -> K, K: PartialEq + Drop>(_f: &F)
     ensures elements { (xs : List T) (f : F) → ((g h : F) (x : T) (k : K) → CalledAt F.FnMut g x k h → h ≡ g)
         → ((x : T) → Contains xs x → TakesAt F.FnMut f x) → IsCallableOn F.FnMut xs f }
@@ -117,8 +114,7 @@ pub fn callable_unchanged<T, F: FnMut(&T) -> K, K: PartialEq + Drop>(_f: &F)
         → IsCallableBy AreApart (by_key F.FnMut K.eq) (record { remainder = xs; judge = key_judge f }) }
 {}
 
-/// So it is with a predicate whose calls leave it as it was, and the neighbouring pairs of a slice, or every two different places, in
-/// both orders.
+/// The same for a predicate that may be called on each neighbouring pair, or on every two different places, in both orders.
 pub fn callable_unchanged_on_pairs<T, P: FnMut(&T, &T) -> bool>(_predicate: &P)
     ensures along { (xs : List T) (predicate : P) → ((f h : P) (x y : T) (b : Bool) → CalledAtTwo P.FnMut f x y b h → h ≡ f)
         → ((q : T × T) → AreNeighbours xs q → TakesAtTwo P.FnMut predicate q.0 q.1)
@@ -130,7 +126,7 @@ pub fn callable_unchanged_on_pairs<T, P: FnMut(&T, &T) -> bool>(_predicate: &P)
         (record { remainder = xs; judge = predicate_judge predicate }) }
 {}
 
-/// Both of a neighbouring pair of a list, and the elements at two different places, are elements of the list.
+/// Both elements of a neighbouring pair, and those at two different places, are elements of the list.
 pub fn pairs_are_elements<T>()
     ensures along { (xs : List T) (q : T × T) → AreNeighbours xs q → Contains xs q.0 × Contains xs q.1 }
     ensures apart { (xs : List T) (q : T × T) → AreApart xs q → Contains xs q.0 × Contains xs q.1 }
@@ -241,8 +237,8 @@ pub fn ascending_is_searchable<T, K: Ord>()
         → IsLessEqualGreater (λ x. K.cmp x sought) xs }
 {}
 
-/// Of a list whose answers are `Less`, then `Equal`, then `Greater`, as `ascending_is_searchable` gives them, those that are `Less`
-/// come first, and so do those that are not `Greater`: a search for a partition point by either test finds where they end.
+/// In a list whose answers are `Less`, then `Equal`, then `Greater` (`ascending_is_searchable`), the elements that are `Less` come
+/// first, and so do those that are not `Greater`: a search for a partition point by either test finds where they end.
 pub fn searchable_is_partitioned<T>()
     ensures less { (ord : T → Ordering) (xs : List T) → IsLessEqualGreater ord xs → IsPartitionedBy (λ x. is_lt (ord x)) xs }
     ensures not_greater { (ord : T → Ordering) (xs : List T) → IsLessEqualGreater ord xs
@@ -286,17 +282,8 @@ pub fn range_starts<T, K, F: FnMut(&T) -> K>(_f: &F)
         → length a.before ≡ count_by (λ x. is_lt (read (answer x))) xs }
 {}
 
-/// A range of equal elements and what stands before and after it are what filters keep of the whole: the equal elements, those that
-/// are less, and those that are greater.
-pub fn range_parts<T>()
-    ensures whole { (ord : T → Ordering) (xs equals : List T) → IsRange ord xs equals
-        → xs ≡ filter (λ x. is_lt (ord x)) xs ++ (equals ++ filter (λ x. is_gt (ord x)) xs) }
-    ensures equal { (ord : T → Ordering) (xs equals : List T) → IsRange ord xs equals
-        → equals ≡ filter (λ x. is_eq (ord x)) xs }
-{}
-
-/// Where the range of the equal elements stands: it begins behind as many as are `Less`, and ends behind as many as are not
-/// `Greater`. So the range of these places is what a filter keeps.
+/// Where the equal elements stand, in a list whose answers are `Less`, then `Equal`, then `Greater`: behind as many as are `Less`
+/// (`start`), and up to as many as are not `Greater` (`end`). The range of these places is what a filter keeps (`range`).
 pub fn range_places<T>()
     ensures start { (ord : T → Ordering) (xs : List T) (start end : ℕ) → IsRangeAt xs start end ord
         → start ≡ count_by (λ x. is_lt (ord x)) xs }

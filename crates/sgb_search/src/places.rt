@@ -1,5 +1,5 @@
 //! The places between which the elements stand that are equal to what is sought, found by galloping from the first element.
-ghost use Rattle.std.specs.Prelude.{◌≡◌, ◌≤◌, length, slice_range, map, Bool};
+ghost use Rattle.std.specs.Prelude.{◌≡◌, ◌≤◌, length, slice_range, map};
 ghost use Rattle.std.specs.List.{filter, count_by};
 ghost use Rattle.std.specs.Ordering.{is_lt, is_eq};
 ghost use Rattle.std.specs.declared.cmp.Ordering.{Ordering};

@@ -23,4 +23,5 @@ counts_to_come left s = at_most (length (left (counted_groups s)))
 abbrev pub GivesCounted : {T Q : Type 0} → (End → Q → Option (Bor (List T)) → Q → Type 0)
     → End → DedupWithCount T Q → Option (ℕ × Bor T) → DedupWithCount T Q → Type 0
 GivesCounted {T} gives e s item t = MatchOption item (gives e s.groups None t.groups)
-    (λ x. (group : Bor (List T)) × gives e s.groups (Some group) t.groups × (x.0 ≡ length group.now) × (slice_get group.now 0 ≡ Some x.1.now))
+    (λ x. (group : Bor (List T)) × gives e s.groups (Some group) t.groups × (x.0 ≡ length group.now)
+    × (slice_get group.now 0 ≡ Some x.1.now))

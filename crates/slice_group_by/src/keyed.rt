@@ -1,5 +1,6 @@
 //! Groups by a key, with their keys.
-ghost use Rattle.std.specs.Prelude.{◌≡◌, ◌≢◌, [], Bool, List, length, map, nat_eq, slice_get, Option, Some, IfSome, if◌then◌else◌, option_map};
+ghost use Rattle.std.specs.Prelude.{◌≡◌, ◌≢◌, [], Bool, List, length, map, nat_eq, slice_get, Option, Some, IfSome};
+ghost use Rattle.std.specs.Prelude.{if◌then◌else◌, option_map};
 ghost use Rattle.std.specs.Iterator.{Drains, UpTo};
 ghost use Rattle.std.specs.Iterator.SizeHint.{IsWithinCount};
 ghost use Rattle.std.proofs.lemmas.Iterator.{YieldsList};

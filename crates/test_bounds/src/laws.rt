@@ -14,7 +14,6 @@ pub fn of_lists<T, U>() {
     question_count::<T>();
     first_group_agrees::<T>();
     parts_are_grouped::<T>();
-    range_parts::<T>();
     range_places::<T>();
     searchable_is_partitioned::<T>();
     pairs_are_elements::<T>();
@@ -72,13 +71,12 @@ pub fn of_characters<P: FnMut(char, char) -> bool, F: FnMut(char) -> K, K: Parti
     computes_on_chars::<F, K>();
 }
 
-pub fn of_functions<T, F: FnMut(&T) -> K, K, G: Fn(&T) -> K>(f: &F, g: &G) {
+pub fn of_functions<T, F: FnMut(&T) -> K, K>(f: &F) {
     always_callable_on_elements::<T, F, K>();
     always_computes(f);
     searches_call(f);
     range_starts(f);
     range_calls_count(f);
-    callable_now(g);
 }
 
 pub fn of_searches<T, W: FnMut(&T) -> Ordering, F: FnMut(&T) -> K, K: Ord>(by: &W, key: &F) {

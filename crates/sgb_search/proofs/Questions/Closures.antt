@@ -5,7 +5,9 @@ use Rattle.std.proofs.Common.{refl, ap, ◌∙◌}
 use Rattle.std.specs.Borrow.{Bor}
 use Rattle.std.specs.Fn.{Mut, Takes, TakesAt, Called, CalledAt, CalledAtTwo, ComputesOnPairs, ComputesKey}
 use denote.Param.Always.{always_mut, mut_next}
-use Rattle.sgb_search.specs.Judges.{IsRunOf, IsCallable, Computes, by_predicate, predicate_judge, by_key, key_judge, MayCompareKeys, ComparesKeys, by_char_predicate, char_predicate_judge, by_char_key, char_key_judge, CalledAtChar, ComputesOnChars, ComputesCharKey}
+use Rattle.sgb_search.specs.Judges.{IsRunOf, IsCallable, Computes, by_predicate, predicate_judge, by_key, key_judge}
+use Rattle.sgb_search.specs.Judges.{MayCompareKeys, ComparesKeys, by_char_predicate, char_predicate_judge, by_char_key}
+use Rattle.sgb_search.specs.Judges.{char_key_judge, CalledAtChar, ComputesOnChars, ComputesCharKey}
 use Rattle.sgb_search.specs.declared.judge.KeyJudge.{KeyJudge}
 use Rattle.sgb_search.specs.declared.judge.CharKeyJudge.{CharKeyJudge}
 use Rattle.std.specs.List.{Contains}

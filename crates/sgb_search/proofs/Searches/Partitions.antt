@@ -3,7 +3,7 @@ use Rattle.std.specs.Prelude.{cond, ◌≡◌, ℕ, ◌≤◌, Bool, true, false
 use Rattle.std.proofs.Common.{refl, sym, ap, ◌∙◌, subst, length-append, arith}
 use Rattle.std.specs.List.{AllByRecursion, count_by, filter, slice_index_or}
 use Rattle.std.specs.List.Sorted.{IsPartitionedBy, IsPartitionPoint}
-use Rattle.std.specs.Ordering.{ordering_index, is_lt, is_le, is_eq, is_gt}
+use Rattle.std.specs.Ordering.{ordering_index, is_lt, is_le, is_eq}
 use Rattle.std.specs.declared.cmp.Ordering.{Ordering}
 use Rattle.std.specs.declared.cmp.Ordering.TheVariants.{Less, Equal, Greater}
 use Rattle.std.proofs.Math.Seq.{take-append_seam, drop-append_seam}
@@ -174,8 +174,3 @@ module _ {T : Type 0} (ord : T → Ordering) (xs equals : List T) (r : IsRange o
 
   pub range_less : filter (λ x. is_lt (ord x)) xs ≡ r.before
   range_less = filtered ord xs equals r is_lt ∙ append-nil r.before
-
-  pub range_whole : xs ≡ filter (λ x. is_lt (ord x)) xs ++ (equals ++ filter (λ x. is_gt (ord x)) xs)
-  range_whole =
-      r.whole ∙ (λ i. sym range_less i
-      ++ (equals ++ sym (filtered ord xs equals r is_gt) i))

@@ -183,7 +183,8 @@ module _ {K : Type 0} (cmp : K → K → Ordering) (o : IsTotalOrder cmp) (eq : 
   kept : (gs : List (List T)) → AllByRecursion (IsUniform cmp o eq ties key) gs → EachLater KeysBelow gs → (g : List T) (x : T)
       → Contains gs g → Contains g x → filter (λ y. same y x) (concat gs) ≡ g
   kept [] u l g x c d = absurd (omega (arith, c.1))
-  kept (h ∷ hs) u l g x c d = filter-append (λ y. same y x) h (concat hs) ∙ by (contains_cases h hs g c) (λ later. kept hs u.1 l.1 g x later d)
+  kept (h ∷ hs) u l g x c d =
+      filter-append (λ y. same y x) h (concat hs) ∙ by (contains_cases h hs g c) (λ later. kept hs u.1 l.1 g x later d)
     where
       none : (ks : List (List T)) → AllByRecursion (λ k. (y : T) → Contains k y → same y x ≡ false) ks
           → filter (λ y. same y x) (concat ks) ≡ []

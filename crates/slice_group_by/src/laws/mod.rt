@@ -4,7 +4,6 @@
 //! A function whose contract rests on a law calls it, and then its proof may cite it. Where a law takes a queue, that only
 //! names the type, which may hold a closure: the law is over all of its states.
 ghost use Rattle.std.specs.Prelude.{◌≡◌, ◌≢◌, ℕ, ◌+◌, ◌-◌, ◌<◌, ◌≤◌, Bool, List, [], ◌∷◌, ◌++◌, length, Option, Some, map, option_map, reverse, count_by, is_some, IfSome};
-ghost use Rattle.std.specs.Borrow.{MutBor};
 ghost use Rattle.std.specs.Iterator.{Yields, Drains};
 ghost use Rattle.std.specs.Iterator.Adapters.{rev_source, rev_steps};
 ghost use Rattle.std.specs.declared.iter.Rev.{Rev};
@@ -65,12 +64,12 @@ use sgb_search::judge::Judge;
 pub use sgb_search::laws::{
     always_callable, always_callable_apart, always_callable_char_key, always_callable_chars,
     always_callable_key, always_callable_key_apart, always_callable_on_elements, always_computes,
-    ascending_is_grouped, ascending_is_searchable, callable_now, callable_on_elements,
-    callable_on_pairs, callable_unchanged, callable_unchanged_on_pairs, computes_on_char_pairs,
-    computes_on_chars, computes_on_elements, computes_on_pairs, descending_is_grouped,
-    digits_is_least, equality_judges, first_group_agrees, one_split, pairs_are_elements,
-    parts_are_grouped, question_count, range_parts, range_places, range_starts,
-    searchable_is_partitioned, searches_call, splits_join,
+    ascending_is_grouped, ascending_is_searchable, callable_on_elements, callable_on_pairs,
+    callable_unchanged, callable_unchanged_on_pairs, computes_on_char_pairs, computes_on_chars,
+    computes_on_elements, computes_on_pairs, descending_is_grouped, digits_is_least,
+    equality_judges, first_group_agrees, one_split, pairs_are_elements, parts_are_grouped,
+    question_count, range_places, range_starts, searchable_is_partitioned, searches_call,
+    splits_join,
 };
 pub use sorted::{is_sorted_for_groups, sorted_by_key_ascends, sorts_ascend};
 pub use streams::{folds_add_up, streams_give};

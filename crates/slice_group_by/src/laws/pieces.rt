@@ -20,7 +20,8 @@ pub fn pieces_by_key<T, K: Ord>()
         → IsStrictlySortedBy K.cmp (map key (dedup (λ a b. K.eq (key a) (key b)) xs)) }
 {}
 
-/// In a list that ascends by a key, a piece has all elements of its key: it is what a filter by the key of any element of it keeps.
+/// In a list that ascends by a key, a piece holds all elements of its key: a filter of the list by the key of any of its elements
+/// gives the piece.
 pub fn pieces_are_filters<T, K: Ord>()
     ensures { (key : T → K) (xs g : List T) (x : T) → NeverDescends K.cmp (map key xs)
         → Contains (split (λ a b. K.eq (key a) (key b)) xs) g → Contains g x → g ≡ filter (λ y. K.eq (key y) (key x)) xs }

@@ -12,5 +12,6 @@ returns c =
     let words = c.args.words.now in
     let word = c.args.word.now in
     c.exponential_search_by.ensures.found (λ w. slice_cmp nat_cmp (string_bytes w) word)
-    (c.always_computes.ensures words (λ w. slice_cmp nat_cmp (string_bytes w) word) _ (always_returns_same _ _ _ (λ a r f' k. search rules)))
+    (c.always_computes.ensures words (λ w. slice_cmp nat_cmp (string_bytes w) word) _
+    (always_returns_same _ _ _ (λ a r f' k. search rules)))
     (searchable_from_sorted nat_list_cmp_total string_bytes words word (c.sorts_ascend.ensures.sorted words c.requires))

@@ -10,7 +10,10 @@ pub returns : goal.returns
 returns c =
     let groups = c.with_keys-groups in
     let seen = YieldsList-at c.map.ensures.source (c.sees_keys.ensures.pieces (λ row. row.0) Front groups.result
-    (rw groups.ensures
-    (subst (ComputesKey _ (λ row. row.0)) (sym (ap (λ j. j.func) c.new.ensures.judge)) (always_returns_same _ _ _ (λ a r f' k. search rules)), tt))) in
+    (rw groups.ensures (
+      subst (ComputesKey _ (λ row. row.0)) (sym (ap (λ j. j.func) c.new.ensures.judge))
+          (always_returns_same _ _ _ (λ a r f' k. search rules)),
+      tt,
+    ))) in
     rw (groups.ensures, c.new.ensures.remainder) at (items_from_collect c.collect.result c.collect.ensures.ran
     (YieldsList-from_map _ (λ run. (run.0, length run.1)) seen c.map.ensures.closure (λ x r q k. search rules)))

@@ -7,8 +7,10 @@ returns-clause-elements g c xs f stays = callable_unchanged g.F.FnMut stays xs f
 
 pub returns-clause-along : goal.returns-clause-along
 returns-clause-along g c xs f stays takes =
-    key_callable_on g.F.FnMut g.K.PartialEq.eq xs (AreNeighbours xs) (neighbours_contained xs) f (callable_unchanged g.F.FnMut stays xs f takes)
+    key_callable_on g.F.FnMut g.K.PartialEq.eq xs (AreNeighbours xs) (neighbours_contained xs) f
+    (callable_unchanged g.F.FnMut stays xs f takes)
 
 pub returns-clause-apart : goal.returns-clause-apart
 returns-clause-apart g c xs f stays takes =
-    key_callable_on g.F.FnMut g.K.PartialEq.eq xs (AreApart xs) (apart_contained xs) f (callable_unchanged g.F.FnMut stays xs f takes)
+    key_callable_on g.F.FnMut g.K.PartialEq.eq xs (AreApart xs) (apart_contained xs) f
+    (callable_unchanged g.F.FnMut stays xs f takes)

@@ -3,7 +3,8 @@ use Rattle.sgb_search.proofs.Searches.Partitions.{range_at, start_counts, range_
 use Rattle.sgb_search.proofs.places.exponential_equal_places_by_key_ref.Goals as goal
 
 pub returns-clause-range : goal.returns-clause-range
-returns-clause-range g c key by up = range_at (λ x. g.B.Ord.cmp (key x) c.args.b.now) c.args.slice.now _ _ up (c.places.ensures.local key by)
+returns-clause-range g c key by up =
+    range_at (λ x. g.B.Ord.cmp (key x) c.args.b.now) c.args.slice.now _ _ up (c.places.ensures.local key by)
 
 pub returns-clause-sorted : goal.returns-clause-sorted
 returns-clause-sorted g c key by up =

@@ -89,7 +89,8 @@ returns-clause-local g c answer by =
 
 pub returns-clause-callable : goal.returns-clause-callable
 returns-clause-callable g c =
-    may_go_on g.F.FnMut c.split_at.result.1.now (λ k. as_ordering (g.E.Test.passes c.args.equal.now k)) _ _ _ c.count_before-len.ensures.questions
+    may_go_on g.F.FnMut c.split_at.result.1.now (λ k. as_ordering (g.E.Test.passes c.args.equal.now k)) _ _ _
+    c.count_before-len.ensures.questions
     (Contains c.args.slice.now) (in_rest _ _ _ _ c.split_at.ensures.front c.split_at.ensures.back)
     c.count_before-start.ensures.callable
 

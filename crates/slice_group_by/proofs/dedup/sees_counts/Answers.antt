@@ -5,7 +5,8 @@ use Rattle.slice_group_by.proofs.dedup.sees_counts.Goals as goal
 
 pub returns-clause-pieces : goal.returns-clause-pieces
 returns-clause-pieces g c p e s h = record {
-  runs = yields_counted g.Q.GroupQueue.gives g.Q.GroupQueue.remainder g.Q.GroupQueue.shows (g.met.Q.SliceQueue c.lifetimes (search c)).shows_now
+  runs = yields_counted g.Q.GroupQueue.gives g.Q.GroupQueue.remainder g.Q.GroupQueue.shows
+      (g.met.Q.SliceQueue c.lifetimes (search c)).shows_now
       g.Q.GroupQueue.is_settled p (g.met.Q.GroupQueue c.lifetimes (search c)).piece e s h;
 }
 

@@ -11,5 +11,6 @@ returns-clause-pieces g c key e s h = record {
 
 pub returns-clause-whole : goal.returns-clause-whole
 returns-clause-whole g c key e s items h drains =
-    items_from_drains {steps = GivesWithKey g.Q.GroupQueue.gives g.Q.Keyed.calls_key e} items (drains.1.0, drains.1.1, λ _. (drains.0, drains.1.2))
+    items_from_drains {steps = GivesWithKey g.Q.GroupQueue.gives g.Q.Keyed.calls_key e} items
+    (drains.1.0, drains.1.1, λ _. (drains.0, drains.1.2))
     (returns-clause-pieces g c key e s h)
