@@ -6,6 +6,7 @@ mod bytes;
 mod closures;
 mod first_page;
 mod inputs;
+mod keys;
 mod loops;
 mod numbers;
 mod offsets;
@@ -24,6 +25,7 @@ fn main(rt: HostRuntime) -> io::Result<()> {
     loops::print_all(&rt)?;
     numbers::print_all(&rt)?;
     offsets::print_all(&rt)?;
+    keys::print_all(&rt)?;
     searches::print_all(&rt)?;
     closures::print_all(&rt)?;
     rest::print_all(&rt)?;

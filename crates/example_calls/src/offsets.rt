@@ -1,7 +1,6 @@
 //! Where groups begin and end in their input.
 use slice_group_by::{
-    LinearGroupBy, LinearGroupByKey, LinearNumberGroup, LinearStrGroupByKey, dedup_with_count,
-    with_keys, with_offsets,
+    LinearGroupBy, LinearNumberGroup, LinearStrGroupByKey, dedup_with_count, with_offsets,
 };
 use std::alloc::{AllocError, Global};
 use std::io;
@@ -35,31 +34,6 @@ pub fn words(alloc: Global, text: &str) -> Result<Vec<(usize, usize)>, AllocErro
     Ok(spans)
 }
 
-/// The runs of letters of a text, from the back.
-pub fn words_back(alloc: Global, text: &str) -> Result<Vec<&str>, AllocError> {
-    with_keys(LinearStrGroupByKey::new(text, |c| c.is_ascii_alphabetic()))
-        .rev()
-        .filter_map(|(is_word, run)| if is_word { Some(run) } else { None })
-        .collect(alloc)
-}
-
-/// The groups of rows of one key, each with the key.
-pub fn keyed(alloc: Global, rows: &[(u32, u64)]) -> Result<Vec<(u32, &[(u32, u64)])>, AllocError> {
-    with_keys(LinearGroupByKey::new(rows, |row: &(u32, u64)| row.0)).collect(alloc)
-}
-
-/// The mean amount of the rows of each key, with the key.
-pub fn means(alloc: Global, rows: &[(u32, u64)]) -> Result<Vec<(u32, u64)>, AllocError> {
-    let mut means = Vec::new(alloc);
-    for (key, group) in with_keys(LinearGroupByKey::new(rows, |row: &(u32, u64)| row.0)) {
-        let total = group
-            .iter()
-            .fold(0u64, |sum, row| sum.saturating_add(row.1));
-        means.push((key, total / group.len() as u64))?;
-    }
-    Ok(means)
-}
-
 /// How long each run of a slice is, and its number.
 pub fn counts(alloc: Global, slice: &[u32]) -> Result<Vec<(usize, &u32)>, AllocError> {
     dedup_with_count(LinearNumberGroup::new(slice)).collect(alloc)
@@ -75,11 +49,8 @@ pub fn print_all(rt: &(impl Print + AllocGlobal)) -> io::Result<()> {
     let sessions = sessions(rt.alloc(), &[0, 60, 90, 1000, 1060, 5000, 5061, 7], 60)?;
     let words = words(rt.alloc(), "to be, or é not")?;
     println!(rt;
-        "offsets: {sessions:?} {words:?} {:?} {:?} {:?} {:?} {:?}",
+        "offsets: {sessions:?} {words:?} {:?} {:?}",
         last_run(&[2, 2, 1, 2]),
-        keyed(rt.alloc(), &[(7, 1), (7, 2), (8, 3), (7, 4)])?,
-        means(rt.alloc(), &[(7, 1), (7, 3), (8, 5)])?,
-        counts(rt.alloc(), &[4, 4, 4, 9])?,
-        words_back(rt.alloc(), "to be, or é not")?
+        counts(rt.alloc(), &[4, 4, 4, 9])?
     )
 }

@@ -81,4 +81,15 @@ impl<'a, T, K: PartialEq + Drop, F: FnMut(&T) -> K, W: Way> ByKeyMut<'a, T, F, K
     {
         SliceGroupsMut::with_judge(slice, KeyJudge::new(func))
     }
+
+    /// The key of an element: one call of the key function.
+    #[inline]
+    pub fn key_of(&mut self, element: &T) -> K
+        requires { TakesAt F.FnMut self.old.judge.func element.now }
+        ensures called { CalledAt F.FnMut self.old.judge.func element.now result self.new.judge.func }
+        ensures remainder { self.new.remainder ≡ self.old.remainder }
+        ensures loans { self.new.loans ≡ self.old.loans }
+    {
+        (self.judge.func)(element)
+    }
 }

@@ -23,7 +23,7 @@ use std::mem;
 #[derive(Drop)]
 pub struct SliceGroupsMut<'a, T, J, W> {
     slice: &'a mut [T],
-    judge: J,
+    pub(crate) judge: J,
     loans: Loans<T>,
     way: PhantomData<W>,
 }

@@ -21,7 +21,8 @@ use Rattle.sgb_search.specs.Split.{put_at, AreNeighbours}
 use Rattle.sgb_linear_str_group.specs.Texts.{IsTextAt}
 use Rattle.sgb_linear_str_group.specs.Copies.{outermost_byte, IsCutAtCopies}
 use Rattle.sgb_linear_str_group.proofs.LastCharacter.{ends, both}
-use Rattle.sgb_linear_str_group.proofs.Scanned.{as_they_stand, put_at_assoc, put_at_none, length-put_at, utf8-put_at, utf8_part}
+use Rattle.sgb_search.proofs.Lists.Ends.{length-put_at}
+use Rattle.sgb_linear_str_group.proofs.Scanned.{as_they_stand, put_at_assoc, put_at_none, utf8-put_at, utf8_part}
 use Rattle.sgb_linear_str_group.proofs.Scanned.{Scanned, one_scanned, one_more, found_all, refused}
 use Rattle.sgb_linear_str_group.proofs.Cuts.{cut_alike}
 

@@ -14,7 +14,7 @@ use Rattle.sgb_search.specs.declared.judge.Judge.{Ghosts}
 use Rattle.sgb_search.specs.Judges.{IsRun}
 use Rattle.sgb_search.specs.Split.{from, put_at, neighbours, AreNeighbours}
 use Rattle.sgb_search.specs.Linear.{questions}
-use Rattle.sgb_search.proofs.Lists.Ends.{length-from}
+use Rattle.sgb_search.proofs.Lists.Ends.{length-from, length-put_at}
 use Rattle.sgb_search.proofs.Questions.Runs.{may_now, may_next}
 use Rattle.sgb_search.proofs.Lists.Pairs.{PairAt, pair_between, at_reverse, one_of_at, length-neighbours}
 use Rattle.sgb_search.proofs.Linear.Scanning.{Accepted, accepted_none, accepted_more, refused_next, accepted_all}
@@ -33,10 +33,6 @@ module _ {X : Type 0} where
   pub put_at_none : (e : End) (xs : List X) → put_at e [] xs ≡ xs
   put_at_none Front xs = refl
   put_at_none Back xs = append-nil xs
-
-  pub length-put_at : (e : End) (xs ys : List X) → length (put_at e xs ys) ≡ length xs + length ys
-  length-put_at Front xs ys = length-append xs ys
-  length-put_at Back xs ys = omega (arith, length-append ys xs)
 
   -- the pair of two elements, among the pairs from the end
   module _ (e : End) (xs seen rest : List X) (a b : X) (is : xs ≡ put_at e (put_at e seen (a ∷ [])) (put_at e (b ∷ []) rest)) where

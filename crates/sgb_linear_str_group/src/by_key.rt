@@ -1,16 +1,16 @@
 //! Linear groups of a text by a key: for reading and, as bytes, for writing.
-ghost use Rattle.std.specs.Prelude.{◌≡◌, ℕ};
+ghost use Rattle.std.specs.Prelude.{◌≡◌, ℕ, ◌<◌, Some, length, slice_get};
 ghost use Rattle.std.specs.Fn.{Takes};
 ghost use Rattle.sgb_search.specs.Calls.{IsCallableBy, at_start};
 ghost use Rattle.sgb_search.specs.Split.{AreNeighbours};
-ghost use Rattle.std.specs.Str.{IsUtf8};
+ghost use Rattle.std.specs.Str.{IsUtf8, chars};
 ghost use Rattle.sgb_search.specs.Judges.{by_char_key, char_key_judge, CalledAtChar, ComputesCharKey};
 ghost use Rattle.sgb_linear_str_group.specs.Texts.{text_groups_of, text_place_of, IsSettledText, in_characters};
 ghost use Rattle.sgb_linear_str_group.specs.TextsMut.{text_groups_of_mut};
 ghost use Rattle.sgb_loans.specs.Loans.{NothingOut};
 
 use crate::groups::LinearStrGroups;
-use crate::groups_mut::LinearStrGroupsMut;
+use crate::groups_mut::{LinearStrGroupsMut, text_of};
 use sgb_search::judge::CharKeyJudge;
 
 /// An iterator over the groups of a text by a key: a question is a call of the key function on the left character, then one
@@ -93,5 +93,22 @@ impl<'a, K: PartialEq + Drop, F: FnMut(char) -> K> LinearStrGroupsMut<'a, CharKe
         ensures loans { NothingOut bytes.entry.ghost_name result.loans }
     {
         LinearStrGroupsMut::with_judge(bytes, CharKeyJudge::new(func))
+    }
+
+    /// The key of the first character of a group: one call of the key function.
+    #[inline]
+    pub fn first_key_of(&mut self, group: &[u8]) -> K
+        requires utf8 { IsUtf8 group.now }
+        requires nonempty { 0 < length (chars group.now) }
+        requires callable { F.IsAlwaysCallable self.old.judge.func }
+        ensures called { (c : ℕ) × (slice_get (chars group.now) 0 ≡ Some c)
+            × CalledAtChar F.FnMut self.old.judge.func c result self.new.judge.func }
+        ensures text { self.new.text ≡ self.old.text }
+        ensures loans { self.new.loans ≡ self.old.loans }
+    {
+        let Some(first) = text_of(group).chars().next() else {
+            unreachable!()
+        };
+        (self.judge.func)(first)
     }
 }

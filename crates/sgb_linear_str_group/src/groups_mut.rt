@@ -29,7 +29,7 @@ use std::mem;
 #[derive(Drop)]
 pub struct LinearStrGroupsMut<'a, J> {
     bytes: &'a mut [u8],
-    judge: J,
+    pub(crate) judge: J,
     loans: Loans<u8>,
 }
 
@@ -47,7 +47,7 @@ impl<'a, J> Model for LinearStrGroupsMut<'a, J> {
 
 // Bytes that are known to be UTF-8, as a text.
 #[inline]
-fn text_of(bytes: &[u8]) -> &str
+pub(crate) fn text_of(bytes: &[u8]) -> &str
     requires { IsUtf8 bytes.now }
     ensures { result.now ≡ bytes.now }
 {

@@ -10,8 +10,7 @@ ghost use Rattle.sgb_search.specs.declared.end.End.TheVariants.{Front, Back};
 ghost use Rattle.slice_group_by.specs.Dedup.{GivesCounted, counted, counted_groups, counts_to_come};
 ghost use Rattle.slice_group_by.specs.declared.dedup.DedupWithCount.{DedupWithCount};
 
-use crate::laws::queue::{GroupQueue, SliceQueue};
-use crate::offsets::Offsets;
+use crate::laws::queue::{GroupQueue, RemainderLen, SliceQueue};
 use std::iter::FusedIterator;
 use std::marker::PhantomData;
 
@@ -31,7 +30,7 @@ pub struct DedupWithCount<'a, T, Q> {
 /// }
 /// ```
 #[inline]
-pub fn dedup_with_count<'a, T: 'a, Q: Offsets + SliceQueue<'a, T>>(
+pub fn dedup_with_count<'a, T: 'a, Q: RemainderLen + SliceQueue<'a, T>>(
     groups: Q,
 ) -> DedupWithCount<'a, T, Q>
     ensures { counted_groups result ≡ groups }
@@ -44,7 +43,9 @@ pub fn dedup_with_count<'a, T: 'a, Q: Offsets + SliceQueue<'a, T>>(
 
 /// What a loop or an adapter sees of the lengths and first elements of groups that are settled for a test: those of the
 /// pieces of the split, in order, and from the back in reverse.
-pub fn sees_counts<'a, T: 'a, Q: Offsets + SliceQueue<'a, T>>(_groups: &DedupWithCount<'a, T, Q>)
+pub fn sees_counts<'a, T: 'a, Q: RemainderLen + SliceQueue<'a, T>>(
+    _groups: &DedupWithCount<'a, T, Q>,
+)
     ensures pieces { (p : T → T → Bool) (e : End) (s : DedupWithCount T Q) → Q.GroupQueue.is_settled (counted_groups s) p
         → YieldsList (GivesCounted Q.GroupQueue.gives e) (λ x. (x.0, x.1.now)) s
         (counted (from e (split p (Q.GroupQueue.remainder (counted_groups s))))) }
@@ -53,7 +54,7 @@ pub fn sees_counts<'a, T: 'a, Q: Offsets + SliceQueue<'a, T>>(_groups: &DedupWit
         → map (λ x. (x.0, x.1.now)) items ≡ counted (from e (split p (Q.GroupQueue.remainder (counted_groups s)))) }
 {}
 
-impl<'a, T: 'a, Q: Offsets + SliceQueue<'a, T> + Drop> Iterator for DedupWithCount<'a, T, Q> {
+impl<'a, T: 'a, Q: RemainderLen + SliceQueue<'a, T> + Drop> Iterator for DedupWithCount<'a, T, Q> {
     type Item = (usize, &'a T);
 
     ghost use Rattle.slice_group_by.specs.Dedup.{GivesCounted, counts_to_come};
@@ -62,7 +63,7 @@ impl<'a, T: 'a, Q: Offsets + SliceQueue<'a, T> + Drop> Iterator for DedupWithCou
 
     ghost next_gives = { GivesCounted Q.GroupQueue.gives Front };
 
-    ghost remaining = { counts_to_come Q.Offsets.left };
+    ghost remaining = { counts_to_come Q.RemainderLen.left };
 
     /// How many elements the first group of the remainder has, and its first element, or `None` where nothing remains.
     #[inline]
@@ -74,17 +75,17 @@ impl<'a, T: 'a, Q: Offsets + SliceQueue<'a, T> + Drop> Iterator for DedupWithCou
     /// No groups where nothing remains, and else at least one and at most as many as elements remain.
     #[inline]
     fn size_hint(&self) -> (usize, Option<usize>)
-        ensures value { result ≡ (if nat_eq (length (Q.Offsets.left (counted_groups self.now))) 0 then (0, Some 0)
-            else (1, Some (length (Q.Offsets.left (counted_groups self.now))))) }
-        ensures lower { IsWithinCount result.0 (counts_to_come Q.Offsets.left self.now) }
-        ensures upper { IfSome result.1 (UpTo (counts_to_come Q.Offsets.left self.now)) }
+        ensures value { result ≡ (if nat_eq (length (Q.RemainderLen.left (counted_groups self.now))) 0 then (0, Some 0)
+            else (1, Some (length (Q.RemainderLen.left (counted_groups self.now))))) }
+        ensures lower { IsWithinCount result.0 (counts_to_come Q.RemainderLen.left self.now) }
+        ensures upper { IfSome result.1 (UpTo (counts_to_come Q.RemainderLen.left self.now)) }
     {
         let len = self.groups.remainder_len();
         (len.min(1), Some(len))
     }
 }
 
-impl<'a, T: 'a, Q: Offsets + SliceQueue<'a, T> + Drop> DoubleEndedIterator
+impl<'a, T: 'a, Q: RemainderLen + SliceQueue<'a, T> + Drop> DoubleEndedIterator
     for DedupWithCount<'a, T, Q> {
     ghost use Rattle.slice_group_by.specs.Dedup.{GivesCounted};
 
@@ -100,4 +101,5 @@ impl<'a, T: 'a, Q: Offsets + SliceQueue<'a, T> + Drop> DoubleEndedIterator
     }
 }
 
-impl<'a, T: 'a, Q: Offsets + SliceQueue<'a, T> + Drop> FusedIterator for DedupWithCount<'a, T, Q> {}
+impl<'a, T: 'a, Q: RemainderLen + SliceQueue<'a, T> + Drop> FusedIterator
+    for DedupWithCount<'a, T, Q> {}

@@ -31,7 +31,7 @@ pub use dedup::{DedupWithCount, dedup_with_count};
 pub use join::MergeJoin;
 pub use keyed::{Keyed, WithKeys, with_keys};
 pub use laws::plans::{Plan, refute};
-pub use laws::queue::{End, GroupQueue, SliceQueue, SliceQueueMut, walk};
+pub use laws::queue::{End, GroupQueue, RemainderLen, SliceQueue, SliceQueueMut, walk};
 pub use laws::ranks::rank_groups;
 pub use laws::sorted::is_sorted_for_groups;
 pub use offsets::{Offsets, WithOffsets, with_offsets};

@@ -10,7 +10,7 @@ ghost use Rattle.slice_group_by.specs.declared.offsets.WithOffsets.{WithOffsets}
 ghost use Rattle.sgb_search.specs.declared.end.End.TheVariants.{Front, Back};
 ghost use Rattle.slice_group_by.specs.Offsets.{TakesUnits, GivesWithOffset, groups_under, offsets_to_come, with_offsets};
 
-use crate::laws::queue::GroupQueue;
+use crate::laws::queue::{GroupQueue, RemainderLen};
 use sgb_groups::groups::SliceGroups;
 use sgb_groups::way::Way;
 use sgb_linear_str_group::groups::LinearStrGroups;
@@ -19,27 +19,18 @@ use sgb_search::judge::Judge;
 use std::iter::FusedIterator;
 
 /// Groups that know where what remains begins in their input: by elements of a slice, and by bytes of a text.
-pub trait Offsets: GroupQueue {
-    type Unit;
-
+pub trait Offsets: RemainderLen {
     // The input, and where the remainder begins in it.
     ghost place: { Self → Place Self.Unit };
 
-    // What remains, in these units.
-    ghost left: { Self → List Self.Unit };
-
-    // A group, in these units.
+    // A group, in units of the input.
     ghost units: { Self.Item → List Self.Unit };
 
     /// Where the remainder begins in the input: how much calls at the front have handed out.
     fn offset(&self) -> usize
         ensures offset { result ≡ (place self.now).offset }
-        ensures stands { StandsAt (place self.now) (left self.now) }
-        ensures fits { result + length (left self.now) < 2 ^ 64 };
-
-    /// How much of the input no call has handed out yet.
-    fn remainder_len(&self) -> usize
-        ensures { result ≡ length (left self.now) };
+        ensures stands { StandsAt (place self.now) (Self.left self.now) }
+        ensures fits { result + length (Self.left self.now) < 2 ^ 64 };
 
     /// How long a group is.
     fn group_len(group: &Self::Item) -> usize
@@ -47,7 +38,7 @@ pub trait Offsets: GroupQueue {
 
     // A group is a nonempty part of what remains, and what remains then begins behind one that came off the front.
     ghost takes: { (e : End) (q : Self) (group : Self.Item) (t : Self) → Self.gives e q (Some group) t
-        → TakesUnits place left units e q group t };
+        → TakesUnits place Self.left units e q group t };
 }
 
 /// Groups, each with the offset at which it begins in the input: what `with_offsets` gives.
@@ -137,24 +128,15 @@ impl<Q: Offsets + Drop> DoubleEndedIterator for WithOffsets<Q> {
 }
 
 impl<'a, T, J: Judge<T> + Drop, W: Way> Offsets for SliceGroups<'a, T, J, W> {
-    type Unit = T;
-
-    ghost use Rattle.sgb_groups.specs.Gives.{groups_of, place_of};
+    ghost use Rattle.sgb_groups.specs.Gives.{place_of};
 
     ghost place = { place_of };
-
-    ghost left = { λ q. (groups_of q).remainder };
 
     ghost units = { λ group. group.now };
 
     #[inline]
     fn offset(&self) -> usize {
         SliceGroups::offset(self)
-    }
-
-    #[inline]
-    fn remainder_len(&self) -> usize {
-        SliceGroups::remainder_len(self)
     }
 
     #[inline]
@@ -166,24 +148,15 @@ impl<'a, T, J: Judge<T> + Drop, W: Way> Offsets for SliceGroups<'a, T, J, W> {
 }
 
 impl<'a, J: TextJudge + Drop> Offsets for LinearStrGroups<'a, J> {
-    type Unit = u8;
-
-    ghost use Rattle.sgb_linear_str_group.specs.Texts.{text_groups_of, text_place_of};
+    ghost use Rattle.sgb_linear_str_group.specs.Texts.{text_place_of};
 
     ghost place = { text_place_of };
-
-    ghost left = { λ q. (text_groups_of q).text };
 
     ghost units = { λ group. group.now };
 
     #[inline]
     fn offset(&self) -> usize {
         LinearStrGroups::offset(self)
-    }
-
-    #[inline]
-    fn remainder_len(&self) -> usize {
-        LinearStrGroups::remainder_len(self)
     }
 
     #[inline]

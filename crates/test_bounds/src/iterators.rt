@@ -9,9 +9,9 @@ use std::iter::FusedIterator;
 
 fn is_read<'a, T: 'a, Q: FusedIterator + SliceQueue<'a, T> + Offsets>(_groups: &Q) {}
 
-fn is_written<'a, T: 'a, Q: FusedIterator + SliceQueueMut<'a, T>>(_groups: &Q) {}
+fn is_written<'a, T: 'a, Q: FusedIterator + SliceQueueMut<'a, T> + RemainderLen>(_groups: &Q) {}
 
-fn is_queue<Q: DoubleEndedIterator + FusedIterator + GroupQueue>(_groups: &Q) {}
+fn is_queue<Q: DoubleEndedIterator + FusedIterator + RemainderLen>(_groups: &Q) {}
 
 fn is_shown<W: Debug>(_value: &W) {}
 
@@ -66,7 +66,7 @@ pub fn groups_with_keys<Q: Keyed + Drop>(groups: Q) -> WithKeys<Q> {
     with_keys(groups)
 }
 
-pub fn counted_groups<'a, T: 'a, Q: Offsets + SliceQueue<'a, T>>(
+pub fn counted_groups<'a, T: 'a, Q: RemainderLen + SliceQueue<'a, T>>(
     groups: Q,
 ) -> DedupWithCount<'a, T, Q> {
     dedup_with_count(groups)

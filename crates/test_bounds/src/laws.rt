@@ -2,7 +2,8 @@
 use slice_group_by::laws::*;
 use slice_group_by::{
     BinaryGroupBy, DedupWithCount, ExponentialGroupByKeyMut, GroupQueue, Keyed, LinearGroupBy,
-    LinearStrGroupByKeyMut, MergeJoin, MergeJoinBy, Offsets, SliceQueue, WithKeys, WithOffsets,
+    LinearStrGroupByKeyMut, MergeJoin, MergeJoinBy, Offsets, RemainderLen, SliceQueue, WithKeys,
+    WithOffsets,
 };
 use std::cmp::Ordering;
 use std::iter::Map;
@@ -107,7 +108,7 @@ pub fn of_keyed<Q: Keyed>(groups: &WithKeys<Q>) {
     sees_keys(groups);
 }
 
-pub fn of_counts<'a, T: 'a, Q: Offsets + SliceQueue<'a, T>>(groups: &DedupWithCount<'a, T, Q>) {
+pub fn of_counts<'a, T: 'a, Q: RemainderLen + SliceQueue<'a, T>>(groups: &DedupWithCount<'a, T, Q>) {
     sees_counts(groups);
 }
 

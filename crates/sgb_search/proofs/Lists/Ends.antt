@@ -1,5 +1,5 @@
 -- A list as it reads from an end, and a part at an end with the rest.
-use Rattle.std.proofs.Common.{◌≡◌, ◌+◌, List, length, length-append, refl, arith}
+use Rattle.std.proofs.Common.{◌≡◌, ◌+◌, ◌<◌, List, length, length-append, refl, ap, arith}
 use Rattle.std.specs.Prelude.{reverse, IsPermutation}
 use Rattle.std.specs.List.{AllByRecursion}
 use Rattle.std.proofs.lemmas.List.{length-reverse, reverse-reverse}
@@ -17,6 +17,9 @@ module _ {X : Type 0} where
   pub length-put_at : (e : End) (part rest : List X) → length (put_at e part rest) ≡ length part + length rest
   length-put_at Front part rest = length-append part rest
   length-put_at Back part rest = omega (arith, length-append rest part)
+
+  pub less_remains : (e : End) (part rest xs : List X) → 0 < length part → xs ≡ put_at e part rest → length rest < length xs
+  less_remains e part rest xs some is = omega (arith, some, ap length is, length-put_at e part rest)
 
   pub all_from : (P : X → Type 0) (e : End) (xs : List X) → AllByRecursion P xs → AllByRecursion P (from e xs)
   all_from P Front xs h = h

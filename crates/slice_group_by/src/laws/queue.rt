@@ -1,6 +1,6 @@
 //! Groups as a two-ended queue, and a walk over it.
 ghost use Rattle.std.specs.Borrow.{Bor, MutBor};
-ghost use Rattle.std.specs.Prelude.{◌≡◌, ℕ, ◌+◌, Bool, List, ◌++◌, length, Option, None, map, option_map, reverse, ⊤};
+ghost use Rattle.std.specs.Prelude.{◌≡◌, ℕ, ◌+◌, ◌<◌, Bool, List, ◌++◌, length, Option, None, Some, map, option_map, reverse, ⊤};
 ghost use Rattle.sgb_search.specs.Split.{TakesPart, split, TakesPiece};
 ghost use Rattle.sgb_search.specs.Judges.{AsksWithin};
 ghost use Rattle.sgb_search.specs.declared.end.End.{End};
@@ -80,6 +80,22 @@ pub trait GroupQueue {
 
     ghost asks_due: { (e : End) (q : Self) (group : Option Self.Item) (t : Self) → gives e q group t
         → AsksWithin asked due exact q t };
+}
+
+/// A queue that knows how much remains: elements of a slice, bytes of a text.
+pub trait RemainderLen: GroupQueue {
+    type Unit;
+
+    // What remains, in these units.
+    ghost left: { Self → List Self.Unit };
+
+    /// How much of the input no call has handed out yet.
+    fn remainder_len(&self) -> usize
+        ensures { result ≡ length (left self.now) };
+
+    // A group takes some of it.
+    ghost fewer: { (e : End) (q : Self) (group : Self.Item) (t : Self) → Self.gives e q (Some group) t
+        → length (left t) < length (left q) };
 }
 
 /// A queue whose groups are slices: what a group shows is what it holds.

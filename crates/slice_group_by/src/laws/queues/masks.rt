@@ -2,7 +2,7 @@
 ghost use Rattle.std.specs.Prelude.{refl};
 
 use crate::laws::judged::Judged;
-use crate::laws::queue::{GroupQueue, SliceQueue};
+use crate::laws::queue::{GroupQueue, RemainderLen, SliceQueue};
 use crate::offsets::Offsets;
 use sgb_linear_group::linear_group::Linear;
 use sgb_number_group::groups::MaskGroups;
@@ -79,25 +79,32 @@ impl<'a, T, J: MaskJudge<T> + Drop> Judged<T, J, Linear> for MaskGroups<'a, T, J
     ghost call = { call J.Judge };
 }
 
-impl<'a, T, J: MaskJudge<T> + Drop> Offsets for MaskGroups<'a, T, J> {
+impl<'a, T, J: MaskJudge<T> + Drop> RemainderLen for MaskGroups<'a, T, J> {
     type Unit = T;
 
-    ghost use Rattle.sgb_number_group.specs.Gives.{groups_of, place_of};
-
-    ghost place = { place_of };
+    ghost use Rattle.sgb_number_group.specs.Gives.{groups_of};
+    ghost use Rattle.sgb_search.proofs.Lists.Ends.{less_remains};
 
     ghost left = { λ q. (groups_of q).remainder };
+
+    #[inline]
+    fn remainder_len(&self) -> usize {
+        MaskGroups::remainder_len(self)
+    }
+
+    ghost fewer = { λ e q group t h. less_remains e group.now (groups_of t).remainder _ h.call.nonempty h.call.cut };
+}
+
+impl<'a, T, J: MaskJudge<T> + Drop> Offsets for MaskGroups<'a, T, J> {
+    ghost use Rattle.sgb_number_group.specs.Gives.{place_of};
+
+    ghost place = { place_of };
 
     ghost units = { λ group. group.now };
 
     #[inline]
     fn offset(&self) -> usize {
         MaskGroups::offset(self)
-    }
-
-    #[inline]
-    fn remainder_len(&self) -> usize {
-        MaskGroups::remainder_len(self)
     }
 
     #[inline]

@@ -2,7 +2,7 @@
 ghost use Rattle.std.specs.Prelude.{refl};
 
 use crate::laws::judged::{Judged, Lends};
-use crate::laws::queue::{GroupQueue, SliceQueue, SliceQueueMut};
+use crate::laws::queue::{GroupQueue, RemainderLen, SliceQueue, SliceQueueMut};
 use sgb_groups::groups::SliceGroups;
 use sgb_groups::groups_mut::SliceGroupsMut;
 use sgb_groups::way::Way;
@@ -65,6 +65,22 @@ impl<'a, T, J: Judge<T> + Drop, W: Way> GroupQueue for SliceGroups<'a, T, J, W> 
     ghost asks_due = { λ e s group t h. asks_seen _ _ _ groups_of s t
         (W.asks_due T J J.Judge e (groups_of s) (option_copied group) (groups_of t)
         (call (W.asks T J J.Judge) e s group t h)) };
+}
+
+impl<'a, T, J: Judge<T> + Drop, W: Way> RemainderLen for SliceGroups<'a, T, J, W> {
+    type Unit = T;
+
+    ghost use Rattle.sgb_search.proofs.Lists.Ends.{less_remains};
+    ghost use Rattle.sgb_groups.specs.Gives.{groups_of};
+
+    ghost left = { λ q. (groups_of q).remainder };
+
+    #[inline]
+    fn remainder_len(&self) -> usize {
+        SliceGroups::remainder_len(self)
+    }
+
+    ghost fewer = { λ e q group t h. less_remains e group.now ((groups_of t).remainder) _ h.call.nonempty h.call.cut };
 }
 
 impl<'a, T: 'a, J: Judge<T> + Drop, W: Way> SliceQueue<'a, T> for SliceGroups<'a, T, J, W> {
@@ -133,6 +149,21 @@ impl<'a, T, J: Judge<T> + Drop, W: Way> GroupQueue for SliceGroupsMut<'a, T, J, 
 
     ghost asks_due = { λ e s group t h. asks_seen _ _ _ groups_of_mut s t
         (W.asks_due T J J.Judge e (groups_of_mut s) (option_copied_mut group) (groups_of_mut t) h.0) };
+}
+
+impl<'a, T, J: Judge<T> + Drop, W: Way> RemainderLen for SliceGroupsMut<'a, T, J, W> {
+    type Unit = T;
+
+    ghost use Rattle.sgb_search.proofs.Lists.Ends.{less_remains};
+
+    ghost left = { λ q. q.remainder };
+
+    #[inline]
+    fn remainder_len(&self) -> usize {
+        SliceGroupsMut::remainder_len(self)
+    }
+
+    ghost fewer = { λ e q group t h. less_remains e group.now (t.remainder) _ h.0.nonempty h.0.cut };
 }
 
 impl<'a, T: 'a, J: Judge<T> + Drop, W: Way> SliceQueueMut<'a, T> for SliceGroupsMut<'a, T, J, W> {

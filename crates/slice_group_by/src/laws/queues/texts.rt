@@ -1,6 +1,6 @@
 //! The groups of a text as queues.
 use crate::laws::judged::{Judged, Lends, OfText};
-use crate::laws::queue::GroupQueue;
+use crate::laws::queue::{GroupQueue, RemainderLen};
 use sgb_linear_group::linear_group::Linear;
 use sgb_linear_str_group::groups::LinearStrGroups;
 use sgb_linear_str_group::groups_mut::LinearStrGroupsMut;
@@ -63,6 +63,22 @@ impl<'a, J: TextJudge + Drop> GroupQueue for LinearStrGroups<'a, J> {
 
     ghost asks_due = { λ e q r t h. laws.asks J.Judge e text_groups_of (λ group. group.now) q r t
         (laws.call J.Judge e q r t h) };
+}
+
+impl<'a, J: TextJudge + Drop> RemainderLen for LinearStrGroups<'a, J> {
+    type Unit = u8;
+
+    ghost use Rattle.sgb_search.proofs.Lists.Ends.{less_remains};
+    ghost use Rattle.sgb_linear_str_group.specs.Texts.{text_groups_of};
+
+    ghost left = { λ q. (text_groups_of q).text };
+
+    #[inline]
+    fn remainder_len(&self) -> usize {
+        LinearStrGroups::remainder_len(self)
+    }
+
+    ghost fewer = { λ e q group t h. less_remains e group.now ((text_groups_of t).text) _ h.call.nonempty h.call.cut };
 }
 
 impl<'a, J: TextJudge + Drop> Judged<char, J, Linear> for LinearStrGroups<'a, J> {
@@ -145,6 +161,21 @@ impl<'a, J: TextJudge + Drop> GroupQueue for LinearStrGroupsMut<'a, J> {
     ghost asked_more = { λ q r t. run_of_more J.may_ask J.answers q.judge r.judge t.judge };
 
     ghost asks_due = { λ e q r t h. laws.asks J.Judge e text_groups_of_mut (λ group. group.now) q r t h.0 };
+}
+
+impl<'a, J: TextJudge + Drop> RemainderLen for LinearStrGroupsMut<'a, J> {
+    type Unit = u8;
+
+    ghost use Rattle.sgb_search.proofs.Lists.Ends.{less_remains};
+
+    ghost left = { λ q. q.text };
+
+    #[inline]
+    fn remainder_len(&self) -> usize {
+        LinearStrGroupsMut::remainder_len(self)
+    }
+
+    ghost fewer = { λ e q group t h. less_remains e group.now (t.text) _ h.0.nonempty h.0.cut };
 }
 
 impl<'a, J: TextJudge + Drop> Judged<char, J, Linear> for LinearStrGroupsMut<'a, J> {

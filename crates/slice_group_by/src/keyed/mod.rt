@@ -1,5 +1,5 @@
 //! Groups by a key, with their keys.
-ghost use Rattle.std.specs.Prelude.{◌≡◌, ◌≢◌, [], Bool, List, length, map, nat_eq, slice_get, Option, Some, IfSome};
+ghost use Rattle.std.specs.Prelude.{◌≡◌, Bool, List, length, map, nat_eq, slice_get, Option, Some, IfSome};
 ghost use Rattle.std.specs.Prelude.{if◌then◌else◌, option_map};
 ghost use Rattle.std.specs.Iterator.{Drains, UpTo};
 ghost use Rattle.std.specs.Iterator.SizeHint.{IsWithinCount};
@@ -10,16 +10,14 @@ ghost use Rattle.sgb_search.specs.declared.end.End.TheVariants.{Front, Back};
 ghost use Rattle.slice_group_by.specs.Keyed.{GivesWithKey, groups_within, keyed, keys_to_come};
 ghost use Rattle.slice_group_by.specs.declared.keyed.WithKeys.{WithKeys};
 
-use crate::laws::queue::GroupQueue;
-use crate::offsets::Offsets;
-use sgb_groups::groups::SliceGroups;
-use sgb_groups::way::Way;
-use sgb_linear_str_group::groups::LinearStrGroups;
-use sgb_search::judge::{CharKeyJudge, KeyJudge};
+use crate::laws::queue::{GroupQueue, RemainderLen};
 use std::iter::FusedIterator;
 
+mod slices;
+mod texts;
+
 /// Groups by a key that can be asked for the key of a group.
-pub trait Keyed: Offsets {
+pub trait Keyed: RemainderLen {
     type Key;
 
     // The key function may be called on any element, in every state that its calls lead to.
@@ -27,6 +25,9 @@ pub trait Keyed: Offsets {
 
     // It computes this key, and the groups are the pieces of what remains for equality of keys.
     ghost is_keyed: { Self → (Self.Element → Self.Key) → Type 0 };
+
+    // It is not empty, and of a text it is UTF-8: so are the groups that calls give.
+    ghost has_key: { Self.Item → Type 0 };
 
     // Whether two keys are equal.
     ghost same_key: { Self.Key → Self.Key → Bool };
@@ -37,13 +38,16 @@ pub trait Keyed: Offsets {
 
     /// The key of a group: one call of the key function, on its first element.
     fn first_key(&mut self, group: &Self::Item) -> Self::Key
-        requires nonempty { Self.shows group.now ≢ [] }
+        requires has_key { has_key group.now }
         requires callable { key_callable self.old }
         ensures calls { calls_key self.old group.now result self.new }
         ensures callable { key_callable self.new };
 
     // So groups may be asked for, and then the key function may be called still.
     ghost may_pop: { (q : Self) → key_callable q → Self.can_pop q };
+
+    ghost pop_has_key: { (e : End) (q : Self) (group : Self.Item) (t : Self) → Self.gives e q (Some group) t
+        → has_key group };
 
     ghost pop_callable: { (e : End) (q : Self) (group : Option Self.Item) (t : Self) → Self.gives e q group t
         → key_callable q → key_callable t };
@@ -74,6 +78,9 @@ pub struct WithKeys<Q> {
 /// Each call asks what a call on the groups asks, and then calls the key function once more, on the first element of
 /// the group. The key function must be callable on every element, in whatever state earlier calls left it; a closure
 /// whose body may run on all elements needs no proof.
+///
+/// What a slice ends as that was written so is not known. Where it is wanted, keep the groups, call `first_key` of each,
+/// and take note of it.
 ///
 /// ```
 /// for (key, group) in with_keys(LinearGroupByKey::new(&[10, 11, 20, 21, 22], |x| *x / 10)) {
@@ -152,109 +159,3 @@ impl<Q: Keyed + Drop> DoubleEndedIterator for WithKeys<Q> {
 }
 
 impl<Q: Keyed + Drop> FusedIterator for WithKeys<Q> {}
-
-impl<'a, T, F: FnMut(&T) -> K, K: PartialEq + Drop, W: Way> Keyed
-    for SliceGroups<'a, T, KeyJudge<F, K>, W> {
-    type Key = K;
-
-    ghost use Rattle.std.specs.Prelude.{option_copied};
-    ghost use Rattle.std.specs.Fn.{CalledAt, ComputesKey};
-    ghost use Rattle.std.proofs.Common.{sym, subst};
-    ghost use Rattle.sgb_groups.specs.Gives.{groups_of, place_of};
-    ghost use Rattle.sgb_groups.proofs.Cuts.{call};
-    ghost use Rattle.sgb_search.specs.Judges.{by_key};
-    ghost use Rattle.sgb_search.specs.declared.judge.KeyJudge.{KeyJudge};
-    ghost use Rattle.sgb_search.proofs.Questions.Closures as closures;
-    ghost use Rattle.slice_group_by.specs.Keyed.{CallsAtFirst};
-
-    ghost key_callable = { λ q. F.IsAlwaysCallable q.judge.func };
-
-    ghost is_keyed = { λ q key. ComputesKey F.FnMut key q.judge.func
-        × W.fits T (λ x y. K.eq (key x) (key y)) (groups_of q).remainder };
-
-    ghost same_key = { K.eq };
-
-    ghost calls_key = { λ q group k t. CallsAtFirst (CalledAt F.FnMut) q.judge.func group.now k t.judge.func
-        × ((groups_of t).remainder ≡ (groups_of q).remainder) × (place_of t ≡ place_of q) };
-
-    #[inline]
-    fn first_key(&mut self, group: &&'a [T]) -> K {
-        self.key_of(&group[0])
-    }
-
-    ghost may_pop = { λ q callable. closures.key_callable F.FnMut K.eq (W.allowed T (groups_of q).remainder) q.judge.func callable };
-
-    ghost pop_callable = { λ e q group t h. closures.key_callable_after F.FnMut K.eq q.judge _ t.judge
-        (W.asks_due T (KeyJudge F K) (by_key F.FnMut K.eq) e (groups_of q) (option_copied group) (groups_of t)
-        (call (W.asks T (KeyJudge F K) (by_key F.FnMut K.eq)) e q group t h)).asks };
-
-    ghost call_leaves = { λ q group k t h. (h.1, h.1) };
-
-    ghost pop_keyed = { λ e q group t key h by.
-        let taken = call (W.asks T (KeyJudge F K) (by_key F.FnMut K.eq)) e q group t h in
-        let piece = W.piece T (KeyJudge F K) (by_key F.FnMut K.eq) e (groups_of q) (option_copied group) (groups_of t)
-        (λ x y. K.eq (key x) (key y)) taken (W.settled_if_fits T (KeyJudge F K) (by_key F.FnMut K.eq) (groups_of q)
-        (λ x y. K.eq (key x) (key y)) (closures.key_settled F.FnMut K.eq key (W.allowed T (groups_of q).remainder) q.judge.func by.0)
-        by.1) in (
-          piece.0,
-          (
-            closures.key_computes_after F.FnMut K.eq key q.judge _ t.judge
-                (W.asks_due T (KeyJudge F K) (by_key F.FnMut K.eq) e (groups_of q) (option_copied group) (groups_of t) taken).asks by.0,
-            W.fits_if_settled T (KeyJudge F K) (by_key F.FnMut K.eq) (groups_of t) (λ x y. K.eq (key x) (key y)) piece.1,
-          ),
-        ) };
-
-    ghost call_keyed = { λ q group k t key h by.
-        let called = closures.key_next F.FnMut K.eq key q.judge.func h.0.0 k t.judge.func by.0 h.0.2 in
-        ((h.0.0, h.0.1, called.0), (called.1, subst (λ xs. W.fits T (λ x y. K.eq (key x) (key y)) xs) (sym h.1) by.1)) };
-}
-
-impl<'a, F: FnMut(char) -> K, K: PartialEq + Drop> Keyed
-    for LinearStrGroups<'a, CharKeyJudge<F, K>> {
-    type Key = K;
-
-    ghost use Rattle.std.specs.Str.{chars};
-    ghost use Rattle.std.proofs.Common.{ap};
-    ghost use Rattle.sgb_search.specs.Judges.{by_char_key, CalledAtChar, ComputesCharKey};
-    ghost use Rattle.sgb_search.proofs.Questions.Closures as closures;
-    ghost use Rattle.sgb_linear_str_group.specs.Texts.{text_groups_of, text_place_of};
-    ghost use Rattle.sgb_linear_str_group.proofs.Queue as queue;
-    ghost use Rattle.slice_group_by.specs.Keyed.{CallsAtFirst};
-
-    ghost key_callable = { λ q. F.IsAlwaysCallable q.judge.func };
-
-    ghost is_keyed = { λ q key. ComputesCharKey F.FnMut key q.judge.func };
-
-    ghost same_key = { K.eq };
-
-    ghost calls_key = { λ q group k t. CallsAtFirst (CalledAtChar F.FnMut) q.judge.func (chars group.now) k t.judge.func
-        × ((text_groups_of t).text ≡ (text_groups_of q).text) × (text_place_of t ≡ text_place_of q) };
-
-    #[inline]
-    fn first_key(&mut self, group: &&'a str) -> K {
-        let Some(first) = group.chars().next() else {
-            unreachable!()
-        };
-        self.key_of(first)
-    }
-
-    ghost may_pop = { λ q callable. closures.char_key_callable F.FnMut K.eq (chars (text_groups_of q).text) q.judge.func callable };
-
-    ghost pop_callable = { λ e q group t h. closures.char_key_callable_after F.FnMut K.eq q.judge _ t.judge
-        (queue.asks (by_char_key F.FnMut K.eq) e text_groups_of (λ x. x.now) q group t
-        (queue.call (by_char_key F.FnMut K.eq) e q group t h)).asks };
-
-    ghost call_leaves = { λ q group k t h. (h.1, ap chars h.1) };
-
-    ghost pop_keyed = { λ e q group t key h by.
-        let taken = queue.call (by_char_key F.FnMut K.eq) e q group t h in (
-          (queue.piece (by_char_key F.FnMut K.eq) e text_groups_of (λ x. x.now) q group t taken (λ x y. K.eq (key x) (key y))
-              (closures.char_key_settled F.FnMut K.eq key (chars (text_groups_of q).text) q.judge.func by)).0,
-          closures.char_key_computes_after F.FnMut K.eq key q.judge _ t.judge
-              (queue.asks (by_char_key F.FnMut K.eq) e text_groups_of (λ x. x.now) q group t taken).asks by,
-        ) };
-
-    ghost call_keyed = { λ q group k t key h by.
-        let called = closures.char_key_next F.FnMut K.eq key q.judge.func h.0.0 k t.judge.func by h.0.2 in
-        ((h.0.0, h.0.1, called.0), called.1) };
-}
