@@ -1,6 +1,6 @@
 //! What the pieces of a slice share with the slice: as many as `dedup` leaves, and the same from a descending slice by halving.
 ghost use Rattle.std.specs.Prelude.{◌≡◌, count_by, length, map, nat_eq, IfOk, IfSome, IsSome};
-ghost use Rattle.std.specs.List.{All, dedup};
+ghost use Rattle.std.specs.List.{dedup, filter};
 ghost use Rattle.std.specs.List.Sorted.{IsStrictlySortedBy};
 ghost use Rattle.std.specs.Ordering.{flip_args, nat_cmp};
 ghost use Rattle.slice_group_by.specs.Search.{NeverDescends};
@@ -11,9 +11,9 @@ ghost use Rattle.example_counts.specs.Keys.{by_key, key, same_key};
 use crate::joins::{Entry, count_common_keys};
 use slice_group_by::laws::{
     chunk_by_agrees, descending_is_grouped, pieces_are_filters, pieces_begin_as_dedup,
-    pieces_by_key, sees_pieces, sorted_by_key_ascends,
+    pieces_by_key, sees_keys, sees_pieces, sorted_by_key_ascends,
 };
-use slice_group_by::{BinaryGroup, LinearGroup, LinearGroupByKey};
+use slice_group_by::{BinaryGroup, LinearGroup, LinearGroupByKey, with_keys};
 use std::alloc::{AllocError, Global};
 
 /// How many elements `dedup` would leave of the slice.
@@ -49,20 +49,16 @@ pub fn count_descending(xs: &[u32]) -> usize
     groups.count()
 }
 
-/// Each key of rows that ascend by it, with how many of all rows have it.
+/// Each key of rows that ascend by it, once and in order, with how many of all rows have it.
 pub fn rows_by_key(alloc: Global, rows: &[Entry]) -> Result<Vec<(u32, usize)>, AllocError>
     requires { NeverDescends nat_cmp (map key rows.now) }
-    ensures { IfOk result
-        (λ counts. All (λ e. e.1 ≡ count_by (λ row. nat_eq (key row) e.0) rows.now) counts.items) }
+    ensures { IfOk result (λ counts. counts.items
+        ≡ map (λ k. (k, length (filter (λ row. nat_eq (key row) k) rows.now))) (dedup nat_eq (map key rows.now))) }
 {
     pieces_are_filters::<Entry, u32>();
-    let groups = LinearGroupByKey::new(rows, |e: &Entry| e.0);
-    sees_pieces(&groups);
-    let mut counts = Vec::new(alloc);
-    for group in groups {
-        counts.push((group[0].0, group.len()))?;
-    }
-    Ok(counts)
+    let groups = with_keys(LinearGroupByKey::new(rows, |e: &Entry| e.0));
+    sees_keys(&groups);
+    groups.map(|(key, group)| (key, group.len())).collect(alloc)
 }
 
 /// The key of each group of rows that ascend by their keys, in a vector: those of the rows that `dedup` by the keys leaves, each

@@ -1,9 +1,10 @@
 //! What a loop over groups keeps: a count, a total, and one of the groups.
-ghost use Rattle.std.specs.Prelude.{◌≡◌, [], length, nat_eq, sum_by, IfSome, MatchOption};
+ghost use Rattle.std.specs.Prelude.{◌≡◌, ◌≤◌, [], length, nat_eq, sum_by, IfSome, MatchOption};
+ghost use Rattle.std.specs.List.{AllByRecursion, Contains};
+ghost use Rattle.slice_group_by.specs.Offsets.{with_offsets};
 ghost use Rattle.slice_group_by.specs.Split.{split};
-ghost use Rattle.example_walks.specs.LongGroups.{IsFirstLongest};
 
-use slice_group_by::laws::{calls_take_pieces, one_split, pieces_add_up, sees_pieces};
+use slice_group_by::laws::{calls_take_pieces, groups_stand, pieces_add_up, sees_pieces};
 use slice_group_by::{LinearGroup, with_offsets};
 
 /// How many groups there are, one call after another from the back.
@@ -44,20 +45,14 @@ fn sum(group: &[u32]) -> Option<u64>
     Some(sum)
 }
 
-/// The longest group, the first of several, and the row at which it begins, or `None` where there is none.
+/// The longest group, the last of several, and the row at which it begins, or `None` where there is none.
 pub fn longest_with_row<T: PartialEq>(slice: &[T]) -> Option<(usize, &[T])>
-    ensures { MatchOption result (slice.now ≡ [])
-        (λ found. IsFirstLongest found.0 found.1.now (split T.eq slice.now)) }
+    ensures { let groups = with_offsets 0 (split T.eq slice.now) in MatchOption result (groups ≡ [])
+        (λ found. Contains groups (found.0, found.1.now)
+        × AllByRecursion (λ other. length other.1 ≤ length found.1.now) groups) }
 {
     let groups = with_offsets(LinearGroup::new(slice));
     sees_pieces(&groups);
-    one_split::<T>();
-    let mut longest: Option<(usize, &[T])> = None;
-    for (row, group) in groups {
-        match longest {
-            Some((_, best)) if group.len() <= best.len() => {}
-            _ => longest = Some((row, group)),
-        }
-    }
-    longest
+    groups_stand(&groups);
+    groups.max_by_key(|found| found.1.len())
 }

@@ -8,3 +8,4 @@ pub mod Offsets
 pub mod Keyed
 pub mod Dedup
 pub mod Chunks
+pub mod Greatest

@@ -4,6 +4,7 @@ use Rattle.std.proofs.Common.{refl, sym, ap, ◌∙◌, subst, length-append, ar
 use Rattle.std.proofs.lemmas.List.{append-nil}
 use Rattle.std.proofs.lemmas.List.Elements.{filter-append}
 use Rattle.std.proofs.lemmas.List.{length-map}
+use Rattle.std.proofs.lemmas.Simd.{map-map}
 use Rattle.std.proofs.lemmas.List.Sums.{sum_by-cons, sum_by-append}
 use Rattle.std.specs.List.{AllByRecursion, Contains, dedup, dedup_from, filter}
 use Rattle.std.specs.List.Sorted.{IsStrictlySortedBy}
@@ -14,10 +15,11 @@ use Rattle.std.specs.declared.cmp.Ordering.TheVariants.{Less, Equal}
 use Rattle.sgb_search.specs.Search.{NeverDescends}
 use Rattle.sgb_search.specs.Split.{IsAccepted, concat, first, without_first, put_before, split}
 use Rattle.sgb_search.proofs.Lists.AllByRecursion.{all_contains, all_each}
-use Rattle.sgb_search.proofs.Lists.Contained.{contains_cases}
+use Rattle.sgb_search.proofs.Lists.Contained.{contains_cases, contains_head, contains_tail}
 use Rattle.sgb_search.proofs.Lists.Filters.{keeps_all, keeps_none}
 use Rattle.sgb_search.proofs.Lists.Order.{equal_if_tied, turned_around}
 use Rattle.sgb_search.proofs.Splits.Split.{split_is}
+use Rattle.slice_group_by.specs.Keyed.{keyed}
 use Rattle.slice_group_by.proofs.Joins.FirstGroups.{IsAbove, Ascends, split_ascends}
 use Rattle.slice_group_by.proofs.Joins.JoinPairs.{EachLater, IsUniform, compared_alike, split_uniform}
 
@@ -208,6 +210,44 @@ module _ {K : Type 0} (cmp : K → K → Ordering) (o : IsTotalOrder cmp) (eq : 
   piece_filter xs g x h c d =
       sym (kept (split same xs) (split_uniform cmp o eq ties key xs) (pieces_climb xs h) g x c d)
       ∙ ap (filter (λ y. same y x)) (split_is same xs).covers
+
+  -- lists that are filters by the keys of their elements, each with its key
+  with_keys : (xs : List T) (gs : List (List T)) (ys : List T) → map first gs ≡ map Some ys
+      → ((g : List T) (x : T) → Contains gs g → Contains g x → g ≡ filter (λ y. same y x) xs)
+      → keyed key gs ≡ map (λ y. (key y, filter (λ z. same z y) xs)) ys
+  with_keys xs [] [] h each = refl
+  with_keys xs [] (y ∷ ys) h each = absurd (cc h)
+  with_keys xs ([] ∷ gs) [] h each = absurd (cc h)
+  with_keys xs ([] ∷ gs) (y ∷ ys) h each = absurd (cc h)
+  with_keys xs ((x ∷ g) ∷ gs) [] h each = absurd (cc h)
+  with_keys xs ((x ∷ g) ∷ gs) (y ∷ ys) h each =
+      let head : x ≡ y = cc h in
+      let tail : map first gs ≡ map Some ys = cc h in
+      let here = each (x ∷ g) x (contains_head (x ∷ g) gs) (contains_head x g) in
+      (λ i. (key x, here i) ∷ with_keys xs gs ys tail (λ k z c. each k z (contains_tail (x ∷ g) gs k c)) i)
+      ∙ ap (λ z. (key z, filter (λ w. same w z) xs) ∷ map (λ y. (key y, filter (λ z. same z y) xs)) ys) head
+
+  keys_from : (x : T) (xs : List T) → map key (dedup_from same x xs) ≡ dedup_from eq (key x) (map key xs)
+  keys_from x [] = refl
+  keys_from x (y ∷ ys) = by (same y x) (keys_from x ys) (keys_from y ys)
+    where
+      by : (b : Bool) → map key (dedup_from same x ys) ≡ dedup_from eq (key x) (map key ys)
+          → map key (dedup_from same y ys) ≡ dedup_from eq (key y) (map key ys)
+          → map key (cond b (dedup_from same x ys) (x ∷ dedup_from same y ys))
+          ≡ cond b (dedup_from eq (key x) (map key ys)) (key x ∷ dedup_from eq (key y) (map key ys))
+      by true one other = one
+      by false one other = ap (λ ks. key x ∷ ks) other
+
+  keys_once : (xs : List T) → map key (dedup same xs) ≡ dedup eq (map key xs)
+  keys_once [] = refl
+  keys_once (x ∷ xs) = keys_from x xs
+
+  pub keyed_filters : IsPartialEquivalence eq → (xs : List T) → NeverDescends cmp (map key xs)
+      → keyed key (split same xs) ≡ map (λ k. (k, filter (λ y. eq (key y) k) xs)) (dedup eq (map key xs))
+  keyed_filters per xs h =
+      with_keys xs (split same xs) (dedup same xs) (firsts same (by_keys eq per key) xs) (λ g x. piece_filter xs g x h)
+      ∙ sym (map-map (λ k. (k, filter (λ y. eq (key y) k) xs)) key (dedup same xs))
+      ∙ ap (map (λ k. (k, filter (λ y. eq (key y) k) xs))) (keys_once xs)
 
   -- the keys of the first elements ascend as the pieces do
   heads_above : (k : K) (gs : List (List T)) (ys : List T) → map first gs ≡ map Some ys → AllByRecursion (IsAbove cmp key k) gs

@@ -5,6 +5,7 @@ ghost use Rattle.std.specs.List.Sorted.{IsStrictlySortedBy};
 ghost use Rattle.std.specs.declared.cmp.Ordering.TheVariants.{Less};
 ghost use Rattle.sgb_search.specs.Search.{NeverDescends};
 ghost use Rattle.sgb_search.specs.Split.{first, split};
+ghost use Rattle.slice_group_by.specs.Keyed.{keyed};
 
 /// The elements of a piece by keys have one key. In a list that ascends by that key the pieces ascend strictly: each element of
 /// a piece has a lesser key than each of a later one, so that no key has two pieces; and the keys of their first elements, which
@@ -21,10 +22,14 @@ pub fn pieces_by_key<T, K: Ord>()
 {}
 
 /// In a list that ascends by a key, a piece holds all elements of its key: a filter of the list by the key of any of its elements
-/// gives the piece.
+/// gives the piece (`each`). The pieces with their keys, as `sees_keys` has them, are then the keys in order, each once, and with
+/// each all elements that have it (`keyed`).
 pub fn pieces_are_filters<T, K: Ord>()
-    ensures { (key : T → K) (xs g : List T) (x : T) → NeverDescends K.cmp (map key xs)
+    ensures each { (key : T → K) (xs g : List T) (x : T) → NeverDescends K.cmp (map key xs)
         → Contains (split (λ a b. K.eq (key a) (key b)) xs) g → Contains g x → g ≡ filter (λ y. K.eq (key y) (key x)) xs }
+    ensures keyed { (key : T → K) (xs : List T) → NeverDescends K.cmp (map key xs)
+        → keyed key (split (λ a b. K.eq (key a) (key b)) xs)
+        ≡ map (λ k. (k, filter (λ y. K.eq (key y) k) xs)) (dedup K.eq (map key xs)) }
 {}
 
 /// A piece by a test that accepts equal elements alone is its first element, so many times.

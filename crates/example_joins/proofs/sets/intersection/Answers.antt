@@ -8,7 +8,7 @@ use Rattle.example_joins.proofs.sets.intersection.Goals as goal
 
 pub returns : goal.returns
 returns c =
-    let seen = c.sees_merge_in_order.ensures _ _ _ _ c.new-join.ensures.sides (c.unions_ascend.ensures.never _ c.requires.left)
+    let seen = c.sees_merge_in_order.ensures.merge _ _ _ _ c.new-join.ensures.sides (c.unions_ascend.ensures.never _ c.requires.left)
     (c.unions_ascend.ensures.never _ c.requires.right) (always_returns_same _ _ _ (λ a r f' k. search rules)) in
     subst (λ l. IfOk c.collect.result (λ v. v.items ≡ l)) seen.3 (items_from_collect _ c.collect.ensures.ran
     (YieldsList-from_copied (YieldsList-at c.copied.ensures.source

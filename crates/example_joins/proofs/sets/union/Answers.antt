@@ -19,7 +19,7 @@ seen : (c : goal.After-collect) → (ps : List (EitherOrBoth (List ℕ) (List �
 seen c =
     let left = c.args.left.now in
     let right = c.args.right.now in
-    let k = c.sees_merge_in_order.ensures c.new-join.result left right _ c.new-join.ensures.sides
+    let k = c.sees_merge_in_order.ensures.merge c.new-join.result left right _ c.new-join.ensures.sides
     (c.unions_ascend.ensures.never left c.requires.left) (c.unions_ascend.ensures.never right c.requires.right)
     (always_returns_same _ _ _ (λ a r f' k. search rules)) in (
       k.0,
