@@ -6,7 +6,7 @@ use Rattle.std.specs.Borrow.{Bor}
 use Rattle.sgb_search.specs.declared.end.End.{End}
 use Rattle.sgb_search.specs.declared.end.End.TheVariants.{Front, Back}
 use Rattle.sgb_search.specs.Calls.{CallAt, IsGroupAt, between, place_after}
-use Rattle.sgb_search.proofs.Lists.Between.{between_places, places_between}
+use Rattle.sgb_search.proofs.Lists.Between.{between_places}
 use Rattle.sgb_search.proofs.Lists.Places.{from_low, moved}
 use Rattle.sgb_search.proofs.Lists.Ranges.{length-range}
 use Rattle.sgb_groups.specs.declared.groups.SliceGroups.{SliceGroups}
@@ -32,14 +32,6 @@ pub part_is : {T : Type 0} (xs : List T) (low high : ℕ) → low ≤ high → h
 part_is xs low high order inside =
     between_places (lies_within xs) xs low high
     (record { order = order; low_is = within_place xs low (omega arith); high_is = within_place xs high inside })
-
--- where it has an element, its places lie so
-pub order_of_part : {T : Type 0} (xs : List T) (low high : ℕ) → 0 < length (between (lies_within xs) xs low high)
-    → (low < high) × (high ≤ length xs)
-order_of_part xs low high more =
-    let places = places_between (lies_within xs) xs low high more in
-    let inside = place_within xs high places.high_is in
-    (omega (arith, more, ap length (part_is xs low high places.order inside), length-range xs low high places.order inside), inside)
 
 -- a group of n elements at the front of such a part leaves the place behind it
 pub moved_behind : {T : Type 0} (xs : List T) (low high n : ℕ) → high ≤ length xs → low + n ≤ high

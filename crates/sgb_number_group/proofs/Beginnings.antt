@@ -5,7 +5,6 @@ use Rattle.std.proofs.Common.{Option, None, Some}
 use Rattle.std.specs.Prelude.{count_by}
 use Rattle.std.specs.Int.RustNames.{count_ones}
 use Rattle.std.specs.Simd.Lanes.{zip2, chunk, mask_l}
-use Rattle.std.proofs.lemmas.List.{take_more}
 use Rattle.std.proofs.lemmas.List.Sums.{sum_by-cons}
 use Rattle.std.proofs.lemmas.Nat.{and_block, and_le_l, and_le_r}
 use Rattle.std.proofs.lemmas.Simd.{ones-mask_l_cons}
@@ -103,9 +102,6 @@ class_after-last before xs l =
 
 -- the bytes before the place at, and n more
 module _ (k : AsciiClass) (before : Option AsciiClass) (xs : List ℕ) where
-  pub starts_first : 0 < length xs → starts k before (take 1 xs) ≡ begins k before (ascii_class (get_or xs 0 0))
-  starts_first l = ap (starts k before) (take_more xs 0 0 l) ∙ omega arith
-
   pub starts_more : (at n : ℕ) → 0 < at → at ≤ length xs
       → starts k before (take (at + n) xs)
       ≡ starts k before (take at xs) + starts k (Some (ascii_class (get_or xs (at - 1) 0))) (chunk at n xs)

@@ -124,15 +124,6 @@ module _ {T V J : Type 0} (g : Ghosts J T) where
   AsksAcross j kept x ends k =
       MatchOption kept ((ends ≡ false) × (k ≡ j)) (λ s. IsRun g.may_ask g.answers j (((s.0, x), not ends) ∷ []) k)
 
-  pub asks_one : (j k : J) (kept : Option (T × V)) (x : T) (block : List T) → first block ≡ Some x → AsksAcross j kept x true k
-      → AsksFrom j kept block kept block k None
-  asks_one j k kept x [] e a = cc e
-  asks_one j k None x (z ∷ zs) e a = cc a.0
-  asks_one j k (Some s) x (z ∷ zs) e a =
-      let same : x ≡ z = cc e in
-      let n : 1 + (length (z ∷ zs) - 1) ≡ length (s.0 ∷ z ∷ zs) - 1 = omega arith in
-      (1, subst (λ y. IsRun g.may_ask g.answers j (((s.0, y), false) ∷ []) k) same a, refl, refl, n)
-
   -- and then what a call for the first group of the block asks
   pub asks_more : (j k l : J) (kept given now : Option (T × V)) (x y : T) (block after : List T) (n : ℕ) → first block ≡ Some x
       → AsksAcross j kept x false k → 0 < n → n ≤ length block → IsRun g.may_ask g.answers k (questions Front block n) l

@@ -87,9 +87,6 @@ module _ {F T K : Type 0} (g : Mut F (Bor T × Unit {0}) K) (eq : K → K → Bo
       (λ j q b k i c. compared_next (TakesAt g) (CalledAt g) (always_mut g) key_called eq j.func q.0 q.1 b k.func c i)
       j run.0 k run.1
 
-  pub key_callable_next : (f : F) (x : T) (k : K) (f' : F) → CalledAt g f x k f' → always_mut g f → always_mut g f'
-  key_callable_next = key_called
-
   pub key_taken : (f : F) (x : T) → always_mut g f → TakesAt g f x
   key_taken f x i v e = taken g f (v, tt) i
 
@@ -167,9 +164,6 @@ module _ {F K : Type 0} (g : Mut F (ℕ × Unit {0}) K) (eq : K → K → Bool) 
       run_keeps _ _ (λ j. always_mut g j.func)
       (λ j q b k i c. compared_next takes_char (CalledAtChar g) (always_mut g) char_key_called eq j.func q.0 q.1 b k.func c i)
       j run.0 k run.1
-
-  pub char_key_callable_next : (f : F) (c : ℕ) (k : K) (f' : F) → CalledAtChar g f c k f' → always_mut g f → always_mut g f'
-  char_key_callable_next = char_key_called
 
   pub char_key_taken : (f : F) (c : ℕ) → always_mut g f → Takes g f (c, tt)
   char_key_taken f c i = taken g f (c, tt) i

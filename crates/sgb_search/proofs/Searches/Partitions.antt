@@ -26,9 +26,6 @@ boundary_of p xs (Err i) b = b
 
 -- where the elements that pass come first, a local boundary parts them from the others
 module _ {T : Type 0} (p : T → Bool) (xs : List T) where
-  index_of : Bool → ℕ
-  index_of b = ordering_index (as_ordering b)
-
   rises : (a b : Bool) → (b ≡ true → a ≡ true) → ordering_index (as_ordering a) ≤ ordering_index (as_ordering b)
   rises true b h = omega arith
   rises false true h = absurd (cc (h refl))
