@@ -1,7 +1,7 @@
 //! How many groups of each ASCII class some bytes have, with no walk along them.
 ghost use Rattle.std.specs.Prelude.{◌≡◌, ℕ, ◌+◌, ◌-◌, ◌^◌, ◌<◌, ◌≤◌, List, ◌++◌, length, slice_index_or, Option, Some};
 ghost use Rattle.std.specs.Simd.Lanes.{mask_l, chunk};
-ghost use Rattle.sgb_numbers.specs.AsciiBytes.{ascii_class, is_class};
+ghost use Rattle.sgb_numbers.specs.AsciiBytes.{ascii_class};
 ghost use Rattle.sgb_numbers.specs.Boundaries.{boundaries};
 ghost use Rattle.sgb_numbers.specs.declared.ascii_classes.AsciiClass.{AsciiClass};
 ghost use Rattle.sgb_number_group.specs.Counted.{class_count, class_after, count_of, same_class};

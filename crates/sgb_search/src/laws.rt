@@ -10,7 +10,7 @@ ghost use Rattle.std.specs.declared.cmp.Ordering.{Ordering};
 ghost use Rattle.std.specs.declared.cmp.Ordering.TheVariants.{Less, Greater};
 ghost use Rattle.sgb_search.specs.declared.end.End.{End};
 ghost use Rattle.sgb_search.specs.Searching.{digits, QuestionsAt};
-ghost use Rattle.sgb_search.specs.Ranges.{AsksRange, IsRange, IsRangeAt};
+ghost use Rattle.sgb_search.specs.Ranges.{AsksRange, IsRangeAt};
 ghost use Rattle.sgb_search.specs.Split.{AreApart, neighbours, AreNeighbours, IsGrouped, IsSplit, concat, first, last};
 ghost use Rattle.sgb_search.specs.Split.{without_last, split, refused_pairs};
 ghost use Rattle.sgb_search.specs.Seams.{is_accepted_across, lens_joined, seam};

@@ -1,5 +1,4 @@
 //! Long texts in complaints.
-ghost use Rattle.std.specs.Prelude.{◌≡◌};
 ghost use Rattle.table_join.specs.Words.{IsExcerpt};
 
 use std::fmt;

@@ -1,5 +1,5 @@
 //! Laws of the families of groups beside each other.
-ghost use Rattle.std.specs.Prelude.{◌≡◌, ℕ, Bool, List, length, Option, Some, map, option_map};
+ghost use Rattle.std.specs.Prelude.{◌≡◌, Bool, List, length, Option, Some, map, option_map};
 ghost use Rattle.sgb_search.specs.Calls.{ComputesBy};
 ghost use Rattle.std.specs.Borrow.{Bor};
 ghost use Rattle.sgb_search.specs.Split.{from, split, AreApart};

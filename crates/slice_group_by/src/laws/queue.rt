@@ -1,6 +1,6 @@
 //! Groups as a two-ended queue, and a walk over it.
 ghost use Rattle.std.specs.Borrow.{Bor, MutBor};
-ghost use Rattle.std.specs.Prelude.{◌≡◌, ℕ, ◌+◌, ◌<◌, Bool, List, ◌++◌, length, Option, None, Some, map, option_map, reverse, ⊤};
+ghost use Rattle.std.specs.Prelude.{◌≡◌, ℕ, ◌+◌, ◌<◌, Bool, List, length, Option, None, Some, map, option_map, reverse, ⊤};
 ghost use Rattle.sgb_search.specs.Split.{TakesPart, split, TakesPiece};
 ghost use Rattle.sgb_search.specs.Judges.{AsksWithin};
 ghost use Rattle.sgb_search.specs.declared.end.End.{End};

@@ -1,5 +1,5 @@
 //! Groups by a method of the text.
-ghost use Rattle.std.specs.Prelude.{◌≡◌, ℕ, Bool, List, nat_eq};
+ghost use Rattle.std.specs.Prelude.{◌≡◌, ℕ, Bool, nat_eq};
 ghost use Rattle.sgb_search.specs.Calls.{IsCallableBy, at_start};
 ghost use Rattle.sgb_search.specs.Split.{AreNeighbours};
 ghost use Rattle.std.specs.Str.{IsUtf8};

@@ -9,7 +9,7 @@ use sgb_linear_str_group::text_judge::TextJudge;
 impl<'a, J: TextJudge + Drop> GroupQueue for LinearStrGroups<'a, J> {
     type Item = &'a str;
 
-    ghost use Rattle.std.specs.Prelude.{ℕ, length, true};
+    ghost use Rattle.std.specs.Prelude.{length, true};
     ghost use Rattle.sgb_search.specs.Calls.{IsCallableBy};
     ghost use Rattle.std.specs.Str.{chars};
     ghost use Rattle.sgb_search.specs.Split.{neighbours, AreNeighbours};
@@ -110,7 +110,7 @@ impl<'a, J: TextJudge + Drop> OfText for LinearStrGroups<'a, J> {
 impl<'a, J: TextJudge + Drop> GroupQueue for LinearStrGroupsMut<'a, J> {
     type Item = &'a mut [u8];
 
-    ghost use Rattle.std.specs.Prelude.{ℕ, length, true};
+    ghost use Rattle.std.specs.Prelude.{length, true};
     ghost use Rattle.std.specs.Str.{chars};
     ghost use Rattle.sgb_search.specs.Calls.{IsCallableBy};
     ghost use Rattle.sgb_search.specs.Split.{neighbours, AreNeighbours};
