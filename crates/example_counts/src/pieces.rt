@@ -61,11 +61,11 @@ pub fn rows_by_key(alloc: Global, rows: &[Entry]) -> Result<Vec<(u32, usize)>, A
     groups.map(|(key, group)| (key, group.len())).collect(alloc)
 }
 
-/// The key of each group of rows that ascend by their keys, in a vector: those of the rows that `dedup` by the keys leaves, each
-/// less than those after it.
+/// The key of each group of rows that ascend by their keys, in a vector: the keys of the rows, each once, and each less than those
+/// after it.
 pub fn keys_once(alloc: Global, rows: &[Entry]) -> Result<Vec<u32>, AllocError>
     requires { NeverDescends nat_cmp (map key rows.now) }
-    ensures all { IfOk result (λ keys. keys.items ≡ map key (dedup same_key rows.now)) }
+    ensures all { IfOk result (λ keys. keys.items ≡ dedup nat_eq (map key rows.now)) }
     ensures once { IfOk result (λ keys. IsStrictlySortedBy nat_cmp keys.items) }
 {
     pieces_by_key::<Entry, u32>();

@@ -1,11 +1,11 @@
 //! Sets of numbers, as slices that ascend strictly.
-ghost use Rattle.std.specs.Prelude.{◌≡◌, ◌↔◌, ℕ, not, ◌⊎◌, IfOk};
-ghost use Rattle.std.specs.List.{Contains, filter};
+ghost use Rattle.std.specs.Prelude.{◌≡◌, ◌↔◌, ℕ, nat_eq, not, ◌⊎◌, IfOk};
+ghost use Rattle.std.specs.List.{Contains, filter, list_any};
 ghost use Rattle.std.specs.Ordering.{nat_cmp};
 ghost use Rattle.slice_group_by.specs.JoinKinds.{AlwaysAscends, has_partner};
 
 use slice_group_by::MergeJoinBy;
-use slice_group_by::laws::{sees_merge_in_order, unions_ascend};
+use slice_group_by::laws::{partners_are_equal, sees_merge_in_order, unions_ascend};
 use std::alloc::{AllocError, Global};
 
 /// The numbers that stand on the left or on the right.
@@ -25,9 +25,10 @@ pub fn union(alloc: Global, left: &[u32], right: &[u32]) -> Result<Vec<u32>, All
 pub fn intersection(alloc: Global, left: &[u32], right: &[u32]) -> Result<Vec<u32>, AllocError>
     requires left { AlwaysAscends nat_cmp left.now }
     requires right { AlwaysAscends nat_cmp right.now }
-    ensures { IfOk result (λ v. v.items ≡ filter (has_partner nat_cmp right.now) left.now) }
+    ensures { IfOk result (λ v. v.items ≡ filter (λ x. list_any (nat_eq x) right.now) left.now) }
 {
     unions_ascend::<u32>();
+    partners_are_equal::<u32, u32, u32>();
     let join = MergeJoinBy::new(left, right, |x: &u32, y: &u32| x.cmp(y));
     sees_merge_in_order(&join);
     join.flat_map(|part| part.partnered())

@@ -39,6 +39,7 @@ pub fn of_keys<T, U, E: PartialEq, K: Ord>() {
     sorted_by_key_ascends::<T, K>();
     pieces_by_key::<T, K>();
     pieces_are_filters::<T, K>();
+    partners_are_equal::<T, T, K>();
     merges_interleave::<K>();
     pairs_match::<T, U, K>();
     pairs_count::<T, U, K>();
@@ -108,7 +109,9 @@ pub fn of_keyed<Q: Keyed>(groups: &WithKeys<Q>) {
     sees_keys(groups);
 }
 
-pub fn of_counts<'a, T: 'a, Q: RemainderLen + SliceQueue<'a, T>>(groups: &DedupWithCount<'a, T, Q>) {
+pub fn of_counts<'a, T: 'a, Q: RemainderLen + SliceQueue<'a, T>>(
+    groups: &DedupWithCount<'a, T, Q>,
+) {
     sees_counts(groups);
 }
 

@@ -1,5 +1,5 @@
 -- What the pieces of a list share with the list, and with each other.
-use Rattle.std.specs.Prelude.{◌≡◌, ℕ, ◌+◌, ◌⊎◌, Bool, true, false, cond, List, [], ◌∷◌, ◌++◌, length, get_or, map, replicate, sum_by, Some}
+use Rattle.std.specs.Prelude.{◌≡◌, ℕ, ◌+◌, ◌⊎◌, Bool, true, false, cond, List, [], ◌∷◌, ◌++◌, length, get_or, map, flat_map, replicate, sum_by, Some}
 use Rattle.std.proofs.Common.{refl, sym, ap, ◌∙◌, subst, length-append, arith, inl, inr}
 use Rattle.std.proofs.lemmas.List.{append-nil}
 use Rattle.std.proofs.lemmas.List.Elements.{filter-append}
@@ -19,6 +19,7 @@ use Rattle.sgb_search.proofs.Lists.Contained.{contains_cases, contains_head, con
 use Rattle.sgb_search.proofs.Lists.Filters.{keeps_all, keeps_none}
 use Rattle.sgb_search.proofs.Lists.Order.{equal_if_tied, turned_around}
 use Rattle.sgb_search.proofs.Splits.Split.{split_is}
+use Rattle.slice_group_by.specs.Dedup.{counted}
 use Rattle.slice_group_by.specs.Keyed.{keyed}
 use Rattle.slice_group_by.proofs.Joins.FirstGroups.{IsAbove, Ascends, split_ascends}
 use Rattle.slice_group_by.proofs.Joins.JoinPairs.{EachLater, IsUniform, compared_alike, split_uniform}
@@ -65,6 +66,14 @@ module _ {T : Type 0} where
     each_back d ((x ∷ xs) ∷ gs) a =
         ap (λ g. g ∷ map (λ g. replicate (length g) (get_or g 0 d)) gs) (sym (copied x xs a.0))
         ∙ ap (λ hs. (x ∷ xs) ∷ hs) (each_back d gs a.1)
+
+    decoded : (gs : List (List T)) → AllByRecursion (IsAccepted p) gs → flat_map (λ r. replicate r.0 r.1) (counted gs) ≡ concat gs
+    decoded [] a = refl
+    decoded ([] ∷ gs) a = decoded gs a.1
+    decoded ((x ∷ xs) ∷ gs) a = λ i. sym (copied x xs a.0) i ++ decoded gs a.1 i
+
+    pub decodes : (xs : List T) → flat_map (λ r. replicate r.0 r.1) (counted (split p xs)) ≡ xs
+    decodes xs = decoded (split p xs) (split_is p xs).accepted ∙ (split_is p xs).covers
 
     pub copied_back : (d : T) (xs : List T) → map (λ g. replicate (length g) (get_or g 0 d)) (split p xs) ≡ split p xs
     copied_back d xs = each_back d (split p xs) (split_is p xs).accepted
@@ -144,6 +153,25 @@ module _ {T : Type 0} (p : T → T → Bool) (per : IsPartialEquivalence p) wher
 
   pub as_many : (xs : List T) → length (split p xs) ≡ length (dedup p xs)
   as_many xs = sym (length-map (split p xs) first) ∙ ap length (firsts xs) ∙ length-map (dedup p xs) Some
+
+module _ {T K : Type 0} (eq : K → K → Bool) (key : T → K) where
+  abbrev by_key : T → T → Bool
+  by_key x y = eq (key x) (key y)
+
+  keys_from : (x : T) (xs : List T) → map key (dedup_from by_key x xs) ≡ dedup_from eq (key x) (map key xs)
+  keys_from x [] = refl
+  keys_from x (y ∷ ys) = by (by_key y x) (keys_from x ys) (keys_from y ys)
+    where
+      by : (b : Bool) → map key (dedup_from by_key x ys) ≡ dedup_from eq (key x) (map key ys)
+          → map key (dedup_from by_key y ys) ≡ dedup_from eq (key y) (map key ys)
+          → map key (cond b (dedup_from by_key x ys) (x ∷ dedup_from by_key y ys))
+          ≡ cond b (dedup_from eq (key x) (map key ys)) (key x ∷ dedup_from eq (key y) (map key ys))
+      by true one other = one
+      by false one other = ap (λ ks. key x ∷ ks) other
+
+  pub keys_once : (xs : List T) → map key (dedup by_key xs) ≡ dedup eq (map key xs)
+  keys_once [] = refl
+  keys_once (x ∷ xs) = keys_from x xs
 
 module _ {K : Type 0} (cmp : K → K → Ordering) (o : IsTotalOrder cmp) (eq : K → K → Bool)
     (ties : (x y : K) → eq x y ≡ is_eq (cmp x y)) {T : Type 0} (key : T → K) where
@@ -227,27 +255,12 @@ module _ {K : Type 0} (cmp : K → K → Ordering) (o : IsTotalOrder cmp) (eq : 
       (λ i. (key x, here i) ∷ with_keys xs gs ys tail (λ k z c. each k z (contains_tail (x ∷ g) gs k c)) i)
       ∙ ap (λ z. (key z, filter (λ w. same w z) xs) ∷ map (λ y. (key y, filter (λ z. same z y) xs)) ys) head
 
-  keys_from : (x : T) (xs : List T) → map key (dedup_from same x xs) ≡ dedup_from eq (key x) (map key xs)
-  keys_from x [] = refl
-  keys_from x (y ∷ ys) = by (same y x) (keys_from x ys) (keys_from y ys)
-    where
-      by : (b : Bool) → map key (dedup_from same x ys) ≡ dedup_from eq (key x) (map key ys)
-          → map key (dedup_from same y ys) ≡ dedup_from eq (key y) (map key ys)
-          → map key (cond b (dedup_from same x ys) (x ∷ dedup_from same y ys))
-          ≡ cond b (dedup_from eq (key x) (map key ys)) (key x ∷ dedup_from eq (key y) (map key ys))
-      by true one other = one
-      by false one other = ap (λ ks. key x ∷ ks) other
-
-  keys_once : (xs : List T) → map key (dedup same xs) ≡ dedup eq (map key xs)
-  keys_once [] = refl
-  keys_once (x ∷ xs) = keys_from x xs
-
   pub keyed_filters : IsPartialEquivalence eq → (xs : List T) → NeverDescends cmp (map key xs)
       → keyed key (split same xs) ≡ map (λ k. (k, filter (λ y. eq (key y) k) xs)) (dedup eq (map key xs))
   keyed_filters per xs h =
       with_keys xs (split same xs) (dedup same xs) (firsts same (by_keys eq per key) xs) (λ g x. piece_filter xs g x h)
       ∙ sym (map-map (λ k. (k, filter (λ y. eq (key y) k) xs)) key (dedup same xs))
-      ∙ ap (map (λ k. (k, filter (λ y. eq (key y) k) xs))) (keys_once xs)
+      ∙ ap (map (λ k. (k, filter (λ y. eq (key y) k) xs))) (keys_once eq key xs)
 
   -- the keys of the first elements ascend as the pieces do
   heads_above : (k : K) (gs : List (List T)) (ys : List T) → map first gs ≡ map Some ys → AllByRecursion (IsAbove cmp key k) gs

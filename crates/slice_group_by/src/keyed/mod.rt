@@ -79,8 +79,8 @@ pub struct WithKeys<Q> {
 /// the group. The key function must be callable on every element, in whatever state earlier calls left it; a closure
 /// whose body may run on all elements needs no proof.
 ///
-/// What a slice ends as that was written so is not known. Where it is wanted, keep the groups, call `first_key` of each,
-/// and take note of it.
+/// After writing, nothing is known about what the input holds. To learn it, keep the groups themselves: ask for the key by
+/// `key_of(&group[0])`, or by `first_key_of(group)` for a text, and then take note of the group.
 ///
 /// ```
 /// for (key, group) in with_keys(LinearGroupByKey::new(&[10, 11, 20, 21, 22], |x| *x / 10)) {

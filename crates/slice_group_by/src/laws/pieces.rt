@@ -1,10 +1,11 @@
 //! Laws of the pieces of a list.
-ghost use Rattle.std.specs.Prelude.{◌≡◌, ℕ, ◌<◌, Bool, true, List, length, get_or, map, replicate, sum_by, Some, slice_get};
+ghost use Rattle.std.specs.Prelude.{◌≡◌, ℕ, ◌<◌, Bool, true, List, length, flat_map, get_or, map, replicate, sum_by, Some, slice_get};
 ghost use Rattle.std.specs.List.{AllByRecursion, Contains, dedup, filter};
 ghost use Rattle.std.specs.List.Sorted.{IsStrictlySortedBy};
 ghost use Rattle.std.specs.declared.cmp.Ordering.TheVariants.{Less};
 ghost use Rattle.sgb_search.specs.Search.{NeverDescends};
 ghost use Rattle.sgb_search.specs.Split.{first, split};
+ghost use Rattle.slice_group_by.specs.Dedup.{counted};
 ghost use Rattle.slice_group_by.specs.Keyed.{keyed};
 
 /// The elements of a piece by keys have one key. In a list that ascends by that key the pieces ascend strictly: each element of
@@ -32,23 +33,28 @@ pub fn pieces_are_filters<T, K: Ord>()
         ≡ map (λ k. (k, filter (λ y. K.eq (key y) k) xs)) (dedup K.eq (map key xs)) }
 {}
 
-/// A piece by a test that accepts equal elements alone is its first element, so many times.
+/// A piece by a test that accepts equal elements alone is its first element, so many times. So the lengths and first elements of
+/// the pieces, as `sees_counts` has them, are a code of the list (`decode`).
 pub fn equal_pieces_are_copies<T>()
     ensures one { (p : T → T → Bool) → ((x y : T) → p x y ≡ true → x ≡ y) → (xs g : List T) (x : T)
         → Contains (split p xs) g → first g ≡ Some x → g ≡ replicate (length g) x }
     ensures copies { (p : T → T → Bool) → ((x y : T) → p x y ≡ true → x ≡ y) → (d : T) (xs : List T)
         → map (λ g. replicate (length g) (get_or g 0 d)) (split p xs) ≡ split p xs }
+    ensures decode { (p : T → T → Bool) → ((x y : T) → p x y ≡ true → x ≡ y) → (xs : List T)
+        → flat_map (λ r. replicate r.0 r.1) (counted (split p xs)) ≡ xs }
     ensures each { (p : T → T → Bool) → ((x y : T) → p x y ≡ true → x ≡ y) → (xs : List T)
         → AllByRecursion (λ g. (x : T) → first g ≡ Some x → g ≡ replicate (length g) x) (split p xs) }
 {}
 
 /// The first elements of the pieces by keys are what the standard library's `dedup` by these keys leaves; so there are as many
-/// pieces. With the elements themselves as keys these are the pieces by `==`.
+/// pieces. With the elements themselves as keys these are the pieces by `==`. The keys of what is left are the keys, each once
+/// (`keys`).
 pub fn pieces_begin_as_dedup<T, K: PartialEq>()
     ensures firsts { (key : T → K) (xs : List T) → map first (split (λ a b. K.eq (key a) (key b)) xs)
         ≡ map Some (dedup (λ a b. K.eq (key a) (key b)) xs) }
     ensures begin { (key : T → K) (d : T) (xs : List T)
         → map (λ g. get_or g 0 d) (split (λ a b. K.eq (key a) (key b)) xs) ≡ dedup (λ a b. K.eq (key a) (key b)) xs }
+    ensures keys { (key : T → K) (xs : List T) → map key (dedup (λ a b. K.eq (key a) (key b)) xs) ≡ dedup K.eq (map key xs) }
     ensures count { (key : T → K) (xs : List T) → length (split (λ a b. K.eq (key a) (key b)) xs)
         ≡ length (dedup (λ a b. K.eq (key a) (key b)) xs) }
 {}

@@ -1,4 +1,4 @@
-use Rattle.std.proofs.Common.{rules, ap, map, ◌∙◌}
+use Rattle.std.proofs.Common.{rules, ap, map, sym, ◌∙◌}
 use Rattle.std.specs.Prelude.{get_or}
 use Rattle.std.proofs.lemmas.Fn.{always_returns_same}
 use Rattle.slice_group_by.specs.End.TheVariants.{Front}
@@ -12,6 +12,9 @@ returns-clause-all c =
     (_, (_, rw c.into_iter-group-iterator.ensures.into_iter_gives at c.loop-group.yielded_by, c.in-None.ensures.steps))) in
     c.loop-group.invariant ∙ ap (λ gs. map key (map (λ g. get_or g 0 (0, 0)) gs)) all
     ∙ ap (map key) (c.pieces_begin_as_dedup.ensures.begin key (0, 0) c.args.rows.now)
+    ∙ c.pieces_begin_as_dedup.ensures.keys key c.args.rows.now
 
 pub returns-clause-once : goal.returns-clause-once
-returns-clause-once c = rw (returns-clause-all c) (c.pieces_by_key.ensures.firsts key c.args.rows.now c.requires)
+returns-clause-once c =
+    rw (returns-clause-all c, sym (c.pieces_begin_as_dedup.ensures.keys key c.args.rows.now))
+    (c.pieces_by_key.ensures.firsts key c.args.rows.now c.requires)

@@ -1,4 +1,4 @@
-use Rattle.slice_group_by.proofs.Pieces.PiecesOfLists.{piece_copied, pieces_copied, copied_back}
+use Rattle.slice_group_by.proofs.Pieces.PiecesOfLists.{piece_copied, pieces_copied, copied_back, decodes}
 use Rattle.slice_group_by.proofs.laws.pieces.equal_pieces_are_copies.Goals as goal
 
 pub returns-clause-one : goal.returns-clause-one
@@ -9,3 +9,6 @@ returns-clause-each g c = pieces_copied
 
 pub returns-clause-copies : goal.returns-clause-copies
 returns-clause-copies g c = copied_back
+
+pub returns-clause-decode : goal.returns-clause-decode
+returns-clause-decode g c = decodes
