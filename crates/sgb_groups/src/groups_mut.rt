@@ -7,7 +7,7 @@ ghost use Rattle.sgb_search.specs.declared.end.End.TheVariants.{Front, Back};
 ghost use Rattle.sgb_loans.specs.Loans.{NothingOut, groups_mut_to_come};
 
 use crate::way::Way;
-use sgb_loans::loans::{Ended, Loans};
+use sgb_loans::loans::{Ended, Last, Loans};
 use sgb_search::end::End;
 use sgb_search::judge::Judge;
 use std::iter::FusedIterator;
@@ -192,20 +192,37 @@ impl<'a, T, J: Judge<T> + Drop, W: Way> DoubleEndedIterator for SliceGroupsMut<'
 impl<'a, T, J: Judge<T> + Drop, W: Way> FusedIterator for SliceGroupsMut<'a, T, J, W> {}
 
 impl<'a, T, J: Judge<T> + Drop, W: Way> SliceGroupsMut<'a, T, J, W> {
-    ghost use Rattle.sgb_loans.specs.Loans.{GroupsMut};
+    ghost use Rattle.std.specs.Borrow.{sem};
+    ghost use Rattle.sgb_loans.specs.Loans.{GroupsMut, IsLastOf, input_ends_after};
     ghost use Rattle.sgb_groups.specs.Gives.{GivesMut, groups_of_mut};
 
     /// The last group of the remainder, or `None` where nothing remains: what `next_back` gives, by its questions. The
     /// iterator is given up. `Iterator::last` walks all groups from the front.
     ///
-    /// What the input ends as cannot be known from it, since the loans are given up too: where that is wanted, call
-    /// `next_back`, take note of the group, and `finish`.
+    /// What remains stays as it is: the input ends as what it was, but for this group and the parts that were out before.
     #[inline]
-    pub fn last(mut self) -> Option<&'a mut [T]>
+    pub fn last(self) -> Option<&'a mut [T]>
         requires { IsCallableBy (W.allowed T) J.Judge (groups_of_mut self) }
-        ensures { (t : GroupsMut T J) × GivesMut (W.asks T J J.Judge) Back self.entry result t }
+        ensures* ends { sem 𝓛 (input_ends_after T.row self.entry.loans self.entry.remainder result) }
+        ensures gives { (t : GroupsMut T J) × GivesMut (W.asks T J J.Judge) Back self.entry result t }
     {
-        self.next_back()
+        self.take_last().into_part()
+    }
+
+    // The end of the walk, after one more group from the back.
+    #[inline]
+    fn take_last(mut self) -> Last<'a, T>
+        requires { IsCallableBy (W.allowed T) J.Judge (groups_of_mut self) }
+        ensures gives { (t : GroupsMut T J) × GivesMut (W.asks T J J.Judge) Back self.entry result.part t }
+        ensures last { IsLastOf self.entry.remainder self.entry.loans result }
+    {
+        let part = self.next_back();
+        let (rest, loans) = self.into_parts();
+        Last {
+            part,
+            rest: Ended::of(rest),
+            loans,
+        }
     }
 
     // The group at the end. Each caller names its end, and gets a copy for that end alone.

@@ -11,7 +11,7 @@ ghost use Rattle.sgb_linear_str_group.specs.Texts.{IsTextAt, in_characters};
 ghost use Rattle.sgb_linear_str_group.specs.TextsMut.{TextGroupsMut, text_groups_mut_to_come};
 
 use crate::text_judge::TextJudge;
-use sgb_loans::loans::{Ended, Loans};
+use sgb_loans::loans::{Ended, Last, Loans};
 use sgb_search::end::End;
 use std::iter::FusedIterator;
 use std::marker::Model;
@@ -188,20 +188,38 @@ impl<'a, J: TextJudge + Drop> DoubleEndedIterator for LinearStrGroupsMut<'a, J> 
 impl<'a, J: TextJudge + Drop> FusedIterator for LinearStrGroupsMut<'a, J> {}
 
 impl<'a, J: TextJudge + Drop> LinearStrGroupsMut<'a, J> {
+    ghost use Rattle.std.specs.Borrow.{sem, u8};
+    ghost use Rattle.sgb_loans.specs.Loans.{IsLastOf, input_ends_after};
     ghost use Rattle.sgb_linear_str_group.specs.TextsMut.{text_groups_of_mut, GivesTextMut};
 
     /// The bytes of the last group of the remainder, or `None` where nothing remains: what `next_back` gives, by its
     /// questions. The iterator is given up. `Iterator::last` walks all groups from the front.
     ///
-    /// That it asks nothing more, and that it leaves the bytes before the group as they are, is read in the code; of the bytes
-    /// it is tested. What the input ends as cannot be known from it, since the loans are given up too: where that is wanted, call
-    /// `next_back`, take note of the group, and `finish`.
+    /// What remains stays as it is: the input ends as what it was, but for this group and the parts that were out before. That
+    /// it asks nothing more is read in the code.
     #[inline]
-    pub fn last(mut self) -> Option<&'a mut [u8]>
+    pub fn last(self) -> Option<&'a mut [u8]>
         requires { IsCallableBy AreNeighbours J.Judge (in_characters (text_groups_of_mut self)) }
-        ensures { (t : TextGroupsMut J) × GivesTextMut J.Judge Back self.entry result t }
+        ensures* ends { sem 𝓛 (input_ends_after u8 self.entry.loans self.entry.text result) }
+        ensures gives { (t : TextGroupsMut J) × GivesTextMut J.Judge Back self.entry result t }
     {
-        self.next_back()
+        self.take_last().into_part()
+    }
+
+    // The end of the walk, after one more group from the back.
+    #[inline]
+    fn take_last(mut self) -> Last<'a, u8>
+        requires { IsCallableBy AreNeighbours J.Judge (in_characters (text_groups_of_mut self)) }
+        ensures gives { (t : TextGroupsMut J) × GivesTextMut J.Judge Back self.entry result.part t }
+        ensures last { IsLastOf self.entry.text self.entry.loans result }
+    {
+        let part = self.next_back();
+        let LinearStrGroupsMut { bytes, loans, .. } = self;
+        Last {
+            part,
+            rest: Ended::of(bytes),
+            loans,
+        }
     }
 
     // The group at the end. Each caller names its end, and gets a copy for that end alone.

@@ -18,7 +18,7 @@ use denote.FollowSlice.{heres_id}
 use denote.Shadow.{makes_shadow}
 use denote.Struct.Struct.{Struct}
 use denote.Struct.Owning.{shape}
-use Rattle.std.proofs.Common.{sym, rules, append_assoc, append-nil}
+use Rattle.std.proofs.Common.{sym, subst, rules, append_assoc, append-nil}
 use base.Logic.{wand, all_e, apply∗, sep, id⊢}
 use base.Fml.{GName, fall, fwand}
 use types.Kit.{◌⊛◌, raw, move, split, join, use1, use2, assume, each}
@@ -26,6 +26,8 @@ use denote.Array.{Array}
 use denote.Follow.{follows_both, both_by}
 use Rattle.sgb_search.specs.Split.{put_at}
 use Rattle.sgb_loans.specs.Loans.{ended_as, before_with, after_with, cut_link, loan_owns, part_at, rest_at}
+use Rattle.sgb_loans.specs.Loans.{LastPart, IsLastOf, input_ends, rest_ends, input_ends_after}
+use Rattle.sgb_loans.specs.declared.loans.Loans.{Loans}
 use Rattle.sgb_loans.specs.contracts.loans.Ended as end
 use Rattle.sgb_loans.specs.contracts.loans.Loans as loans
 
@@ -70,6 +72,24 @@ module _ {M : Type 1} {𝓤 : Ura M} (𝓛 : Logic 𝓤) (R : RattleType) where
       → ent 𝓤 (sep 𝓤 (sem 𝓛 (loan_owns R γ before after ((e, g) ∷ cs) δ)) (sem 𝓛 (ended_as R g xs)))
       (sem 𝓛 (loan_owns R γ (before_with e before xs) (after_with e xs after) cs δ))
   notes e g xs γ before after cs δ = ends g xs (λ w. loan_owns R γ (before_with e before w) (after_with e w after) cs δ)
+
+  -- the rest is given up while parts are out
+  pub rests : (γ δ : GName) (before after : List R.Denot) (cs : List (End × GName)) (ws : List R.Denot)
+      → ent 𝓤 (sep 𝓤 (sem 𝓛 (loan_owns R γ before after cs δ)) (sem 𝓛 (ended_as R δ ws))) (sem 𝓛 (input_ends R γ before after cs ws))
+  rests γ δ before after [] ws = closes γ δ before after ws
+  rests γ δ before after (c ∷ cs) ws =
+      let More : List R.Denot → Fml = λ xs. input_ends R γ (before_with c.0 before xs) (after_with c.0 xs after) cs ws in
+      qed 𝓛 (‵ (loan_owns R γ before after (c ∷ cs) δ) ∷ ‵ (ended_as R δ ws) ∷ []) ∵
+      each ! (λ xs. wand 𝓤 (sem 𝓛 (ended_as R c.1 xs)) (sem 𝓛 (More xs))) (λ xs. assume ! (‵ (ended_as R c.1 xs)) $
+      let More' : Fml = loan_owns R γ (before_with c.0 before xs) (after_with c.0 xs after) cs δ in
+      move ! (1 ∷ 0 ∷ []) $ use2 𝓛 (‵ More') (notes c.0 c.1 xs γ before after cs δ) $
+      by ! (rests γ δ (before_with c.0 before xs) (after_with c.0 xs after) cs ws))
+
+  -- the loans and the rest are those after a last part
+  pub ends_after : (xs : List R.Denot) (l : Loans R.Denot) (e : LastPart R.Denot) → IsLastOf xs l e
+      → ent 𝓤 (sem 𝓛 (rest_ends R e.loans e.left)) (sem 𝓛 (input_ends_after R l xs e.part))
+  ends_after xs l e is = let Ends : Fml = rest_ends R e.loans e.left in subst (λ (f : Fml). ent 𝓤 (sem 𝓛 Ends) (sem 𝓛 f))
+      (λ i. input_ends R (is.root i) (is.before i) (is.after i) (is.cuts i) (is.left i)) (id⊢ 𝓤 (sem 𝓛 Ends))
 
   abbrev Both : GName → GName → GName → (List R.Denot → List R.Denot → List R.Denot) → Fml
   Both = follows_both (Array R 0) (Array R 0) (Array R 0)

@@ -153,6 +153,42 @@ impl<T> Loans<T> {
     }
 }
 
+/// The end of a walk: the part that it gave last, what remained then, and the loans.
+pub struct Last<'a, T> {
+    pub part: Option<&'a mut [T]>,
+    pub rest: Ended<'a, T>,
+    pub loans: Loans<T>,
+}
+
+impl<'a, T> Model for Last<'a, T> {
+    ghost use Rattle.std.specs.Prelude.{◌≡◌};
+    ghost use Rattle.sgb_loans.specs.Loans.{LastPart};
+
+    ghost Value = { LastPart T };
+
+    ghost view = { λ l. record { part = l.part; left = l.rest.value; loans = l.loans } };
+
+    ghost invariant = { λ l. l.rest.name ≡ l.loans.rest };
+}
+
+impl<'a, T> Last<'a, T> {
+    ghost use Rattle.sgb_loans.specs.Loans.{rest_ends};
+
+    /// The part. The loans are given up: whoever learns what the parts that are out end as learns what the whole slice ends as.
+    #[inline]
+    pub fn into_part(self) -> Option<&'a mut [T]>
+        ensures* ends { sem 𝓛 (rest_ends T.row self.entry.loans self.entry.left) }
+        ensures part { result ≡ self.entry.part }
+    {
+        let Last {
+            part,
+            rest: Ended { marker: _ },
+            loans: Loans { marker: _ },
+        } = self;
+        part
+    }
+}
+
 const _: () = prove!(size_of::<Ended<'static, u32>>() == 0);
 
 const _: () = prove!(size_of::<Loans<u32>>() == 0);
