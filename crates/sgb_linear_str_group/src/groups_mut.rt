@@ -1,13 +1,13 @@
 //! Linear groups of a text's bytes for writing, over any judge of characters.
-ghost use Rattle.std.specs.Prelude.{◌≡◌, ℕ, ◌<◌, ◌≤◌, Bool, List, [], ◌∷◌, ◌++◌, drop, length, nat_eq, IfSome, if◌then◌else◌};
+ghost use Rattle.std.specs.Prelude.{◌≡◌, ◌<◌, [], ◌∷◌, ◌++◌, drop, length, nat_eq, IfSome, if◌then◌else◌};
 ghost use Rattle.sgb_search.specs.Calls.{IsCallableBy};
 ghost use Rattle.std.specs.Iterator.{UpTo};
 ghost use Rattle.std.specs.Iterator.SizeHint.{IsWithinCount};
-ghost use Rattle.std.specs.Str.{chars, IsUtf8};
+ghost use Rattle.std.specs.Str.{IsUtf8};
 ghost use Rattle.sgb_search.specs.declared.end.End.TheVariants.{Front, Back};
-ghost use Rattle.sgb_search.specs.Split.{put_at, AreNeighbours};
+ghost use Rattle.sgb_search.specs.Split.{AreNeighbours};
 ghost use Rattle.sgb_loans.specs.Loans.{NothingOut};
-ghost use Rattle.sgb_linear_str_group.specs.Texts.{IsTextAt, in_characters};
+ghost use Rattle.sgb_linear_str_group.specs.Texts.{in_characters};
 ghost use Rattle.sgb_linear_str_group.specs.TextsMut.{TextGroupsMut, text_groups_mut_to_come};
 
 use crate::text_judge::TextJudge;

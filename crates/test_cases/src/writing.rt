@@ -189,20 +189,10 @@ fn call_methods(slice: &mut &mut [i32]) {
     let _ = slice.exponential_group_by_mut(ascend).next_back();
 }
 
-// No contract says what the input holds after `last`, or after an iterator whose groups were not noted.
+// No contract says what the input holds after an iterator is dropped.
 #[test]
 fn leaves_the_other_elements(rt: HostRuntime) {
     let mut array = [1, 2, 2, 9, 9];
-    assert!(rt; filled(LinearGroupMut::new(&mut array).last(), &[9, 9], 0));
-    assert_eq!(rt; array, [1, 2, 2, 0, 0]);
-    assert!(rt;
-        filled(
-            ExponentialGroupByMut::new(&mut array, equal).last(),
-            &[0, 0],
-            9
-        )
-    );
-    assert_eq!(rt; array, [1, 2, 2, 9, 9]);
     let mut slice: &mut [i32] = &mut array;
     call_methods(&mut slice);
     assert_eq!(rt; &*slice, [1, 2, 2, 9, 9].as_slice());
