@@ -3,6 +3,7 @@
 
 pub mod alone;
 pub mod kinds;
+pub mod merged;
 pub mod names;
 pub mod parts;
 pub mod sets;
