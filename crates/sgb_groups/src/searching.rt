@@ -1,6 +1,6 @@
 //! The binary and the exponential way to find a group: a search among the places beside the outermost element, at either end of a
 //! slice.
-ghost use Rattle.std.specs.Prelude.{◌≤◌, length, reverse};
+ghost use Rattle.std.specs.Prelude.{◌+◌, ◌-◌, ◌≤◌, length};
 ghost use Rattle.sgb_search.specs.Judges.{IsCallable};
 ghost use Rattle.sgb_search.specs.Searching.{SearchCost, IsPlaceSearch, MayAskAt, AnsweredAt, beside, as_ordering, IsBetween};
 
@@ -91,68 +91,73 @@ impl<S: GroupSearch> Way for Search<S> {
         high: usize,
         judge: &mut J,
     ) -> usize {
-        1 + answer_place(match end {
+        // Places are counted from the outermost element, which is place 0: so the group ends at the place that the search gives.
+        answer_place(match end {
             End::Front => {
-                let others = &slice[low + 1..high];
                 let places = FromFront {
                     outermost: &slice[low],
-                    others,
+                    slice,
+                    first: low,
                 };
-                S::search(judge, &places, 0, others.len())
+                S::search(judge, &places, 1, high - low)
             }
             End::Back => {
-                let others = &slice[low..high - 1];
+                let last = high - 1;
                 let places = FromBack {
-                    outermost: &slice[high - 1],
-                    others,
+                    outermost: &slice[last],
+                    slice,
+                    last,
                 };
-                S::search(judge, &places, 0, others.len())
+                S::search(judge, &places, 1, high - low)
             }
         })
     }
 }
 
-// The elements behind the first of a part of a slice, each asked about with that one.
+// The elements of a slice by how far they stand behind the one at `first`, which is the outermost and is asked about with each.
 #[derive(Drop)]
 struct FromFront<'a, T> {
     outermost: &'a T,
-    others: &'a [T],
+    slice: &'a [T],
+    first: usize,
 }
 
 impl<'a, T, J: Judge<T>> Places<J> for FromFront<'a, T> {
     type Answer = bool;
 
-    ghost may_compare = { λ j c i. MayAskAt J.may_ask J.answers (beside c.outermost.now c.others.now) j i };
+    ghost may_compare = { λ j c i. MayAskAt J.may_ask J.answers (beside c.outermost.now c.slice.now) j (c.first + i) };
 
-    ghost compares = { λ j c i b k. AnsweredAt J.may_ask J.answers (beside c.outermost.now c.others.now) j i b k };
+    ghost compares = { λ j c i b k. AnsweredAt J.may_ask J.answers (beside c.outermost.now c.slice.now) j (c.first + i) b k };
 
     ghost reads = { λ _ b. as_ordering b };
 
     #[inline]
     fn compare(&self, judge: &mut J, place: usize) -> Ordering {
-        before_end(judge.ask(self.outermost, &self.others[place]))
+        before_end(judge.ask(self.outermost, &self.slice[self.first + place]))
     }
 }
 
-// The elements before the last of a part of a slice, from there back, each asked about with that one.
+// The elements of a slice by how far they stand before the one at `last`, which is the outermost and is asked about with each.
 #[derive(Drop)]
 struct FromBack<'a, T> {
     outermost: &'a T,
-    others: &'a [T],
+    slice: &'a [T],
+    last: usize,
 }
 
 impl<'a, T, J: Judge<T>> Places<J> for FromBack<'a, T> {
     type Answer = bool;
 
-    ghost may_compare = { λ j c i. MayAskAt J.may_ask J.answers (beside c.outermost.now (reverse c.others.now)) j i };
+    ghost may_compare = { λ j c i. (i ≤ c.last)
+        × MayAskAt J.may_ask J.answers (beside c.outermost.now c.slice.now) j (c.last - i) };
 
-    ghost compares = { λ j c i b k. AnsweredAt J.may_ask J.answers (beside c.outermost.now (reverse c.others.now)) j i b k };
+    ghost compares = { λ j c i b k. AnsweredAt J.may_ask J.answers (beside c.outermost.now c.slice.now) j (c.last - i) b k };
 
     ghost reads = { λ _ b. as_ordering b };
 
     #[inline]
     fn compare(&self, judge: &mut J, place: usize) -> Ordering {
-        let index = self.others.len() - 1 - place;
-        before_end(judge.ask(self.outermost, &self.others[index]))
+        let index = self.last - place;
+        before_end(judge.ask(self.outermost, &self.slice[index]))
     }
 }

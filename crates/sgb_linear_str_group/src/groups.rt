@@ -1,5 +1,5 @@
 //! Linear groups of a text for reading, over any judge of characters.
-ghost use Rattle.std.specs.Prelude.{◌≡◌, ◌<◌, ◌+◌, ◌^◌, length, nat_eq, IfSome, IsTrue, ◌↔◌, if◌then◌else◌};
+ghost use Rattle.std.specs.Prelude.{◌≡◌, ◌<◌, ◌+◌, ◌^◌, length, nat_eq, IfSome, IsTrue, ◌↔◌};
 ghost use Rattle.sgb_search.specs.Calls.{IsCallableBy, StandsAt, at_start};
 ghost use Rattle.sgb_search.specs.Split.{AreNeighbours};
 ghost use Rattle.std.specs.Str.{IsCharBoundary};
@@ -134,16 +134,14 @@ impl<'a, J: TextJudge + Drop> Iterator for LinearStrGroups<'a, J> {
         self.next_at(&End::Front)
     }
 
-    /// No groups where nothing remains, and else at least one and at most as many as bytes remain.
+    /// `(0, None)`, as in the Rust crate: it says nothing about how many groups remain.
     #[inline]
     fn size_hint(&self) -> (usize, Option<usize>)
-        ensures value { result ≡ (if nat_eq (length (text_groups_of self.now).text) 0 then (0, Some 0)
-            else (1, Some (length (text_groups_of self.now).text))) }
+        ensures value { result ≡ (0, None) }
         ensures lower { IsWithinCount result.0 (text_groups_to_come (text_groups_of self.now)) }
         ensures upper { IfSome result.1 (UpTo (text_groups_to_come (text_groups_of self.now))) }
     {
-        let len = self.remainder_len();
-        (len.min(1), Some(len))
+        (0, None)
     }
 }
 

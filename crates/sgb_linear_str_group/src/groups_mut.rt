@@ -1,5 +1,5 @@
 //! Linear groups of a text's bytes for writing, over any judge of characters.
-ghost use Rattle.std.specs.Prelude.{◌≡◌, ◌<◌, [], ◌∷◌, ◌++◌, drop, length, nat_eq, IfSome, if◌then◌else◌};
+ghost use Rattle.std.specs.Prelude.{◌≡◌, ◌<◌, [], ◌∷◌, ◌++◌, drop, length, nat_eq, IfSome};
 ghost use Rattle.sgb_search.specs.Calls.{IsCallableBy};
 ghost use Rattle.std.specs.Iterator.{UpTo};
 ghost use Rattle.std.specs.Iterator.SizeHint.{IsWithinCount};
@@ -157,16 +157,14 @@ impl<'a, J: TextJudge + Drop> Iterator for LinearStrGroupsMut<'a, J> {
         self.next_at(&End::Front)
     }
 
-    /// No groups where nothing remains, and else at least one and at most as many as bytes remain.
+    /// `(0, None)`, as in the Rust crate: it says nothing about how many groups remain.
     #[inline]
     fn size_hint(&self) -> (usize, Option<usize>)
-        ensures value { result ≡ (if nat_eq (length self.now.text) 0 then (0, Some 0)
-            else (1, Some (length self.now.text))) }
+        ensures value { result ≡ (0, None) }
         ensures lower { IsWithinCount result.0 (text_groups_mut_to_come self.now) }
         ensures upper { IfSome result.1 (UpTo (text_groups_mut_to_come self.now)) }
     {
-        let len = self.remainder_len();
-        (len.min(1), Some(len))
+        (0, None)
     }
 }
 

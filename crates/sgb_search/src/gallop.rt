@@ -100,15 +100,16 @@ fn bracket<A, P: Places<A>>(asker: &mut A, places: &P, low: usize, high: usize) 
         return (low, high);
     }
     let mut from = low;
-    let mut step = 1;
-    while places.compare(asker, low + step).is_lt() {
-        from = low + step;
+    let mut next = low + 1;
+    while places.compare(asker, next).is_lt() {
+        let step = next - low;
+        from = next;
         if high - from <= step {
             return (from, high);
         }
-        step *= 2;
+        next += step;
     }
-    (from, low + step + 1)
+    (from, next + 1)
 }
 
 /// Gallops over the places from `low` up to, not including, `high`, from `low` on, and then halves.

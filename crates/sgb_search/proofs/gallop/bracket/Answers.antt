@@ -29,6 +29,7 @@ loop-from-preserved g c =
     let k = c.compare.ensures in
     let less = sym (less_below _ c.loop-from-test.ensures) ∙ k.2 in
     record {
+      after = omega (arith, i.after);
       below = omega arith;
       doubles =
           doubles_on _ _ _ _ _ _ c.requires.order _ _ _ i.doubles i.below may _ k.0 k.1 less _ (omega arith) (omega arith) (omega arith)
@@ -43,4 +44,4 @@ returns g c =
     c.compare.ensures.2 (not_less _ c.loop-from-test.ensures)
 
 pub loop-from-init : goal.loop-from-init
-loop-from-init g c = record { below = omega arith; doubles = doubles_start _ _ _ _ _ _ c.requires.order _ refl }
+loop-from-init g c = record { after = omega arith; below = omega arith; doubles = doubles_start _ _ _ _ _ _ c.requires.order _ refl }
