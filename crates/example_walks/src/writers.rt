@@ -6,7 +6,7 @@ ghost use Rattle.example_walks.specs.LongGroups.{is_long, cleared_if_long};
 
 use slice_group_by::LinearGroupMut;
 use slice_group_by::laws::{equal_pieces_are_copies, one_split};
-use slice_group_by::loans::{Ended, resolve, resolve_and_return};
+use slice_group_by::loans::{Ended, resolve, resolve_and_return, resolve_in};
 
 // Each group is filled with its first element, and has ended.
 #[tactic(auto, using(std::proofs::lemmas::Grind::common_steps, slice_group_by::proofs::EqualPieces::equal_piece))]
@@ -103,6 +103,13 @@ pub fn reverse_groups(slice: &mut [u8])
     ensures { slice.new ≡ concat (map reverse (split nat_eq slice.old)) }
 {
     resolve(slice, |part| reversed(part));
+}
+
+/// Reverses each group of a vector in place.
+pub fn reverse_groups_of(vec: &mut Vec<u8>)
+    ensures { vec.new.items ≡ concat (map reverse (split nat_eq vec.old.items)) }
+{
+    resolve_in(vec, |part| reversed(part));
 }
 
 // Clears each group of more than `max_len` elements, and counts those.

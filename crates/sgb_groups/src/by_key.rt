@@ -1,9 +1,11 @@
 //! Groups by a key, for reading and for writing.
-ghost use Rattle.std.specs.Prelude.{◌≡◌, ◌<◌, ◌+◌};
+ghost use Rattle.std.specs.Prelude.{◌≡◌, ◌<◌, ◌+◌, List};
+ghost use Rattle.std.specs.List.{Contains};
 ghost use Rattle.std.specs.Fn.{CalledAt, ComputesKey, TakesAt};
 ghost use Rattle.sgb_search.specs.declared.judge.KeyJudge.{KeyJudge};
 ghost use Rattle.sgb_search.specs.Calls.{IsCallableBy, ComputesBy, at_start};
 ghost use Rattle.sgb_search.specs.Judges.{by_key, key_judge};
+ghost use Rattle.sgb_search.specs.Search.{IsCallableOn};
 ghost use Rattle.sgb_loans.specs.Loans.{NothingOut};
 
 use crate::groups::SliceGroups;
@@ -46,12 +48,26 @@ impl<'a, T, K: PartialEq + Drop, F: FnMut(&T) -> K, W: Way> ByKey<'a, T, F, K, W
     }
 
     /// The key of an element: one call of the key function.
+    ///
+    /// Groups may still be asked for if the function may always be called; if it may be called on each element of a list that has
+    /// this one, it still may (`laws::callable_on_elements`). If it computes a key, the groups stay settled.
     #[inline]
     pub fn key_of(&mut self, element: &T) -> K
         requires { TakesAt F.FnMut self.old.judge.func element.now }
         ensures called { CalledAt F.FnMut self.old.judge.func element.now result self.new.judge.func }
         ensures remainder { (groups_of self.new).remainder ≡ (groups_of self.old).remainder }
         ensures place { place_of self.new ≡ place_of self.old }
+        ensures always { F.IsAlwaysCallable self.old.judge.func → F.IsAlwaysCallable self.new.judge.func }
+        ensures callable { F.IsAlwaysCallable self.old.judge.func
+            → IsCallableBy (W.allowed T) (by_key F.FnMut K.eq) (groups_of self.new) }
+        ensures callable_on { (xs : List T) → IsCallableOn F.FnMut xs self.old.judge.func → Contains xs element.now
+            → IsCallableOn F.FnMut xs self.new.judge.func }
+        ensures key { (key : T → K) → ComputesKey F.FnMut key self.old.judge.func → result ≡ key element.now }
+        ensures computes { (key : T → K) → ComputesKey F.FnMut key self.old.judge.func
+            → ComputesKey F.FnMut key self.new.judge.func }
+        ensures settled { (key : T → K) → ComputesKey F.FnMut key self.old.judge.func
+            → W.settled T (KeyJudge F K) (by_key F.FnMut K.eq) (groups_of self.old) (λ x y. K.eq (key x) (key y))
+            → W.settled T (KeyJudge F K) (by_key F.FnMut K.eq) (groups_of self.new) (λ x y. K.eq (key x) (key y)) }
     {
         (self.judge.func)(element)
     }
@@ -83,12 +99,26 @@ impl<'a, T, K: PartialEq + Drop, F: FnMut(&T) -> K, W: Way> ByKeyMut<'a, T, F, K
     }
 
     /// The key of an element: one call of the key function.
+    ///
+    /// Groups may still be asked for if the function may always be called; if it may be called on each element of a list that has
+    /// this one, it still may (`laws::callable_on_elements`). If it computes a key, the groups stay settled.
     #[inline]
     pub fn key_of(&mut self, element: &T) -> K
         requires { TakesAt F.FnMut self.old.judge.func element.now }
         ensures called { CalledAt F.FnMut self.old.judge.func element.now result self.new.judge.func }
         ensures remainder { self.new.remainder ≡ self.old.remainder }
         ensures loans { self.new.loans ≡ self.old.loans }
+        ensures always { F.IsAlwaysCallable self.old.judge.func → F.IsAlwaysCallable self.new.judge.func }
+        ensures callable { F.IsAlwaysCallable self.old.judge.func
+            → IsCallableBy (W.allowed T) (by_key F.FnMut K.eq) (groups_of_mut self.new) }
+        ensures callable_on { (xs : List T) → IsCallableOn F.FnMut xs self.old.judge.func → Contains xs element.now
+            → IsCallableOn F.FnMut xs self.new.judge.func }
+        ensures key { (key : T → K) → ComputesKey F.FnMut key self.old.judge.func → result ≡ key element.now }
+        ensures computes { (key : T → K) → ComputesKey F.FnMut key self.old.judge.func
+            → ComputesKey F.FnMut key self.new.judge.func }
+        ensures settled { (key : T → K) → ComputesKey F.FnMut key self.old.judge.func
+            → W.settled T (KeyJudge F K) (by_key F.FnMut K.eq) (groups_of_mut self.old) (λ x y. K.eq (key x) (key y))
+            → W.settled T (KeyJudge F K) (by_key F.FnMut K.eq) (groups_of_mut self.new) (λ x y. K.eq (key x) (key y)) }
     {
         (self.judge.func)(element)
     }

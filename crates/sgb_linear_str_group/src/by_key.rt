@@ -62,12 +62,23 @@ impl<'a, K: PartialEq + Drop, F: FnMut(char) -> K> LinearStrGroups<'a, CharKeyJu
     }
 
     /// The key of a character: one call of the key function.
+    ///
+    /// Groups may still be asked for if the function may always be called. If it computes a key, the groups are settled for equality
+    /// of its keys.
     #[inline]
     pub fn key_of(&mut self, character: char) -> K
         requires { Takes F.FnMut self.old.judge.func (character, tt) }
         ensures called { CalledAtChar F.FnMut self.old.judge.func character result self.new.judge.func }
         ensures text { (text_groups_of self.new).text ≡ (text_groups_of self.old).text }
         ensures place { text_place_of self.new ≡ text_place_of self.old }
+        ensures always { F.IsAlwaysCallable self.old.judge.func → F.IsAlwaysCallable self.new.judge.func }
+        ensures callable { F.IsAlwaysCallable self.old.judge.func
+            → IsCallableBy AreNeighbours (by_char_key F.FnMut K.eq) (in_characters (text_groups_of self.new)) }
+        ensures key { (key : ℕ → K) → ComputesCharKey F.FnMut key self.old.judge.func → result ≡ key character }
+        ensures computes { (key : ℕ → K) → ComputesCharKey F.FnMut key self.old.judge.func
+            → ComputesCharKey F.FnMut key self.new.judge.func }
+        ensures settled { (key : ℕ → K) → ComputesCharKey F.FnMut key self.old.judge.func
+            → IsSettledText (by_char_key F.FnMut K.eq) (text_groups_of self.new) (λ x y. K.eq (key x) (key y)) }
     {
         (self.judge.func)(character)
     }
@@ -96,15 +107,28 @@ impl<'a, K: PartialEq + Drop, F: FnMut(char) -> K> LinearStrGroupsMut<'a, CharKe
     }
 
     /// The key of the first character of a group: one call of the key function.
+    ///
+    /// Groups may still be asked for if the function may always be called. If it computes a key, the groups are settled for equality
+    /// of its keys.
     #[inline]
     pub fn first_key_of(&mut self, group: &[u8]) -> K
         requires utf8 { IsUtf8 group.now }
         requires nonempty { 0 < length (chars group.now) }
-        requires callable { F.IsAlwaysCallable self.old.judge.func }
+        requires callable { (c : ℕ) → slice_get (chars group.now) 0 ≡ Some c
+            → Takes F.FnMut self.old.judge.func (c, tt) }
         ensures called { (c : ℕ) × (slice_get (chars group.now) 0 ≡ Some c)
             × CalledAtChar F.FnMut self.old.judge.func c result self.new.judge.func }
         ensures text { self.new.text ≡ self.old.text }
         ensures loans { self.new.loans ≡ self.old.loans }
+        ensures always { F.IsAlwaysCallable self.old.judge.func → F.IsAlwaysCallable self.new.judge.func }
+        ensures callable { F.IsAlwaysCallable self.old.judge.func
+            → IsCallableBy AreNeighbours (by_char_key F.FnMut K.eq) (in_characters (text_groups_of_mut self.new)) }
+        ensures key { (key : ℕ → K) (c : ℕ) → slice_get (chars group.now) 0 ≡ Some c
+            → ComputesCharKey F.FnMut key self.old.judge.func → result ≡ key c }
+        ensures computes { (key : ℕ → K) → ComputesCharKey F.FnMut key self.old.judge.func
+            → ComputesCharKey F.FnMut key self.new.judge.func }
+        ensures settled { (key : ℕ → K) → ComputesCharKey F.FnMut key self.old.judge.func
+            → IsSettledText (by_char_key F.FnMut K.eq) (text_groups_of_mut self.new) (λ x y. K.eq (key x) (key y)) }
     {
         let Some(first) = text_of(group).chars().next() else {
             unreachable!()

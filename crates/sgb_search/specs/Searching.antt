@@ -1,6 +1,6 @@
 -- What a binary or exponential call asks: about its outermost element and others, and not about each neighbouring pair; and what
 -- halving and galloping over places say of their runs.
-use Rattle.std.specs.Prelude.{ℕ, ◌/◌, ◌≡◌, ◌≢◌, ◌+◌, ◌-◌, ◌*◌, ◌<◌, ◌≤◌, Bool, true, false, List, [], ◌∷◌, ◌++◌, length, map, ◌⊎◌, Result, Ok, Err, Some, slice_get}
+use Rattle.std.specs.Prelude.{ℕ, ◌/◌, ◌≡◌, ◌≢◌, ◌+◌, ◌-◌, ◌*◌, ◌<◌, ◌≤◌, Bool, true, false, List, [], ◌∷◌, ◌++◌, length, map, ◌⊎◌, Result, Ok, Err, Option, Some, slice_get}
 use Rattle.std.proofs.Common.{zero, suc}
 use Rattle.std.specs.List.{AllByRecursion, Contains}
 use Rattle.std.specs.declared.cmp.Ordering.{Ordering}
@@ -119,10 +119,11 @@ module _ {S Q A : Type 0} (may : S → Q → Type 0) (gives : S → Q → A → 
   abbrev pub AnsweredAt : S → ℕ → A → S → Type 0
   AnsweredAt s i a t = (q : Q) × (slice_get zs i ≡ Some q) × gives s q a t
 
-  -- the questions about the places of rs, in the order in which they were asked: each is allowed, and was answered as its place was
+  -- the questions about the places of rs, in the order in which they were asked, with their answers: each is allowed
   pub record QuestionsAt (allowed : Q → Type 0) (s : S) (rs : List (ℕ × A)) (t : S) : Type 0 where
     pub questions : List (Q × A)
     pub run : IsRun may gives s questions t
+    pub in_order : map {B = Option Q × A} (λ q. (Some q.0, q.1)) questions ≡ map (λ r. (slice_get zs r.0, r.1)) rs
     pub long : length questions ≡ length rs
     pub about : AllByRecursion (λ q. allowed q.0) questions
     pub beside : AllByRecursion (λ r. (q : Q) × (slice_get zs r.0 ≡ Some q) × Contains questions (q, r.1)) rs

@@ -266,7 +266,8 @@ pub fn digits_is_least()
 {}
 
 /// A search of a slice as the calls that it made. Its contract speaks of the places that it asked about, and of their answers. This
-/// law gives the run of calls: one for each of these places, in that order, on the element there, with that answer.
+/// law gives the run of calls: one for each of these places, in that order, on the element there, with that answer (`in_order`). So
+/// the last call of a search that gives `Ok` was on the element there, and was read as `Equal`.
 pub fn searches_call<T, K, F: FnMut(&T) -> K>(_f: &F)
     ensures { (reads : K → Ordering) (xs : List T) (f t : F) (found : Result ℕ ℕ)
         → (search : IsSearch F.FnMut xs reads f found t)

@@ -4,7 +4,7 @@
 //! `note_back` of the iterator take note of it, `finish` answers what the whole input ends as, and `resolve` makes that a
 //! plain fact about the slice. `resolve_and_return` gives an answer back too, and `resolve_in` takes what lends its
 //! elements: a vector, an array, or a type of yours.
-ghost use Rattle.std.specs.Prelude.{◌≡◌, List};
+ghost use Rattle.std.specs.Prelude.{◌≡◌, List, length};
 ghost use Rattle.std.specs.Borrow.{MutBor};
 ghost use Rattle.sgb_loans.specs.declared.loans.Ended.{Ended as Token};
 
@@ -12,12 +12,12 @@ use crate::traits::holders::AsMutSlice;
 pub use sgb_loans::loans::{Ended, Loans};
 pub use sgb_loans::resolve::{resolve, resolve_and_return};
 
-/// Lends `f` the elements of `holder`, which are then what the token says that `f` answers: `resolve` for a vector, an
-/// array, or whatever lends its elements.
+/// Lends `f` the elements of `holder`: `resolve` for a vector, an array, or whatever lends its elements. They are then what
+/// the token says that `f` answers, as many as before.
 ///
 /// ```
-/// pub fn rank_vector(vec: &mut Vec<usize>) {
-///     resolve_in(vec, |part| ranked(part)); // `ranked` answers a token whose value is the ranks of the slice
+/// pub fn reverse_groups_of(vec: &mut Vec<u8>) {
+///     resolve_in(vec, |part| reversed(part)); // `reversed` answers a token whose value has each group reversed
 /// }
 /// ```
 pub fn resolve_in<T, S: AsMutSlice<T>, F: FnOnce(&mut [T]) -> Ended<'_, T>>(holder: &mut S, f: F)
@@ -26,6 +26,8 @@ pub fn resolve_in<T, S: AsMutSlice<T>, F: FnOnce(&mut [T]) -> Ended<'_, T>>(hold
         → l.name ≡ p.ghost_name }
     ensures ends { (p : MutBor (List T)) × (l : Token T) × (p.now ≡ S.AsMutSlice.elements holder.old) × F.post f p l
         × (holder.new ≡ S.AsMutSlice.with_elements holder.old l.value) }
+    ensures len { (xs : List T) × (holder.new ≡ S.AsMutSlice.with_elements holder.old xs)
+        × (length xs ≡ length (S.AsMutSlice.elements holder.old)) }
 {
     resolve(holder.as_mut_slice(), f)
 }

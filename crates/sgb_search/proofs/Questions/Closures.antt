@@ -67,7 +67,7 @@ module _ {P T : Type 0} (g : Mut P (Bor T × (Bor T × Unit {0})) Bool) where
         (λ j q b k i c. computes_next j.predicate q.0 q.1 b k.predicate i c) (predicate_judge f) h
 
 module _ {F T K : Type 0} (g : Mut F (Bor T × Unit {0}) K) (eq : K → K → Bool) where
-  key_called : (f : F) (x : T) (k : K) (f' : F) → CalledAt g f x k f' → always_mut g f → always_mut g f'
+  pub key_called : (f : F) (x : T) (k : K) (f' : F) → CalledAt g f x k f' → always_mut g f → always_mut g f'
   key_called f x k f' c i = always_next g f (c.shown, tt) k f' c.called i
 
   -- a key function that may always be called
@@ -125,6 +125,11 @@ module _ {F T K : Type 0} (g : Mut F (Bor T × Unit {0}) K) where
       ((i.at ((c.shown, tt) ∷ []) k f' c.called).0 ∙ ap answer c.shows, record { at = λ xs. (i.at ((c.shown, tt) ∷ xs) k f' c.called).1 }))
       f h
 
+  -- after a call on one of the elements it may be called on each
+  pub callable_after_call : (xs : List T) (f : F) (x : T) (k : K) (f' : F) → CalledAt g f x k f' → IsCallableOn g xs f → Contains xs x
+      → IsCallableOn g xs f'
+  callable_after_call xs f x k f' c h ok rs t run all = h ((x, k) ∷ rs) t (h [] f refl tt x ok, (f', c, run)) (ok, all)
+
 -- closures of characters, by value
 module _ {P : Type 0} (g : Mut P (ℕ × (ℕ × Unit {0})) Bool) where
   pub char_predicate_callable : (cs : List ℕ) (f : P) → always_mut g f
@@ -147,7 +152,7 @@ module _ {F K : Type 0} (g : Mut F (ℕ × Unit {0}) K) (eq : K → K → Bool) 
   abbrev takes_char : F → ℕ → Type 0
   takes_char f c = Takes g f (c, tt)
 
-  char_key_called : (f : F) (c : ℕ) (k : K) (f' : F) → CalledAtChar g f c k f' → always_mut g f → always_mut g f'
+  pub char_key_called : (f : F) (c : ℕ) (k : K) (f' : F) → CalledAtChar g f c k f' → always_mut g f → always_mut g f'
   char_key_called f c k f' d i = always_next g f (c, tt) k f' d i
 
   pub char_key_callable : (cs : List ℕ) (f : F) → always_mut g f

@@ -1,13 +1,17 @@
 -- A cut where a group begins: the parts have the groups of the whole.
-use Rattle.std.proofs.Common.{◌≡◌, ℕ, ◌+◌, ◌-◌, ◌<◌, ◌≤◌, Bool, true, false, List, [], ◌∷◌, ◌++◌, length, take, drop}
+use Rattle.std.proofs.Common.{◌≡◌, ℕ, zero, suc, ◌+◌, ◌-◌, ◌<◌, ◌≤◌, Bool, true, false, cond, List, [], ◌∷◌, ◌++◌, length, take, drop}
 use Rattle.std.proofs.Common.{refl, sym, ap, subst, ◌∙◌, arith, append_assoc}
 use Rattle.std.specs.Prelude.{◌≢◌, slice_range}
-use Rattle.std.proofs.lemmas.List.{append-nil, take-append-drop, take_at, drop_at, take_all, drop-drop, length-take-le, length-drop}
+use lib.Dec.{T, leb, leb→le}
+use Rattle.std.proofs.lemmas.Bool.{leb-false}
+use Rattle.std.proofs.lemmas.List.{append-nil, length-append, take-append-drop, take_at, drop_at, take_all, drop-drop, length-take-le, length-drop}
 use Rattle.std.proofs.Math.Seq.{take-add}
 use Rattle.std.proofs.Math.ListN.{drop_of_length-le}
 use Rattle.sgb_search.specs.Split.{IsAccepted, IsGrouped, IsSplit, put_before, split}
 use Rattle.slice_group_by.specs.Boundaries.{PartsAt}
+use Rattle.sgb_search.specs.Seams.{is_accepted_across}
 use Rattle.sgb_search.proofs.Splits.Grouped.{grouped_part}
+use Rattle.sgb_search.proofs.Splits.Joined.{joined_count}
 use Rattle.sgb_search.proofs.Splits.Split.{split_alone, split_begins, split_is}
 
 module _ {A : Type 0} (p : A → A → Bool) where
@@ -88,3 +92,52 @@ module _ {A : Type 0} (p : A → A → Bool) where
   grouped_rest xs rest a is h =
       grouped_part p (take a xs) rest []
       (subst (IsGrouped p) (sym (ap (λ l. take a xs ++ l) (append-nil rest ∙ is) ∙ take-append-drop a xs)) h)
+
+  -- a cut inside an accepted part is accepted across
+  across_front : (xs : List A) (n b : ℕ) → 0 < n → n < b → b ≤ length xs → IsAccepted p (take b xs)
+      → is_accepted_across p (take n xs) (drop n xs) ≡ true
+  across_front xs zero b some l r h = absurd (omega arith)
+  across_front [] (suc n) b some l r h = absurd (omega arith)
+  across_front (x ∷ []) (suc n) b some l r h = absurd (omega arith)
+  across_front (x ∷ y ∷ ys) (suc n) zero some l r h = absurd (omega arith)
+  across_front (x ∷ y ∷ ys) (suc n) (suc zero) some l r h = absurd (omega arith)
+  across_front (x ∷ y ∷ ys) (suc zero) (suc (suc b)) some l r h = h.0
+  across_front (x ∷ y ∷ ys) (suc (suc n)) (suc (suc b)) some l r h =
+      across_front (y ∷ ys) (suc n) (suc b) (omega arith) (omega arith) (omega arith) h.1
+
+  across_inside : (xs : List A) (a n b : ℕ) → a < n → n < b → b ≤ length xs → IsAccepted p (slice_range xs a b)
+      → is_accepted_across p (take n xs) (drop n xs) ≡ true
+  across_inside xs zero n b some l r h =
+      across_front xs n b some l r (subst (λ (k : ℕ). IsAccepted p (take k xs)) {x = b - 0} {y = b} (omega arith) h)
+  across_inside [] (suc a) n b some l r h = absurd (omega arith)
+  across_inside (x ∷ []) (suc a) n b some l r h = absurd (omega arith)
+  across_inside (x ∷ y ∷ ys) (suc a) zero b some l r h = absurd (omega arith)
+  across_inside (x ∷ y ∷ ys) (suc a) (suc zero) b some l r h = absurd (omega arith)
+  across_inside (x ∷ y ∷ ys) (suc a) (suc (suc n)) zero some l r h = absurd (omega arith)
+  across_inside (x ∷ y ∷ ys) (suc a) (suc (suc n)) (suc b) some l r h =
+      across_inside (y ∷ ys) a (suc n) b (omega arith) (omega arith) (omega arith)
+      (subst (λ (k : ℕ). IsAccepted p (take k (drop a (y ∷ ys)))) {x = suc b - suc a} {y = b - a} (omega arith) h)
+
+  -- so the parts there have a group more than the whole
+  no_parts_inside : (xs : List A) (a n b : ℕ) → a < n → n < b → b ≤ length xs → IsAccepted p (slice_range xs a b) → PartsAt p xs n → ⊥
+  no_parts_inside xs a n b some l r h parts =
+      let one : ◌≡◌ {A = ℕ} (cond (is_accepted_across p (take n xs) (drop n xs)) 1 0) 1 = ap (λ c. cond c 1 0) (across_inside xs a n b some l r h) in
+      let all = ap (λ l. length (split p l)) (take-append-drop n xs) ∙ ap length parts ∙ length-append (split p (take n xs)) (split p (drop n xs)) in
+      omega (arith, one, all, joined_count p (take n xs) (drop n xs))
+
+  -- and its end is the first place at or behind `index` where a group begins
+  pub first_of : (xs rest : List A) (index n : ℕ) → rest ≡ drop (index - 1) xs → 0 < index → index ≤ length xs → n ≤ length rest
+      → IsAccepted p (take n rest) → (m : ℕ) → index ≤ m → PartsAt p xs m → index - 1 + n ≤ m
+  first_of xs rest index n is some l room h m behind parts = by (leb (index - 1 + n) m) refl
+    where
+      by : (t : Bool) → leb (index - 1 + n) m ≡ t → index - 1 + n ≤ m
+      by true e = leb→le (index - 1 + n) m (subst T (sym e) tt)
+      by false e =
+          let b : m < index - 1 + n = leb-false (index - 1 + n) m e in
+          absurd (no_parts_inside xs (index - 1) m (index - 1 + n) (omega arith) b
+          (omega (arith, ap length is, length-drop (index - 1) xs)) (inside_of xs rest (index - 1) n is h) parts)
+
+-- what a call asks, said of the same list, the same judge and the same number of elements
+pub asks_same : {T J : Type 0} (asks : List T → ℕ → J → J → Type 0) (xs rest : List T) (n m : ℕ) (j k t : J) → rest ≡ xs → j ≡ k → m ≡ n
+    → asks rest n j t → asks xs m k t
+asks_same asks xs rest n m j k t r e s h = rw (← r, ← e, s) h

@@ -1,8 +1,13 @@
 use Rattle.std.proofs.Common.{◌∙◌}
-use Rattle.slice_group_by.proofs.Pieces.Boundaries.{parts_of}
+use Rattle.sgb_search.specs.declared.end.End.TheVariants.{Front}
+use Rattle.sgb_search.specs.Judges.{by_predicate}
+use Rattle.sgb_search.specs.Linear.{LinearQuestions}
+use Rattle.slice_group_by.proofs.Pieces.Boundaries.{asks_same}
 use Rattle.slice_group_by.proofs.boundaries.linear_boundary_by.Goals as goal
 
-pub returns-clause-parts : goal.returns-clause-parts
-returns-clause-parts g c p computes =
-    let k = c.first_len.ensures in
-    parts_of _ _ _ _ _ (c.new.ensures.remainder ∙ c.in-Some.ensures.2) k.within k.some (k.parts _ (c.new.ensures.settled p computes tt))
+pub returns-clause-questions : goal.returns-clause-questions
+returns-clause-questions g c some inside =
+    let k = c.first_boundary.ensures.taken some inside in (
+      k.1.judge,
+      asks_same (LinearQuestions (by_predicate g.P.FnMut) Front) _ _ _ _ _ _ _ (c.new.ensures.remainder ∙ c.from_before.ensures) c.new.ensures.judge k.3 k.2.call.asked,
+    )

@@ -1,8 +1,31 @@
-use Rattle.std.proofs.Common.{ap, refl, rules, subst}
+use Rattle.std.proofs.Common.{ap, refl, rules, subst, sym}
 use Rattle.std.specs.Fn.{CalledAt}
+use Rattle.sgb_search.proofs.Questions.Closures.{key_called, key_callable, key_next, key_settled, callable_after_call}
 use Rattle.sgb_groups.proofs.by_key.ByKeyMut+T+F+K+W.key_of.Goals as goal
 
 pub returns-clause-called : goal.returns-clause-called
 returns-clause-called g c =
     subst (λ f. CalledAt g.F.FnMut f c.args.element.now c.func.result c.func.new.self) (ap (λ s. s.judge.func) c.self.view_is)
     (record { shown = c.args.element; shows = refl; called = search rules })
+
+pub returns-clause-callable : goal.returns-clause-callable
+returns-clause-callable g c always =
+    key_callable g.F.FnMut g.K.PartialEq.eq _ _ (key_called g.F.FnMut g.K.PartialEq.eq _ _ _ _ (returns-clause-called g c) always)
+
+pub returns-clause-callable_on : goal.returns-clause-callable_on
+returns-clause-callable_on g c xs on here = callable_after_call g.F.FnMut xs _ _ _ _ (returns-clause-called g c) on here
+
+pub returns-clause-key : goal.returns-clause-key
+returns-clause-key g c key h = (key_next g.F.FnMut g.K.PartialEq.eq key _ _ _ _ h (returns-clause-called g c)).0
+
+pub returns-clause-computes : goal.returns-clause-computes
+returns-clause-computes g c key h = (key_next g.F.FnMut g.K.PartialEq.eq key _ _ _ _ h (returns-clause-called g c)).1
+
+pub returns-clause-remainder : goal.returns-clause-remainder
+returns-clause-remainder g c = search rules
+
+pub returns-clause-settled : goal.returns-clause-settled
+returns-clause-settled g c key h settled =
+    g.W.Way.settled_if_fits _ _ _ _ _ (key_settled g.F.FnMut g.K.PartialEq.eq key _ _ (returns-clause-computes g c key h))
+    (subst (g.W.Way.fits _ (λ x y. g.K.PartialEq.eq (key x) (key y))) (sym (returns-clause-remainder g c))
+    (g.W.Way.fits_if_settled _ _ _ _ _ settled))
