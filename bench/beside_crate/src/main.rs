@@ -127,7 +127,7 @@ fn main() {
     numbers(rounds, "u8", |x| x as u8, [ffi::number_u8_front, ffi::number_u8_back]);
     numbers(rounds, "u32", |x| x, [ffi::number_u32_front, ffi::number_u32_back]);
     numbers(rounds, "u64", u64::from, [ffi::number_u64_front, ffi::number_u64_back]);
-    numbers(rounds, "i32", |x| x as i32, [ffi::number_i32_front, ffi::number_i32_back]);
+    numbers(rounds, "f64", f64::from, [ffi::number_f64_front, ffi::number_f64_back]);
     for (what, ours, theirs) in TEXTS {
         for (mixed, kind) in [(false, "ASCII"), (true, "one to four bytes a character")] {
             head(&format!("{what}, {kind}"), "a character");

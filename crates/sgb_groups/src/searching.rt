@@ -94,21 +94,21 @@ impl<S: GroupSearch> Way for Search<S> {
         // Places are counted from the outermost element, which is place 0: so the group ends at the place that the search gives.
         answer_place(match end {
             End::Front => {
-                let places = FromFront {
+                let behind = FromFront {
                     outermost: &slice[low],
                     slice,
                     first: low,
                 };
-                S::search(judge, &places, 1, high - low)
+                S::search(judge, &behind, 1, high - low)
             }
             End::Back => {
                 let last = high - 1;
-                let places = FromBack {
+                let before = FromBack {
                     outermost: &slice[last],
                     slice,
                     last,
                 };
-                S::search(judge, &places, 1, high - low)
+                S::search(judge, &before, 1, high - low)
             }
         })
     }

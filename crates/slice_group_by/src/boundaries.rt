@@ -71,15 +71,17 @@ fn first_boundary<'a, T: 'a, Q: SliceQueue<'a, T> + Drop>(
     index - 1 + first_len(groups)
 }
 
-/// The first place at or behind `index` where a group of equal elements begins, or the length of the slice.
+/// The first place at or behind `index` where a group of equal elements begins, or the length of the slice. At 0 it is 0.
 ///
-/// Cut there, the two parts have the groups of the whole, so that they can be walked apart. It asks what one call of `LinearGroup`
-/// asks from the element before `index` on, and takes time by that. `str::ceil_char_boundary` does this for characters.
+/// Cut there, the two parts have the groups of the whole, so that they can be walked apart. It compares what one call of
+/// `LinearGroup` compares that begins with the element before `index`, and nothing at 0 or beyond the slice.
+/// `str::ceil_char_boundary` does this for characters.
 ///
 /// ```
 /// let slice = [1, 1, 1, 3, 3, 2];
 /// linear_boundary(&slice, 4); // 5
 /// linear_boundary(&slice, 3); // 3
+/// linear_boundary(&slice, 0); // 0
 /// ```
 pub fn linear_boundary<T: PartialEq>(slice: &[T], index: usize) -> usize
     ensures within { result ≤ length slice.now }
@@ -92,7 +94,7 @@ pub fn linear_boundary<T: PartialEq>(slice: &[T], index: usize) -> usize
     first_boundary(slice, index, LinearGroup::new(from_before(slice, index)))
 }
 
-/// `linear_boundary` by a predicate, for the groups of `LinearGroupBy`.
+/// `linear_boundary` by a predicate, for the groups of `LinearGroupBy`: it asks what one call of it asks (`questions`).
 ///
 /// ```
 /// linear_boundary_by(&[1, 2, 4, 3, 5], 1, |a, b| a < b); // 3
@@ -119,7 +121,7 @@ pub fn linear_boundary_by<T, P: FnMut(&T, &T) -> bool>(
     first_boundary(slice, index, LinearGroupBy::new(from_before(slice, index), predicate))
 }
 
-/// `linear_boundary` by a key, for the groups of `LinearGroupByKey`.
+/// `linear_boundary` by a key, for the groups of `LinearGroupByKey`: it asks what one call of it asks (`questions`).
 ///
 /// ```
 /// linear_boundary_by_key(&[10, 11, 25, 26], 1, |x| x / 10); // 2
@@ -145,8 +147,8 @@ pub fn linear_boundary_by_key<T, K: PartialEq + Drop, F: FnMut(&T) -> K>(
     first_boundary(slice, index, LinearGroupByKey::new(from_before(slice, index), func))
 }
 
-/// `linear_boundary` by galloping, for a slice that is grouped for `==`, such as a sorted one. It asks at most `2 * digits(g) + 1`
-/// questions if the result lies g elements behind the one before `index`.
+/// `linear_boundary` by galloping, for a slice that is grouped for `==`, such as a sorted one. It compares at most
+/// `2 * digits(g) + 1` times if the result lies g elements behind the one before `index`.
 ///
 /// ```
 /// exponential_boundary(&[1, 1, 1, 3, 3, 7], 4); // 5
@@ -163,7 +165,8 @@ pub fn exponential_boundary<T: PartialEq>(slice: &[T], index: usize) -> usize
     first_boundary(slice, index, ExponentialGroup::new(from_before(slice, index)))
 }
 
-/// `exponential_boundary` by a predicate, for a slice that is grouped for it and the groups of `ExponentialGroupBy`.
+/// `exponential_boundary` by a predicate, for a slice that is grouped for it and the groups of `ExponentialGroupBy`. It asks what
+/// one call of it asks: at most `2 * digits(g) + 1` questions (`questions`).
 #[tactic(auto, using(crate::proofs::Pieces::Boundaries::grouped_rest))]
 pub fn exponential_boundary_by<T, P: FnMut(&T, &T) -> bool>(
     slice: &[T],
@@ -188,7 +191,7 @@ pub fn exponential_boundary_by<T, P: FnMut(&T, &T) -> bool>(
 }
 
 /// `exponential_boundary` by a key, for a slice that is grouped by it, such as one that ascends by it, and the groups of
-/// `ExponentialGroupByKey`.
+/// `ExponentialGroupByKey`. It asks what one call of it asks: at most `2 * digits(g) + 1` questions (`questions`).
 #[tactic(auto, using(crate::proofs::Pieces::Boundaries::grouped_rest))]
 pub fn exponential_boundary_by_key<T, K: PartialEq + Drop, F: FnMut(&T) -> K>(
     slice: &[T],

@@ -105,6 +105,7 @@ fn outer_groups() -> bool {
 fn from_both_ends(rt: HostRuntime) {
     assert!(rt; by_key_from_both_ends() == [Some("aB"), Some("b"), Some("1"), None]);
     assert!(rt; outer_groups());
+    assert_eq!(rt; LinearStrGroup::new("ab").size_hint(), (0, None));
 }
 
 fn ascends(a: char, b: char) -> bool {

@@ -12,7 +12,7 @@ group_len-len-requires-clause-callable g c =
     c.self.view_is c.requires)
 
 pub returns-clause-gives : goal.returns-clause-gives
-returns-clause-gives g c = grind (arith, common_steps)
+returns-clause-gives g c = (grind (arith, common_steps), rw (← c.self.view_is) c.cut-group.ensures.out)
 
 pub returns-clause-callable : goal.returns-clause-callable
 returns-clause-callable g c = g.W.Way.keeps _ _ g.J.Judge _ _ (Some c.cut-group.result.0.now) _ (returns-clause-gives g c).0 c.requires

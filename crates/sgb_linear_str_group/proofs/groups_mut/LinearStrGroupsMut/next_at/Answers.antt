@@ -15,7 +15,9 @@ split_group-requires g c =
 pub returns-clause-gives : goal.returns-clause-gives
 returns-clause-gives g c =
     let given = cut_alike g.J.Judge c.args.end.now _ _ _ _ _ (rw c.unwrap.ensures at c.split_group.ensures) in
-    grind (arith, common_steps, given)
+    let cut = c.cut-group.ensures in
+    let at = given _ _ (c.text_of.ensures ∙ cut.value) cut.len in
+    grind (arith, common_steps, at)
 
 pub returns-clause-callable : goal.returns-clause-callable
 returns-clause-callable g c =
