@@ -2,6 +2,7 @@
 #![tactic(auto)]
 
 pub mod alone;
+pub mod blocks;
 pub mod kinds;
 pub mod merged;
 pub mod names;

@@ -3,3 +3,4 @@ pub mod Merge
 pub mod Asking
 pub mod Examples
 pub mod JoinKinds
+pub mod Blocks

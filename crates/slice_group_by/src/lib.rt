@@ -50,7 +50,7 @@ pub use sgb_linear_group::linear_group::{
 pub use sgb_linear_str_group::by_equality::{LinearStrGroup, LinearStrGroupMut};
 pub use sgb_linear_str_group::by_key::{LinearStrGroupByKey, LinearStrGroupByKeyMut};
 pub use sgb_linear_str_group::by_predicate::{LinearStrGroupBy, LinearStrGroupByMut};
-pub use sgb_merge_join::{EitherOrBoth, MergeJoinBy};
+pub use sgb_merge_join::{EitherOrBoth, MergeJoinBy, joinable_prefixes};
 pub use sgb_number_group::by_class::LinearClassGroup;
 pub use sgb_number_group::by_number::LinearNumberGroup;
 pub use sgb_number_group::class_counts::{ClassCounts, class_after, count_classes};
