@@ -25,6 +25,7 @@ pub use Rattle.sgb_merge_join.specs.Values
 pub use Rattle.sgb_merge_join.specs.Merge
 pub use Rattle.sgb_merge_join.specs.Asking
 pub use Rattle.sgb_merge_join.specs.JoinKinds
+pub use Rattle.sgb_merge_join.specs.Blocks
 pub use Rattle.sgb_groups.specs.Gives
 pub use Rattle.sgb_stream_group.specs.Streams
 pub use Rattle.sgb_linear_str_group.specs.Texts

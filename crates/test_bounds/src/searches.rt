@@ -69,6 +69,12 @@ pub fn joined_by<A, B, F: FnMut(&A, &B) -> Ordering>(left: &[A], right: &[B], co
     let _ = MergeJoinBy::new(left, right, compare);
 }
 
+pub fn joined_in_blocks<A, B, F: FnMut(&A, &B) -> Ordering>(left: &[A], right: &[B], compare: F)
+    requires { IsCallableAcross F.FnMut left.now right.now compare }
+{
+    let _ = joinable_prefixes(left, false, right, true, compare);
+}
+
 // Values that may be let go, and slices of anything.
 
 pub fn parts<L: Drop, R: Drop>(parts: [EitherOrBoth<L, R>; 6], values: (L, R)) -> (L, R) {

@@ -1,10 +1,12 @@
 //! Users of joins: that memory is enough for what they find.
 ghost use Rattle.std.specs.Prelude.{◌≡◌, IfOk, string_bytes};
 
+use example_joins::blocks::common_numbers_of_blocks;
 use example_joins::kinds::{absent, common_groups, present};
 use example_joins::names::{Person, Visit, count_visits};
 use example_joins::sets::{difference, intersection, union, union_of_three};
 use example_joins::visits::visits_of_each;
+use slice_group_by::joinable_prefixes;
 use std::alloc::{AllocError, Global};
 use std::test::Fail;
 
@@ -51,6 +53,29 @@ fn of_numbers(rt: HostRuntime) -> Result<(), Fail> {
     let groups: [(&[u32], &[u32]); 2] = [(&[2], &[2]), (&[5], &[5, 5])];
     assert!(rt; common_groups(alloc, &left, &right)?.as_slice() == groups.as_slice());
     Ok(())
+}
+
+// Runs of one number go on over blocks, and some blocks are empty.
+#[test]
+fn of_blocks(rt: HostRuntime) -> Result<(), Fail> {
+    let lefts: [&[u32]; 4] = [&[1, 1], &[], &[1, 2], &[5, 7, 7]];
+    let rights: [&[u32]; 5] = [&[1], &[1, 3], &[5], &[5], &[7, 9]];
+    let found = common_numbers_of_blocks(rt.alloc(), &lefts, &rights)?;
+    assert!(rt; found.as_slice() == [1, 1, 1, 5, 7, 7].as_slice());
+    Ok(())
+}
+
+fn joinable(left: &[u32], right: &[u32]) -> (usize, usize) {
+    joinable_prefixes(left, false, right, false, |x, y| x.cmp(y))
+}
+
+// As much as may be joined, and no less.
+#[test]
+fn of_two_blocks(rt: HostRuntime) {
+    assert!(rt; joinable(&[1, 2, 3], &[2, 3, 3]) == (2, 1));
+    assert!(rt; joinable(&[1, 2, 3], &[2, 3, 4]) == (3, 1));
+    assert!(rt; joinable(&[3, 3], &[3, 3]) == (0, 0));
+    assert!(rt; joinable(&[5, 6], &[1, 5]) == (0, 1));
 }
 
 #[test]
