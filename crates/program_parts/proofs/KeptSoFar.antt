@@ -1,14 +1,15 @@
 -- What is kept of the lines that a reader gave so far, and what is said of the others.
 use Rattle.std.proofs.Common.{◌≡◌, ◌≢◌, ℕ, ◌+◌, Bool, true, false, ◌&&◌, List, [], ◌∷◌, ◌++◌, length}
 use Rattle.std.proofs.Common.{Option, None, Some, IfSome, inl, inr, refl, sym, ap, ◌∙◌, subst, arith, append_assoc, append-nil}
-use Rattle.std.proofs.Common.{◌-◌, ◌*◌, ◌^◌, ◌<◌, ◌≤◌, ◌⊎◌, length-append, min, nat_eq, nat_lt, take}
+use Rattle.std.proofs.Common.{◌-◌, ◌^◌, ◌<◌, ◌≤◌, ◌⊎◌, length-append, min, nat_eq, nat_lt, take}
 use Rattle.std.proofs.lemmas.Bool.Decides.{nat_tests}
 use Rattle.std.proofs.lemmas.List.{take_all, take-append-le}
 use Rattle.std.specs.Fmt.{◌++?◌}
 use Rattle.std.specs.Option.{option_map}
 use Rattle.std.specs.Io.BufRead.{first_line, DropsThrough}
 use Rattle.std.specs.Io.KnownBytes.{Appends, IsAtEnd, Keeps}
-use Rattle.program_parts.specs.Complaints.{LeftOut, none_left_out, complaint, complaints, SaysEach, Complains, count_of, most_shown, others_line}
+use Rattle.program_parts.specs.Complaints.{LeftOut, none_left_out, count_of, most_shown, complaint, complaints, others_line}
+use Rattle.program_parts.specs.Complaints.{SaysEach, Complains}
 use Rattle.program_parts.specs.Kept.{AreKept, KeptLines, line_number}
 use Rattle.program_parts.specs.Read.{AreRead}
 use Rattle.program_parts.proofs.Appended.{appends_nothing, appends_both, appends_kept}
@@ -33,7 +34,8 @@ below_or_not m n = by (nat_lt m n) refl
     by false e = inr (grind (arith, nat_tests))
 
 -- how many are counted, if a line more is left out
-pub count_more : {P : Type 0} (lines : List (LeftOut P)) (line : LeftOut P) → count_of (lines ++ line ∷ []) ≡ min (count_of lines + 1) (2 ^ 64 - 1)
+pub count_more : {P : Type 0} (lines : List (LeftOut P)) (line : LeftOut P)
+    → count_of (lines ++ line ∷ []) ≡ min (count_of lines + 1) (2 ^ 64 - 1)
 count_more lines line = let more = length-append lines (line ∷ []) in omega (arith, more)
 
 -- nothing is counted, if and only if no line is left out
@@ -116,7 +118,8 @@ module _ {P : Type 0} (name : P → List ℕ) (words : P → Option (List ℕ)) 
           rw (take-append-le most lines (left ∷ []) many) (says_kept (take most lines) before said after h (silent many))
 
 -- all complaints of a file that is read to its end
-pub complains_all : {P : Type 0} (name : List ℕ) (words : P → Option (List ℕ)) (lines : List (LeftOut P)) (before said after : Option (List ℕ))
+pub complains_all : {P : Type 0} (name : List ℕ) (words : P → Option (List ℕ)) (lines : List (LeftOut P))
+    (before said after : Option (List ℕ))
     → SaysEach (λ _. name) words (take most_shown lines) before said → Appends said after (others_line name (count_of lines - most_shown))
     → Complains name words lines before after
 complains_all name words lines before said after h others = by (complaints (λ _. name) words (take most_shown lines)) h

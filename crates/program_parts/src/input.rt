@@ -7,8 +7,8 @@ use std::fs::File;
 use std::io;
 use std::io::{ErrorKind, Read, Stdin, Write};
 
-/// A file by its name, or standard input by a dash: how complaints show the name, with its control characters escaped, and whether a
-/// read of the file failed.
+/// A file by its name, or standard input by a dash. It has the name as complaints show it, with control characters
+/// escaped, and notes whether a read failed.
 #[derive(Drop)]
 pub struct NamedFile {
     name: String,
@@ -26,8 +26,8 @@ impl NamedFile {
         })
     }
 
-    /// The file that the last word names, which is taken off the words, or standard input: where that word is a dash, begins with
-    /// `--`, is one of the modes, or there is none, and where help is asked for.
+    /// The file that the last word names, which is taken off the words. It is standard input where that word is a dash,
+    /// begins with `--`, is one of the modes, or there is none, and where help is asked for.
     pub fn take(
         alloc: Global,
         words: &mut Vec<String>,
@@ -62,7 +62,7 @@ enum Source {
     File(File),
 }
 
-/// What a program reads: a file, which notes a read that fails.
+/// What a program reads. A read that fails is noted in the file.
 #[derive(Drop)]
 pub struct Input<'a> {
     file: &'a NamedFile,

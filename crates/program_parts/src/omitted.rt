@@ -33,7 +33,7 @@ impl<'a> Omitted<'a> {
         self.count == 0
     }
 
-    /// The line of this number is left out too. A line of complaint says so, and why, if it is one of the first hundred.
+    /// The line of this number is left out. A line of complaint says so, and why, if it is one of the first hundred.
     pub fn say<W: Write, P: Display + Drop>(
         &mut self,
         out: &mut W,
@@ -72,8 +72,8 @@ impl<'a> Omitted<'a> {
     }
 }
 
-// Says that a line of the file of this name is left out, and why, on a line of its own, which a buffered writer passes on in one
-// write.
+// Says that a line of the file of this name is left out, and why, on a line of its own, which a buffered writer passes
+// on in one write.
 fn complain<W: Write, P: Display + Drop>(
     out: &mut W,
     name: &str,

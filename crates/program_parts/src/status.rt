@@ -5,8 +5,8 @@ use crate::input::NamedFile;
 use std::io;
 use std::io::Write;
 
-/// The status of a program of this name that did what it was asked, by these files: 0 where nothing was left out, and else 1. Where
-/// it failed, a line of complaint says so, and why, with the name of the file if it was a read that failed.
+/// The status of a program of this name that did what it was asked, and read these files: 0 where nothing was left out,
+/// and else 1. Where it failed, a line of complaint says so, and why, with the name of the file if a read failed.
 pub fn status_of<E: Write>(
     program: &str,
     done: io::Result<bool>,

@@ -12,8 +12,8 @@ use std::io;
 use std::io::{BufRead, Write};
 
 /// Writes the bytes of the runs that the lines of the input say, and gives back whether each line says one. One that
-/// says none is left out: of the first hundred a line of complaint says why, with the name of the file, and one at the end says how
-/// many more there are. It keeps one line in memory, and a block of what is written.
+/// says none is left out: a line of complaint for each of the first hundred says why, with the name of the file, and one
+/// at the end how many more there are. It keeps one line in memory, and a block of what is written.
 pub fn decode<R: BufRead, W: Write, E: Write>(
     alloc: Global,
     name: &str,

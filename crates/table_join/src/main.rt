@@ -2,7 +2,7 @@
 //! several times. `program.rt` has what is read and what is written.
 //!
 //! Each line of the join goes out as it is found. What is kept in memory is a block of each table, a row of each and the right
-//! rows of one key.
+//! rows of one key, or one of these where the join writes no right rows.
 #![tactic(auto)]
 
 mod excerpt;
