@@ -33,7 +33,7 @@ fn main(rt: HostRuntime) -> io::Result<ExitCode> {
     let status = program::run(
         rt.alloc(),
         &words,
-        file.shown(),
+        &file.shown,
         input,
         &[&file],
         &mut out,

@@ -46,9 +46,9 @@ fn main(rt: HostRuntime) -> io::Result<ExitCode> {
     let queries = BufReader::with_capacity(rt.alloc(), 65536, queries)?;
     let status = program::run(
         rt.alloc(),
-        index_file.shown(),
+        &index_file.shown,
         index,
-        queries_file.shown(),
+        &queries_file.shown,
         queries,
         &[&index_file, &queries_file],
         &mut out,

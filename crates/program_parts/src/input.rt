@@ -1,4 +1,8 @@
 //! What a program reads: a file that is named, or standard input.
+ghost use Rattle.std.specs.Prelude.{◌≡◌, ◌++◌, flat_map, string_bytes, IfOk, OnOk};
+ghost use Rattle.std.specs.Char.{encode_utf8};
+ghost use Rattle.std.specs.Char.Escape.{escape_default};
+ghost use Rattle.program_parts.specs.Shown.{shown_char, shown_text};
 
 use crate::arguments::has_word;
 use std::alloc::{AllocError, Global};
@@ -12,13 +16,15 @@ use std::io::{ErrorKind, Read, Stdin, Write};
 #[derive(Drop)]
 pub struct NamedFile {
     name: String,
-    shown: String,
+    pub shown: String,
     has_failed: Cell<bool>,
 }
 
 impl NamedFile {
     /// The file of this name.
-    pub fn new(alloc: Global, name: &str) -> Result<NamedFile, AllocError> {
+    pub fn new(alloc: Global, name: &str) -> Result<NamedFile, AllocError>
+        ensures { IfOk result (λ file. string_bytes file.shown ≡ shown_text name.now) }
+    {
         Ok(NamedFile {
             name: String::from_str(alloc, name)?,
             shown: shown(alloc, name)?,
@@ -37,11 +43,6 @@ impl NamedFile {
             Some(name) => NamedFile::new(alloc, &name),
             None => NamedFile::new(alloc, "-"),
         }
-    }
-
-    /// The name as complaints show it.
-    pub fn shown(&self) -> &str {
-        &self.shown
     }
 
     /// Whether it is standard input.
@@ -82,7 +83,7 @@ impl<'a> Input<'a> {
                 source: Source::File(opened),
             }),
             Err(error) => {
-                let _ = writeln!(rt.stderr(), "{program}: {}: {error}", file.shown());
+                let _ = writeln!(rt.stderr(), "{program}: {}: {error}", file.shown);
                 None
             }
         }
@@ -116,22 +117,35 @@ fn pop_file(words: &mut Vec<String>, modes: &[&str]) -> Option<String> {
     words.pop()
 }
 
-// The name with its control characters escaped.
-fn shown(alloc: Global, name: &str) -> Result<String, AllocError> {
+// The text as complaints show it.
+fn shown(alloc: Global, text: &str) -> Result<String, AllocError>
+    ensures { IfOk result (λ shown. string_bytes shown ≡ shown_text text.now) }
+{
     let mut shown = String::new(alloc);
-    for character in name.chars() {
-        if character.is_control() {
-            push_escaped(&mut shown, character)?;
-        } else {
-            shown.push(character)?;
-        }
+    for character in text.chars() {
+        push_shown(&mut shown, character)?;
     }
     Ok(shown)
 }
 
-// Adds the character, escaped as `{:?}` escapes it.
-fn push_escaped(text: &mut String, character: char) -> Result<(), AllocError> {
-    for escaped in character.escape_debug() {
+// Adds a character as complaints show it.
+fn push_shown(text: &mut String, character: char) -> Result<(), AllocError>
+    ensures { OnOk result
+        (string_bytes text.new ≡ string_bytes text.old ++ flat_map encode_utf8 (shown_char character)) }
+{
+    if character.is_control() {
+        push_escaped(text, character)
+    } else {
+        text.push(character)
+    }
+}
+
+// Adds a character with its code or its letter behind a backslash.
+fn push_escaped(text: &mut String, character: char) -> Result<(), AllocError>
+    ensures { OnOk result
+        (string_bytes text.new ≡ string_bytes text.old ++ flat_map encode_utf8 (escape_default character)) }
+{
+    for escaped in character.escape_default() {
         text.push(escaped)?;
     }
     Ok(())

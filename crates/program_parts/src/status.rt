@@ -22,7 +22,7 @@ pub fn status_of<E: Write>(
         Ok(false) => 1,
         Err(error) => {
             let _ = match files.iter().find(|file| file.has_failed()) {
-                Some(file) => writeln!(complaints, "{program}: {}: {error}", file.shown()),
+                Some(file) => writeln!(complaints, "{program}: {}: {error}", file.shown),
                 None => writeln!(complaints, "{program}: {error}"),
             };
             1

@@ -30,7 +30,7 @@ fn main(rt: HostRuntime) -> io::Result<ExitCode> {
     let status = program::run(
         rt.alloc(),
         &words,
-        file.shown(),
+        &file.shown,
         &mut input,
         &[&file],
         &mut out,

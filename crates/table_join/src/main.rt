@@ -52,9 +52,9 @@ fn main(rt: HostRuntime) -> io::Result<ExitCode> {
     let status = program::run(
         rt.alloc(),
         kind,
-        left_file.shown(),
+        &left_file.shown,
         left,
-        right_file.shown(),
+        &right_file.shown,
         right,
         &[&left_file, &right_file],
         &mut out,
