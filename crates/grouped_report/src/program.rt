@@ -22,9 +22,9 @@ line for each department, in ascending order, with the sum of its amounts, and t
 end. A department is an unsigned number of 32 bits and an amount one of 64 bits; a plus sign may
 stand before either. A `\\r` before a line feed is dropped.
 
-A line that is no row, as one that is not UTF-8, is left out, and standard error says why of the first hundred, and how
-many more there are. The status is then 1, and so it is where reading or writing fails. It is 2 where an argument is not
-known. A line must fit in memory.
+A line that is no row, as one that is not UTF-8, is left out: standard error says why for each of the first hundred, and
+how many more there are. The status is then 1, and so it is where reading or writing fails. It is 2 where an argument is
+not known. A line must fit in memory.
 ";
 
 /// Does what the arguments ask for, and gives back the status: 0, or 1 where it failed or a line is left

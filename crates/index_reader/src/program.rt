@@ -25,9 +25,9 @@ one of 64 bits; a plus sign may stand before either. The keys of the index ascen
 stand several times. The queries come in any order. A `\\r` before a line feed is dropped.
 
 A line that is no entry, or whose key is lower than a key before it, or that is no query, is left
-out; so is one that is not UTF-8. Standard error says why of the first hundred of a file, and how
-many more there are. The status is then 1, and so it is where reading or writing fails. It is 2
-where an argument is not known. The index must fit in memory, and so must a line.
+out; so is one that is not UTF-8. Standard error says why for each of the first hundred of a file,
+and how many more there are. The status is then 1, and so it is where reading or writing fails. It
+is 2 where an argument is not known. The index must fit in memory, and so must a line.
 ";
 
 /// Answers the queries by the index, and gives back the status: 0, or 1 where it failed or a line is left out. What went

@@ -21,7 +21,7 @@ use std::io::{BufRead, Write};
 pub const USAGE: &str = "usage: run_length_coder [decode | --help] [FILE]
 Writes each run of equal bytes of FILE, or of standard input, as a line `COUNT BYTE`, two decimal numbers.
 With `decode` it reads such lines, with or without a `\\r` at their ends, and writes the bytes again. A line that says no run is
-left out, and standard error says why. A line must fit in memory.
+left out: standard error says why for each of the first hundred, and how many more there are. A line must fit in memory.
 ";
 
 /// Does what the arguments ask for, and gives back the status: 0, or 1 where it failed or a line is no run, or 2

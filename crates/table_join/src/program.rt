@@ -32,11 +32,10 @@ feed is dropped.
   anti    a line `key,value` for each left row that has none
 
 A line that is no row, or whose key is lower than a key before it in its table, is left out;
-so is one that is not UTF-8. Standard error says why of the first hundred of a file, and how
-many more there are. A key is shown there up to 80 bytes, and then `..`. The status is then 1,
-and so it is where reading or writing fails. It is 2 where an argument is not known. In memory
-stand a block and a line of each file, which must fit, and the right rows of one key; `semi` and
-`anti` keep one of these.
+so is one that is not UTF-8. Standard error says why for each of the first hundred of a file,
+and how many more there are. A key is shown there up to 80 bytes, and then `..`. The status is
+then 1, and so it is where reading or writing fails. It is 2 where an argument is not known. A
+line must fit in memory, and so must the right rows of one key; `semi` and `anti` keep one row.
 ";
 
 /// Joins two tables, and gives back the status: 0, or 1 where it failed or a line is left out. What went wrong is said in lines
