@@ -16,6 +16,12 @@ def first(*lines):
     return said(*((number, why.encode()) for number, why in lines), file=b"first")
 
 
+def hundred(why):
+    """The first hundred lines, each left out for this."""
+    return [(number, why) for number in range(1, 101)]
+
+
+NAMES = ["run_length_coder", "uniq_count", "token_counter", "grouped_report", "table_join", "index_reader"]
 NO_RUN = b"it is no run: two numbers with a space between them"
 NO_BYTE = b"its byte is no number up to 255"
 NO_COUNT = b"its count is no number of 64 bits"
@@ -71,6 +77,7 @@ CASES = [
     ),
     ("table_join", [], (b"", b""), 0, b"", b""),
     ("table_join", ["-", "-"], b"", 2, b"", b"table_join: both files cannot be standard input\n"),
+    *(("index_reader", words, b"", 2, b"", b"index_reader: both files cannot be standard input\n") for words in (["-"], ["-", "-"])),
     ("index_reader", [], (b"3,30\n5,51\r\n5,50\n", b"5\n4\n+3"), 0, b"5: 51 50\n4: none\n3: 30\n3 queries\n", b""),
     ("index_reader", [], (b"", b""), 0, b"0 queries\n", b""),
     ("index_reader", [], (b"1,2\n", b"1\n"), 0, b"1: 2\n1 query\n", b""),
@@ -81,11 +88,31 @@ CASES = [
             (6, LOWER % (4, 5)), (7, "it has no comma"),
         ) + said((1, b"the query is no number of 32 bits"), (2, b"the query is not UTF-8")),
     ),
+    *((name, ["\udcff"], b"", 2, b"", b"%s: an argument is not UTF-8\n" % name.encode()) for name in NAMES),
+    # of a hundred lines of a file each is complained of, and the others are counted
+    ("run_length_coder", ["decode"], b"\n" * 100, 1, b"", said(*hundred(NO_RUN))),
+    ("grouped_report", [], b"\n" * 101, 1, b"total: 0\n", said(*hundred(NO_COMMA)) + b"-: 1 more line is left out\n"),
+    (
+        "table_join", [], (b"\n" * 101, b"\n" * 112), 1, b"",
+        said(*hundred(NO_COMMA), file=b"first") + said(*hundred(NO_COMMA))
+        + b"first: 1 more line is left out\n-: 12 more lines are left out\n",
+    ),
+    (
+        "index_reader", [], (b"\n" * 102, b"\n" * 101), 1, b"0 queries\n",
+        said(*hundred(NO_COMMA), file=b"first") + b"first: 2 more lines are left out\n"
+        + said(*hundred(b"the query is no number of 32 bits")) + b"-: 1 more line is left out\n",
+    ),
     # lines are read without their end, of which the last has none
     ("table_join", ["anti"], (b"a,\r\r\nb,\xc3\xa9", b""), 0, b"a,\r\nb,\xc3\xa9\n", b""),
 ]
 
 ROWS = b"".join(b"%08d,a value of some length\n" % key for key in range(780_000))
+
+# Files that cannot be read, how they are named, and why.
+UNREADABLE = [("miss\ning\x1b\x7fé", r"miss\ning\u{1b}\u{7f}é", 2), (".", ".", 21)]
+
+# A file whose name has control characters, and what is said of it.
+NAMED_LINES = ("grouped_report", "a\r\nb\x85é", b"no\n", r"a\r\nb\u{85}é: line 1 is left out: it has no comma".encode() + b"\n")
 
 # Long inputs, and what is written of them.
 LONG = [
@@ -93,6 +120,7 @@ LONG = [
     ("uniq_count", [], b"a line\n" * 8_000_000, b"8000000 a line\n"),
     ("grouped_report", [], b"1,1\n2,1\n" * 3_000_000, b"department 1: 3000000\ndepartment 2: 3000000\ntotal: 6000000\n"),
     ("table_join", [], (b"k,v\n" * 2000, b"k,w\n" * 2000), b"k,v,w\n" * 4_000_000),
+    ("table_join", ["semi"], (b"k,v\n", b"k,w\n" * 4_000_000), b"k,v\n"),
     # 25 MB and 25 MB
     ("table_join", ["semi"], (ROWS, ROWS), ROWS),
 ]

@@ -14,19 +14,30 @@ mod run;
 mod sums;
 
 use program_parts::arguments::arguments;
-use program_parts::input::open_input;
+use program_parts::input::{Input, NamedFile};
 use std::io;
 use std::io::{BufReader, BufWriter};
 use std::process::ExitCode;
 
 fn main(rt: HostRuntime) -> io::Result<ExitCode> {
-    let mut words = arguments(&rt)?;
-    let Some((name, input)) = open_input(&rt, "grouped_report", &mut words, &[])? else {
+    let Some(mut words) = arguments(&rt, "grouped_report")? else {
+        return Ok(ExitCode::from(2));
+    };
+    let file = NamedFile::take(rt.alloc(), &mut words, &[])?;
+    let Some(input) = Input::open(&rt, "grouped_report", &file) else {
         return Ok(ExitCode::from(1));
     };
     let input = BufReader::new(rt.alloc(), input)?;
     let mut out = BufWriter::new(rt.alloc(), io::writer(&rt))?;
     let mut complaints = BufWriter::new(rt.alloc(), rt.stderr())?;
-    let status = program::run(rt.alloc(), &words, &name, input, &mut out, &mut complaints);
+    let status = program::run(
+        rt.alloc(),
+        &words,
+        &file.shown,
+        input,
+        &[&file],
+        &mut out,
+        &mut complaints,
+    );
     Ok(ExitCode::from(status))
 }

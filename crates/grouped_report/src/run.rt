@@ -7,7 +7,8 @@ ghost use Rattle.grouped_report.specs.declared.entry.Entry.{Entry};
 use crate::output::write_report;
 use crate::row::parse_row;
 use crate::sums::Sums;
-use program_parts::lines::{Lines, complain};
+use program_parts::lines::Lines;
+use program_parts::omitted::Omitted;
 use std::alloc::Global;
 use std::io;
 use std::io::{BufRead, Write};
@@ -46,17 +47,15 @@ fn read_rows<R: BufRead, E: Write>(
         × IfSome (R.remaining lines.old.reader) (λ bytes. AreRows name.now bytes rows is_whole
         (E.contents complaints.old) (E.contents complaints.new))) }
 {
-    let mut is_whole = true;
+    let mut omitted = Omitted::none(name);
     for _ in 0..u64::MAX {
         if !lines.advance()? {
-            return Ok(is_whole);
+            omitted.finish(complaints)?;
+            return Ok(omitted.is_empty());
         }
         match parse_row(&lines.line) {
             Ok(row) => sums.add(alloc, row)?,
-            Err(problem) => {
-                complain(complaints, name, lines.number, problem)?;
-                is_whole = false;
-            }
+            Err(problem) => omitted.say(complaints, lines.number, problem)?,
         }
     }
     Err(io::Error::other("there are too many lines"))

@@ -11,40 +11,60 @@ mod output;
 mod program;
 mod run;
 
-use program_parts::arguments::arguments;
-use program_parts::input::open_named;
+use program_parts::arguments::{arguments, has_word};
+use program_parts::input::{Input, NamedFile};
 use std::io;
-use std::io::{BufReader, BufWriter};
+use std::io::{BufReader, BufWriter, Write};
 use std::process::ExitCode;
 
 fn main(rt: HostRuntime) -> io::Result<ExitCode> {
-    let words = arguments(&rt)?;
+    let Some(words) = arguments(&rt, "index_reader")? else {
+        return Ok(ExitCode::from(2));
+    };
     let mut out = BufWriter::with_capacity(rt.alloc(), 65536, rt.stdout())?;
     let mut complaints = BufWriter::new(rt.alloc(), rt.stderr())?;
-    let (index_name, queries_name) = match words.as_slice() {
-        [index] if !index.starts_with("--") => (index.as_str(), "-"),
-        [index, queries] => (index.as_str(), queries.as_str()),
-        _ => {
-            let status = program::explain(&words, &mut out, &mut complaints);
-            return Ok(ExitCode::from(status));
-        }
+    let Some((index_name, queries_name)) = named(&words) else {
+        let status = program::explain(&words, &mut out, &mut complaints);
+        return Ok(ExitCode::from(status));
     };
-    let Some(index) = open_named(&rt, "index_reader", index_name) else {
+    let index_file = NamedFile::new(rt.alloc(), index_name)?;
+    let queries_file = NamedFile::new(rt.alloc(), queries_name)?;
+    if index_file.is_stdin() && queries_file.is_stdin() {
+        let _ = writeln!(
+            complaints,
+            "index_reader: both files cannot be standard input"
+        );
+        return Ok(ExitCode::from(2));
+    }
+    let Some(index) = Input::open(&rt, "index_reader", &index_file) else {
         return Ok(ExitCode::from(1));
     };
-    let Some(queries) = open_named(&rt, "index_reader", queries_name) else {
+    let Some(queries) = Input::open(&rt, "index_reader", &queries_file) else {
         return Ok(ExitCode::from(1));
     };
     let index = BufReader::with_capacity(rt.alloc(), 65536, index)?;
     let queries = BufReader::with_capacity(rt.alloc(), 65536, queries)?;
     let status = program::run(
         rt.alloc(),
-        index_name,
+        &index_file.shown,
         index,
-        queries_name,
+        &queries_file.shown,
         queries,
+        &[&index_file, &queries_file],
         &mut out,
         &mut complaints,
     );
     Ok(ExitCode::from(status))
+}
+
+// The index and the queries that the arguments name, unless help is asked for.
+fn named(words: &[String]) -> Option<(&str, &str)> {
+    if has_word(words, "--help") {
+        return None;
+    }
+    match words {
+        [index] if !index.starts_with("--") => Some((index.as_str(), "-")),
+        [index, queries] => Some((index.as_str(), queries.as_str())),
+        _ => None,
+    }
 }

@@ -8,7 +8,8 @@ ghost use Rattle.index_reader.specs.Words.{words};
 use crate::entry::{next_entry, parse_query};
 use crate::index::Index;
 use crate::output::write_answer;
-use program_parts::lines::{Lines, complain};
+use program_parts::lines::Lines;
+use program_parts::omitted::Omitted;
 use std::alloc::Global;
 use std::io;
 use std::io::{BufRead, Write};
@@ -51,17 +52,15 @@ fn read_index<R: BufRead, E: Write>(
         read.0 read.1 (E.contents complaints.old) (E.contents complaints.new))) }
 {
     let mut index = Index::new(alloc);
-    let mut is_whole = true;
+    let mut omitted = Omitted::none(name);
     for _ in 0..u64::MAX {
         if !lines.advance()? {
-            return Ok((index, is_whole));
+            omitted.finish(complaints)?;
+            return Ok((index, omitted.is_empty()));
         }
         match next_entry(&index, &lines.line) {
             Ok(entry) => index.push(entry)?,
-            Err(problem) => {
-                complain(complaints, name, lines.number, problem)?;
-                is_whole = false;
-            }
+            Err(problem) => omitted.say(complaints, lines.number, problem)?,
         }
     }
     Err(io::Error::other("there are too many lines"))
@@ -82,21 +81,19 @@ fn answer_queries<R: BufRead, W: Write, E: Write>(
         is_whole (E.contents complaints.old) (E.contents complaints.new))) }
 {
     let mut queries = 0u64;
-    let mut is_whole = true;
+    let mut omitted = Omitted::none(name);
     for _ in 0..u64::MAX {
         if !lines.advance()? {
+            omitted.finish(complaints)?;
             write_count(queries, out)?;
-            return Ok(is_whole);
+            return Ok(omitted.is_empty());
         }
         match parse_query(&lines.line) {
             Ok(key) => {
                 write_answer(index, key, out)?;
                 queries = queries.saturating_add(1);
             }
-            Err(problem) => {
-                complain(complaints, name, lines.number, problem)?;
-                is_whole = false;
-            }
+            Err(problem) => omitted.say(complaints, lines.number, problem)?,
         }
     }
     Err(io::Error::other("there are too many lines"))

@@ -4,6 +4,12 @@ use Rattle.std.proofs.Common.{Some, length, take, get_or, flat_map, sym, ap, ◌
 use Rattle.std.proofs.lemmas.Grind.{flat_map-append}
 use Rattle.std.proofs.lemmas.List.{take_more, append-nil}
 use Rattle.std.specs.Io.KnownBytes.{Appends, Keeps}
+use Rattle.std.specs.Prelude.{OnOk, Result, Ok, Err}
+
+-- what holds in any case holds where a call succeeds
+pub on_ok : {T E P : Type 0} (r : Result T E) → P → OnOk r P
+on_ok (Ok x) p = p
+on_ok (Err e) p = tt
 
 -- no text, and nothing is written
 pub appends_nothing : (o : Option (List ℕ)) (text : List ℕ) → text ≡ [] → Appends o o text

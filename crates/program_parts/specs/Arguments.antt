@@ -1,5 +1,10 @@
 -- The arguments of a program.
 use Rattle.std.specs.Prelude.{◌≡◌, ℕ, List, [], ◌∷◌, String, map, string_bytes}
+use Rattle.std.specs.List.{Contains}
+
+-- the word is among the arguments
+abbrev pub HasWord : {Z : Type 0} → List (String Z) → List ℕ → Type 0
+HasWord words word = Contains (map string_bytes words) word
 
 -- the one argument is this word
 abbrev pub IsOnly : {Z : Type 0} → List (String Z) → List ℕ → Type 0

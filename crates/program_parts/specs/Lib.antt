@@ -4,3 +4,4 @@ pub mod Kept
 pub mod Lines
 pub mod Pairs
 pub mod Read
+pub mod Shown

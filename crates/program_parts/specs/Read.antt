@@ -13,5 +13,5 @@ pub record AreRead {A P : Type 0} (Says : List A → List ℕ → A → Type 0) 
     pub are_lines : AreLines bytes lines
     pub left_out : List (LeftOut P)
     pub are_kept : AreKept Says IsWrong [] 1 lines kept left_out
-    pub complains : Complains (λ _. name) words left_out said_before said_after
+    pub complains : Complains name words left_out said_before said_after
     pub whole : is_whole ≡ none_left_out left_out

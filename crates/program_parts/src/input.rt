@@ -1,63 +1,152 @@
 //! What a program reads: a file that is named, or standard input.
+ghost use Rattle.std.specs.Prelude.{◌≡◌, ◌++◌, flat_map, string_bytes, IfOk, OnOk};
+ghost use Rattle.std.specs.Char.{encode_utf8};
+ghost use Rattle.std.specs.Char.Escape.{escape_default};
+ghost use Rattle.program_parts.specs.Shown.{shown_char, shown_text};
 
+use crate::arguments::has_word;
+use std::alloc::{AllocError, Global};
+use std::cell::Cell;
 use std::fs::File;
 use std::io;
-use std::io::{Read, Stdin, Write};
+use std::io::{ErrorKind, Read, Stdin, Write};
 
-/// A file, or standard input.
+/// A file by its name, or standard input by a dash. It has the name as complaints show it, with control characters
+/// escaped, and notes whether a read failed.
 #[derive(Drop)]
-pub enum Input {
+pub struct NamedFile {
+    name: String,
+    pub shown: String,
+    has_failed: Cell<bool>,
+}
+
+impl NamedFile {
+    /// The file of this name.
+    pub fn new(alloc: Global, name: &str) -> Result<NamedFile, AllocError>
+        ensures { IfOk result (λ file. string_bytes file.shown ≡ shown_text name.now) }
+    {
+        Ok(NamedFile {
+            name: String::from_str(alloc, name)?,
+            shown: shown(alloc, name)?,
+            has_failed: Cell::new(false),
+        })
+    }
+
+    /// The file that the last word names, which is taken off the words. It is standard input where that word is a dash,
+    /// begins with `--`, is one of the modes, or there is none, and where help is asked for.
+    pub fn take(
+        alloc: Global,
+        words: &mut Vec<String>,
+        modes: &[&str],
+    ) -> Result<NamedFile, AllocError> {
+        match pop_file(words, modes) {
+            Some(name) => NamedFile::new(alloc, &name),
+            None => NamedFile::new(alloc, "-"),
+        }
+    }
+
+    /// Whether it is standard input.
+    pub fn is_stdin(&self) -> bool {
+        self.name.as_str() == "-"
+    }
+
+    /// Whether a read of it failed.
+    pub fn has_failed(&self) -> bool {
+        self.has_failed.get()
+    }
+}
+
+/// Where the bytes of an input come from.
+#[derive(Drop)]
+enum Source {
     Stdin(Stdin),
     File(File),
 }
 
-impl Read for Input {
+/// What a program reads. A read that fails is noted in the file.
+#[derive(Drop)]
+pub struct Input<'a> {
+    file: &'a NamedFile,
+    source: Source,
+}
+
+impl<'a> Input<'a> {
+    /// The file of this name, or standard input. `None` where it cannot be opened, and a line of complaint says why.
+    pub fn open(rt: &HostRuntime, program: &str, file: &'a NamedFile) -> Option<Input<'a>> {
+        if file.is_stdin() {
+            let source = Source::Stdin(rt.stdin());
+            return Some(Input { file, source });
+        }
+        match File::open(rt, file.name.as_str()) {
+            Ok(opened) => Some(Input {
+                file,
+                source: Source::File(opened),
+            }),
+            Err(error) => {
+                let _ = writeln!(rt.stderr(), "{program}: {}: {error}", file.shown);
+                None
+            }
+        }
+    }
+}
+
+impl<'a> Read for Input<'a> {
     fn read(&mut self, buf: &mut [u8]) -> io::Result<usize> {
-        match self {
-            Input::Stdin(stdin) => stdin.read(buf),
-            Input::File(file) => file.read(buf),
+        let read = match &mut self.source {
+            Source::Stdin(stdin) => stdin.read(buf),
+            Source::File(file) => file.read(buf),
+        };
+        if let Err(error) = &read {
+            if error.kind() != ErrorKind::Interrupted {
+                self.file.has_failed.set(true);
+            }
         }
+        read
     }
 }
 
-/// The file that the last word names, which is taken off the words, or standard input: where that word is a dash, begins with
-/// `--`, is one of the modes, or there is none. The name comes with it, a dash for standard input. `None` where the file cannot be
-/// opened, and a line of complaint says why.
-pub fn open_input(
-    rt: &HostRuntime,
-    program: &str,
-    words: &mut Vec<String>,
-    modes: &[&str],
-) -> io::Result<Option<(String, Input)>> {
-    let name = match pop_file(words, modes) {
-        Some(name) => name,
-        None => String::from_str(rt.alloc(), "-")?,
-    };
-    let Some(input) = open_named(rt, program, &name) else {
-        return Ok(None);
-    };
-    Ok(Some((name, input)))
-}
-
-/// The file of this name, or standard input if the name is a dash. `None` where it cannot be opened, and a line of complaint says why.
-pub fn open_named(rt: &HostRuntime, program: &str, name: &str) -> Option<Input> {
-    if name == "-" {
-        return Some(Input::Stdin(rt.stdin()));
-    }
-    match File::open(rt, name) {
-        Ok(file) => Some(Input::File(file)),
-        Err(error) => {
-            let _ = writeln!(rt.stderr(), "{program}: {name}: {error}");
-            None
-        }
-    }
-}
-
-// Takes the last word off and gives it back, where it names a file or is a dash.
+// Takes the last word off and gives it back, where it names a file or is a dash, unless help is asked for.
 fn pop_file(words: &mut Vec<String>, modes: &[&str]) -> Option<String> {
+    if has_word(words, "--help") {
+        return None;
+    }
     let last = words.last()?.as_str();
     if last.starts_with("--") || modes.contains(&last) {
         return None;
     }
     words.pop()
+}
+
+// The text as complaints show it.
+fn shown(alloc: Global, text: &str) -> Result<String, AllocError>
+    ensures { IfOk result (λ shown. string_bytes shown ≡ shown_text text.now) }
+{
+    let mut shown = String::new(alloc);
+    for character in text.chars() {
+        push_shown(&mut shown, character)?;
+    }
+    Ok(shown)
+}
+
+// Adds a character as complaints show it.
+fn push_shown(text: &mut String, character: char) -> Result<(), AllocError>
+    ensures { OnOk result
+        (string_bytes text.new ≡ string_bytes text.old ++ flat_map encode_utf8 (shown_char character)) }
+{
+    if character.is_control() {
+        push_escaped(text, character)
+    } else {
+        text.push(character)
+    }
+}
+
+// Adds a character with its code or its letter behind a backslash.
+fn push_escaped(text: &mut String, character: char) -> Result<(), AllocError>
+    ensures { OnOk result
+        (string_bytes text.new ≡ string_bytes text.old ++ flat_map encode_utf8 (escape_default character)) }
+{
+    for escaped in character.escape_default() {
+        text.push(escaped)?;
+    }
+    Ok(())
 }

@@ -6,6 +6,7 @@ pub mod arguments;
 pub mod blocks;
 pub mod input;
 pub mod lines;
+pub mod omitted;
 pub mod pairs;
 pub mod status;
 pub mod texts;

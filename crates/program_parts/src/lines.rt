@@ -1,13 +1,10 @@
-//! The lines of a reader, one at a time, and what is said of a line that is left out.
+//! The lines of a reader, one at a time.
 ghost use Rattle.std.specs.Prelude.{◌≡◌, ◌≢◌, ◌↔◌, ◌+◌, [], min, IfOk, IfSome, IsTrue, OnOk};
 ghost use Rattle.std.specs.Io.BufRead.{DropsThrough, ends_with_byte, first_line, strip_last};
-ghost use Rattle.std.specs.Io.KnownBytes.{Appends};
-ghost use Rattle.program_parts.specs.Complaints.{complaint};
 
 use std::alloc::Global;
-use std::fmt::Display;
 use std::io;
-use std::io::{BufRead, Write};
+use std::io::BufRead;
 
 /// A reader whose lines are read one at a time, the line that was read last, and its number: the first one has 1, and
 /// before it the number is 0.
@@ -77,19 +74,4 @@ fn pop_if_last(bytes: &mut Vec<u8>, byte: u8) -> bool
         bytes.pop();
     }
     is_last
-}
-
-/// Says that a line of the file of this name is left out, and why, on a line of its own, which a buffered writer passes on in one
-/// write.
-pub fn complain<W: Write, P: Display + Drop>(
-    out: &mut W,
-    name: &str,
-    number: u64,
-    problem: P,
-) -> io::Result<()>
-    ensures { OnOk result (IfSome (P.output problem) (λ why.
-        Appends (W.contents out.old) (W.contents out.new) (complaint name.now number why))) }
-{
-    writeln!(out, "{name}: line {number} is left out: {problem}")?;
-    out.flush()
 }

@@ -125,7 +125,7 @@ next_run (x ∷ xs) small few some =
     }
 
 -- What is written so far is the front of the bytes, and the input is what the rest is coded as.
-pub record DecodesFront (before after left : Option (List ℕ)) (are_runs : Bool) (bytes : List ℕ) : Type 0 where
+pub record DecodesFront (before after left : Option (List ℕ)) (count : ℕ) (bytes : List ℕ) : Type 0 where
   pub written : List ℕ
   pub rest : List ℕ
   pub writes : Appends before after written
@@ -133,15 +133,15 @@ pub record DecodesFront (before after left : Option (List ℕ)) (are_runs : Bool
   pub whole : bytes ≡ written ++ rest
   pub small : All (λ b. b < 2 ^ 8) rest
   pub few : length rest < 2 ^ 64
-  pub clean : are_runs ≡ true
+  pub clean : count ≡ 0
 
 -- so it is of all bytes that the input may be coded of
-abbrev pub DecodesCoded : Option (List ℕ) → Option (List ℕ) → Option (List ℕ) → Option (List ℕ) → Bool → Type 0
-DecodesCoded input left before after are_runs =
+abbrev pub DecodesCoded : Option (List ℕ) → Option (List ℕ) → Option (List ℕ) → Option (List ℕ) → ℕ → Type 0
+DecodesCoded input left before after count =
     (bytes : List ℕ) → All (λ b. b < 2 ^ 8) bytes → length bytes < 2 ^ 64 → input ≡ Some (coded bytes)
-    → DecodesFront before after left are_runs bytes
+    → DecodesFront before after left count bytes
 
-pub coded_none : (input before : Option (List ℕ)) → DecodesCoded input input before before true
+pub coded_none : (input before : Option (List ℕ)) → DecodesCoded input input before before 0
 coded_none input before bytes small few known = record {
   written = [];
   rest = bytes;
@@ -173,7 +173,7 @@ abbrev Reads : List ℕ → (ℕ → ℕ → Type 0) → Type 0
 Reads text Knows =
     (count byte : ℕ) → 0 < count → count < 2 ^ 64 → byte < 2 ^ 8 → text ≡ decimal count ++ codes " " ++ decimal byte → Knows count byte
 
-module _ (input left next before written : Option (List ℕ)) (w : Bool) (text : List ℕ) (so_far : DecodesCoded input left before written w)
+module _ (input left next before written : Option (List ℕ)) (w : ℕ) (text : List ℕ) (so_far : DecodesCoded input left before written w)
     (some : IfSome left (λ unread. unread ≢ [])) (first : IfSome left (λ unread. text ≡ first_line unread))
     (drops : DropsThrough left next 10) where
   -- one line more, whose run is written
@@ -196,7 +196,7 @@ module _ (input left next before written : Option (List ℕ)) (w : Bool) (text :
       }
 
   -- and it says one
-  pub coded_wrong : (after : Option (List ℕ)) (v : Bool) → Reads text (λ count byte. ⊥) → DecodesCoded input next before after v
+  pub coded_wrong : (after : Option (List ℕ)) (v : ℕ) → Reads text (λ count byte. ⊥) → DecodesCoded input next before after v
   coded_wrong after v wrong bytes small few known =
       let d = so_far bytes small few known in
       let n = next_run d.rest d.small d.few (rw d.input at some) in

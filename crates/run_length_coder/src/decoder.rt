@@ -5,14 +5,15 @@ ghost use Rattle.run_length_coder.specs.Coding.{coded};
 ghost use Rattle.run_length_coder.specs.Decoded.{Decodes};
 
 use crate::runs::Run;
-use program_parts::lines::{Lines, complain};
+use program_parts::lines::Lines;
+use program_parts::omitted::Omitted;
 use std::alloc::Global;
 use std::io;
 use std::io::{BufRead, Write};
 
 /// Writes the bytes of the runs that the lines of the input say, and gives back whether each line says one. One that
-/// says none is left out, and a line of complaint says so, and why, with the name of the file. It keeps one line in memory,
-/// and a block of what is written.
+/// says none is left out: a line of complaint for each of the first hundred says why, with the name of the file, and one
+/// at the end how many more there are. It keeps one line in memory, and a block of what is written.
 pub fn decode<R: BufRead, W: Write, E: Write>(
     alloc: Global,
     name: &str,
@@ -30,17 +31,15 @@ pub fn decode<R: BufRead, W: Write, E: Write>(
         → IfOk result (λ are_runs. IsTrue are_runs × Appends (W.contents out.old) (W.contents out.new) bytes) }
 {
     let mut lines = Lines::new(alloc, input);
-    let mut are_runs = true;
+    let mut omitted = Omitted::none(name);
     for _ in 0..u64::MAX {
         if !lines.advance()? {
-            return Ok(are_runs);
+            omitted.finish(complaints)?;
+            return Ok(omitted.is_empty());
         }
         match Run::parse(&lines.line) {
             Ok(run) => run.write_bytes(alloc, out)?,
-            Err(error) => {
-                complain(complaints, name, lines.number, error)?;
-                are_runs = false;
-            }
+            Err(error) => omitted.say(complaints, lines.number, error)?,
         }
     }
     Err(io::Error::other("there are too many lines"))

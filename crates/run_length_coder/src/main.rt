@@ -11,14 +11,17 @@ mod program;
 mod runs;
 
 use program_parts::arguments::arguments;
-use program_parts::input::open_input;
+use program_parts::input::{Input, NamedFile};
 use std::io;
 use std::io::{BufReader, BufWriter};
 use std::process::ExitCode;
 
 fn main(rt: HostRuntime) -> io::Result<ExitCode> {
-    let mut words = arguments(&rt)?;
-    let Some((name, input)) = open_input(&rt, "run_length_coder", &mut words, &["decode"])? else {
+    let Some(mut words) = arguments(&rt, "run_length_coder")? else {
+        return Ok(ExitCode::from(2));
+    };
+    let file = NamedFile::take(rt.alloc(), &mut words, &["decode"])?;
+    let Some(input) = Input::open(&rt, "run_length_coder", &file) else {
         return Ok(ExitCode::from(1));
     };
     let mut input = BufReader::with_capacity(rt.alloc(), 65536, input)?;
@@ -27,8 +30,9 @@ fn main(rt: HostRuntime) -> io::Result<ExitCode> {
     let status = program::run(
         rt.alloc(),
         &words,
-        &name,
+        &file.shown,
         &mut input,
+        &[&file],
         &mut out,
         &mut complaints,
     );

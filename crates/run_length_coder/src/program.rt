@@ -2,14 +2,15 @@
 ghost use Rattle.std.specs.Prelude.{◌≡◌, ◌≢◌, ℕ, ◌<◌, ◌^◌, List, [], length, true, codes};
 ghost use Rattle.std.specs.Prelude.{All, IfOk, IfSome, IsTrue, OnOk};
 ghost use Rattle.std.specs.Io.KnownBytes.{Appends};
-ghost use Rattle.program_parts.specs.Arguments.{IsOnly};
+ghost use Rattle.program_parts.specs.Arguments.{HasWord, IsOnly};
 ghost use Rattle.run_length_coder.specs.Coding.{coded};
 ghost use Rattle.run_length_coder.specs.Decoded.{Decodes};
 ghost use Rattle.run_length_coder.specs.declared.program.TheConstants.{USAGE};
 
 use crate::decoder::decode;
 use crate::encoder::encode;
-use program_parts::arguments::is_only;
+use program_parts::arguments::{has_word, is_only};
+use program_parts::input::NamedFile;
 use program_parts::status::status_of;
 use program_parts::texts::write_all;
 use std::alloc::Global;
@@ -20,7 +21,7 @@ use std::io::{BufRead, Write};
 pub const USAGE: &str = "usage: run_length_coder [decode | --help] [FILE]
 Writes each run of equal bytes of FILE, or of standard input, as a line `COUNT BYTE`, two decimal numbers.
 With `decode` it reads such lines, with or without a `\\r` at their ends, and writes the bytes again. A line that says no run is
-named, and left out.
+left out: standard error says why for each of the first hundred, and how many more there are. A line must fit in memory.
 ";
 
 /// Does what the arguments ask for, and gives back the status: 0, or 1 where it failed or a line is no run, or 2
@@ -30,6 +31,7 @@ pub fn run<R: BufRead, W: Write, E: Write>(
     words: &[String],
     name: &str,
     input: &mut R,
+    files: &[&NamedFile],
     out: &mut W,
     complaints: &mut E,
 ) -> u8
@@ -47,10 +49,10 @@ pub fn run<R: BufRead, W: Write, E: Write>(
         → R.remaining input.old ≡ Some (coded bytes) → Appends (W.contents out.old) (W.contents out.new) bytes }
 
     // Of other arguments.
-    ensures help { IsOnly words.now (codes "--help") → result ≡ 0
+    ensures help { HasWord words.now (codes "--help") → result ≡ 0
         → Appends (W.contents out.old) (W.contents out.new) USAGE.now }
     ensures unknown { words.now ≢ [] → (IsOnly words.now (codes "decode") → ⊥)
-        → (IsOnly words.now (codes "--help") → ⊥) → (result ≡ 2) × (W.contents out.new ≡ W.contents out.old) }
+        → (HasWord words.now (codes "--help") → ⊥) → (result ≡ 2) × (W.contents out.new ≡ W.contents out.old) }
     ensures silent { (IsOnly words.now (codes "decode") → ⊥) → result ≡ 0
         → E.contents complaints.new ≡ E.contents complaints.old }
 {
@@ -58,13 +60,13 @@ pub fn run<R: BufRead, W: Write, E: Write>(
         encode_all(alloc, input, out)
     } else if is_only(words, "decode") {
         decode_all(alloc, name, input, out, complaints)
-    } else if is_only(words, "--help") {
+    } else if has_word(words, "--help") {
         write_all(out, USAGE).and(Ok(true))
     } else {
         let _ = write_all(complaints, USAGE);
         return 2;
     };
-    status_of("run_length_coder", done, complaints)
+    status_of("run_length_coder", done, files, complaints)
 }
 
 /// Encodes the input, and sees that all of it is written.

@@ -2,7 +2,7 @@
 //! several times. `program.rt` has what is read and what is written.
 //!
 //! Each line of the join goes out as it is found. What is kept in memory is a block of each table, a row of each and the right
-//! rows of one key.
+//! rows of one key, or one of these where the join writes no right rows.
 #![tactic(auto)]
 
 mod excerpt;
@@ -16,48 +16,58 @@ mod run;
 mod table;
 
 use crate::kind::{Kind, kind_of};
-use program_parts::arguments::arguments;
-use program_parts::input::open_named;
+use program_parts::arguments::{arguments, has_word};
+use program_parts::input::{Input, NamedFile};
 use std::io;
 use std::io::{BufReader, BufWriter, Write};
 use std::process::ExitCode;
 
 fn main(rt: HostRuntime) -> io::Result<ExitCode> {
-    let words = arguments(&rt)?;
+    let Some(words) = arguments(&rt, "table_join")? else {
+        return Ok(ExitCode::from(2));
+    };
     let mut out = BufWriter::with_capacity(rt.alloc(), 65536, rt.stdout())?;
     let mut complaints = BufWriter::new(rt.alloc(), rt.stderr())?;
     let Some((kind, left_name, right_name)) = named(&words) else {
         let status = program::explain(&words, &mut out, &mut complaints);
         return Ok(ExitCode::from(status));
     };
-    if left_name == "-" && right_name == "-" {
+    let left_file = NamedFile::new(rt.alloc(), left_name)?;
+    let right_file = NamedFile::new(rt.alloc(), right_name)?;
+    if left_file.is_stdin() && right_file.is_stdin() {
         let _ = writeln!(
             complaints,
             "table_join: both files cannot be standard input"
         );
         return Ok(ExitCode::from(2));
     }
-    let Some(left) = open_named(&rt, "table_join", left_name) else {
+    let Some(left) = Input::open(&rt, "table_join", &left_file) else {
         return Ok(ExitCode::from(1));
     };
-    let Some(right) = open_named(&rt, "table_join", right_name) else {
+    let Some(right) = Input::open(&rt, "table_join", &right_file) else {
         return Ok(ExitCode::from(1));
     };
+    let left = BufReader::with_capacity(rt.alloc(), 65536, left)?;
+    let right = BufReader::with_capacity(rt.alloc(), 65536, right)?;
     let status = program::run(
         rt.alloc(),
         kind,
-        left_name,
-        BufReader::with_capacity(rt.alloc(), 65536, left)?,
-        right_name,
-        BufReader::with_capacity(rt.alloc(), 65536, right)?,
+        &left_file.shown,
+        left,
+        &right_file.shown,
+        right,
+        &[&left_file, &right_file],
         &mut out,
         &mut complaints,
     );
     Ok(ExitCode::from(status))
 }
 
-// The kind of the join and the two files that the arguments name.
+// The kind of the join and the two files that the arguments name, unless help is asked for.
 fn named(words: &[String]) -> Option<(Kind, &str, &str)> {
+    if has_word(words, "--help") {
+        return None;
+    }
     match words {
         [left, right] => Some((Kind::Inner, left.as_str(), right.as_str())),
         [kind, left, right] => Some((kind_of(kind)?, left.as_str(), right.as_str())),

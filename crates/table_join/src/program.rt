@@ -1,13 +1,14 @@
 //! What the program does, what it says, and its status.
 ghost use Rattle.std.specs.Prelude.{◌≡◌, true, IfSome, codes};
 ghost use Rattle.std.specs.Io.KnownBytes.{Appends};
-ghost use Rattle.program_parts.specs.Arguments.{IsOnly};
+ghost use Rattle.program_parts.specs.Arguments.{HasWord};
 ghost use Rattle.table_join.specs.Runs.{Joins};
 ghost use Rattle.table_join.specs.declared.program.TheConstants.{USAGE};
 
 use crate::kind::Kind;
 use crate::run::join_tables;
-use program_parts::arguments::is_only;
+use program_parts::arguments::has_word;
+use program_parts::input::NamedFile;
 use program_parts::status::status_of;
 use program_parts::texts::write_all;
 use std::alloc::Global;
@@ -30,11 +31,11 @@ feed is dropped.
   semi    a line `key,value` for each left row that has a partner
   anti    a line `key,value` for each left row that has none
 
-A line that is no row, or whose key is lower than a key before it in its table, is left out,
-and standard error says why; so is one that is not UTF-8. A key is shown there up to 80
-bytes, and then `..`. The status is then 1, and so it is where reading or writing fails. It is
-2 where an argument is not known. In memory stand a block of each file and the right rows of
-one key.
+A line that is no row, or whose key is lower than a key before it in its table, is left out;
+so is one that is not UTF-8. Standard error says why for each of the first hundred of a file,
+and how many more there are. A key is shown there up to 80 bytes, and then `..`. The status is
+then 1, and so it is where reading or writing fails. It is 2 where an argument is not known. A
+line must fit in memory, and so must the right rows of one key; `semi` and `anti` keep one row.
 ";
 
 /// Joins two tables, and gives back the status: 0, or 1 where it failed or a line is left out. What went wrong is said in lines
@@ -46,6 +47,7 @@ pub fn run<L: BufRead + Drop, R: BufRead + Drop, W: Write, E: Write>(
     left: L,
     right_name: &str,
     right: R,
+    files: &[&NamedFile],
     out: &mut W,
     complaints: &mut E,
 ) -> u8
@@ -56,21 +58,21 @@ pub fn run<L: BufRead + Drop, R: BufRead + Drop, W: Write, E: Write>(
     let done = join_tables(
         alloc, kind, left_name, left, right_name, right, out, complaints,
     );
-    status_of("table_join", done, complaints)
+    status_of("table_join", done, files, complaints)
 }
 
 /// Writes what `--help` asks for, and gives back the status: 0, or 1 where it failed. Of other arguments it is 2, and the same
 /// goes to the complaints.
 pub fn explain<W: Write, E: Write>(words: &[String], out: &mut W, complaints: &mut E) -> u8
-    ensures help { IsOnly words.now (codes "--help") → result ≡ 0
+    ensures help { HasWord words.now (codes "--help") → result ≡ 0
         → Appends (W.contents out.old) (W.contents out.new) USAGE.now }
-    ensures unknown { (IsOnly words.now (codes "--help") → ⊥)
+    ensures unknown { (HasWord words.now (codes "--help") → ⊥)
         → (result ≡ 2) × (W.contents out.new ≡ W.contents out.old) }
 {
-    if !is_only(words, "--help") {
+    if !has_word(words, "--help") {
         let _ = write_all(complaints, USAGE);
         return 2;
     }
     let done = write_all(out, USAGE).and(Ok(true));
-    status_of("table_join", done, complaints)
+    status_of("table_join", done, &[], complaints)
 }

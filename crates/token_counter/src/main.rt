@@ -11,14 +11,17 @@ mod program;
 mod report;
 
 use program_parts::arguments::arguments;
-use program_parts::input::open_input;
+use program_parts::input::{Input, NamedFile};
 use std::io;
 use std::io::BufWriter;
 use std::process::ExitCode;
 
 fn main(rt: HostRuntime) -> io::Result<ExitCode> {
-    let mut words = arguments(&rt)?;
-    let Some((_, mut input)) = open_input(&rt, "token_counter", &mut words, &[])? else {
+    let Some(mut words) = arguments(&rt, "token_counter")? else {
+        return Ok(ExitCode::from(2));
+    };
+    let file = NamedFile::take(rt.alloc(), &mut words, &[])?;
+    let Some(mut input) = Input::open(&rt, "token_counter", &file) else {
         return Ok(ExitCode::from(1));
     };
     let mut complaints = BufWriter::new(rt.alloc(), rt.stderr())?;
@@ -26,6 +29,7 @@ fn main(rt: HostRuntime) -> io::Result<ExitCode> {
         rt.alloc(),
         &words,
         &mut input,
+        &[&file],
         &mut rt.stdout(),
         &mut complaints,
     );

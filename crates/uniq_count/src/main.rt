@@ -9,19 +9,29 @@ mod program;
 mod repeated;
 
 use program_parts::arguments::arguments;
-use program_parts::input::open_input;
+use program_parts::input::{Input, NamedFile};
 use std::io;
 use std::io::{BufReader, BufWriter};
 use std::process::ExitCode;
 
 fn main(rt: HostRuntime) -> io::Result<ExitCode> {
-    let mut words = arguments(&rt)?;
-    let Some((_, input)) = open_input(&rt, "uniq_count", &mut words, &[])? else {
+    let Some(mut words) = arguments(&rt, "uniq_count")? else {
+        return Ok(ExitCode::from(2));
+    };
+    let file = NamedFile::take(rt.alloc(), &mut words, &[])?;
+    let Some(input) = Input::open(&rt, "uniq_count", &file) else {
         return Ok(ExitCode::from(1));
     };
     let mut input = BufReader::with_capacity(rt.alloc(), 65536, input)?;
     let mut out = BufWriter::with_capacity(rt.alloc(), 65536, rt.stdout())?;
     let mut complaints = BufWriter::new(rt.alloc(), rt.stderr())?;
-    let status = program::run(rt.alloc(), &words, &mut input, &mut out, &mut complaints);
+    let status = program::run(
+        rt.alloc(),
+        &words,
+        &mut input,
+        &[&file],
+        &mut out,
+        &mut complaints,
+    );
     Ok(ExitCode::from(status))
 }

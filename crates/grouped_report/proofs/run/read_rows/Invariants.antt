@@ -1,4 +1,4 @@
-use Rattle.std.proofs.Common.{List, ◌++◌}
+use Rattle.std.proofs.Common.{◌≡◌, List, ◌++◌}
 use Rattle.program_parts.proofs.KeptSoFar.{KeptSoFar}
 use Rattle.grouped_report.specs.Departments.{SaysTheSame}
 use Rattle.grouped_report.specs.Runs.{SaysRow, IsNoRow}
@@ -8,7 +8,7 @@ use Rattle.grouped_report.proofs.run.read_rows.Given as goal
 
 abbrev pub invariant-loop : goal.invariant-loop
 invariant-loop g l =
-    (rows : List Entry) × SaysTheSame (l.initial.sums ++ rows) l.sums
+    (rows : List Entry) × SaysTheSame (l.initial.sums ++ rows) l.sums × (l.omitted.name.now ≡ l.name)
     × KeptSoFar SaysRow IsNoRow l.name words (g.R.Read.remaining l.initial.lines.reader)
     (g.R.Read.remaining l.lines.reader) l.lines.number (g.E.Write.contents l.initial.complaints) (g.E.Write.contents l.complaints)
-    rows l.is_whole
+    rows l.omitted.count

@@ -8,6 +8,6 @@ use Rattle.index_reader.proofs.run.answer_queries.Given as goal
 abbrev pub invariant-loop : goal.invariant-loop
 invariant-loop g l =
     (keys : List ℕ) × Appends (g.W.Write.contents l.initial.out) (g.W.Write.contents l.out) (answers l.index keys)
-    × (l.queries ≡ min (length keys) (2 ^ 64 - 1))
+    × (l.omitted.name.now ≡ l.name) × (l.queries ≡ min (length keys) (2 ^ 64 - 1))
     × KeptSoFar SaysQuery IsNoQuery l.name words (g.R.Read.remaining l.initial.lines.reader) (g.R.Read.remaining l.lines.reader)
-    l.lines.number (g.E.Write.contents l.initial.complaints) (g.E.Write.contents l.complaints) keys l.is_whole
+    l.lines.number (g.E.Write.contents l.initial.complaints) (g.E.Write.contents l.complaints) keys l.omitted.count

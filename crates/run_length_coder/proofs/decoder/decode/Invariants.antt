@@ -1,4 +1,4 @@
-use Rattle.std.proofs.Common.{List, flat_map}
+use Rattle.std.proofs.Common.{◌≡◌, List, flat_map}
 use Rattle.std.specs.Io.KnownBytes.{Appends}
 use Rattle.program_parts.proofs.KeptSoFar.{KeptSoFar}
 use Rattle.run_length_coder.specs.Coding.{copies}
@@ -16,5 +16,5 @@ invariant-loop g l =
     let new = g.W.Write.contents l.out in
     ((runs : List Run) × Appends old new (flat_map copies runs)
     × KeptSoFar SaysRun IsNoRun l.name words before left l.lines.number (g.E.Write.contents l.initial.complaints)
-    (g.E.Write.contents l.complaints) runs l.are_runs)
-    × DecodesCoded before left old new l.are_runs
+    (g.E.Write.contents l.complaints) runs l.omitted.count)
+    × (l.omitted.name.now ≡ l.name) × DecodesCoded before left old new l.omitted.count

@@ -1,10 +1,10 @@
-use Rattle.std.proofs.Common.{ℕ, List, [], ◌∷◌, Option, None, Some, IfSome, Result, Ok, Err, codes, decimal}
+use Rattle.std.proofs.Common.{ℕ, List, [], ◌∷◌, Option, None, Some, IfSome, codes, decimal}
 use Rattle.std.specs.Fmt.{◌++?◌}
 use Rattle.std.specs.Io.KnownBytes.{Appends, Keeps}
-use Rattle.std.specs.Prelude.{OnOk}
 use Rattle.std.proofs.KnownBytes.{Appends-kept}
+use Rattle.program_parts.proofs.Appended.{on_ok}
 use Rattle.program_parts.specs.Complaints.{complaint}
-use Rattle.program_parts.proofs.lines.complain.Goals as goal
+use Rattle.program_parts.proofs.omitted.complain.Goals as goal
 
 -- the text is known where that of the problem is
 known : (name : List ℕ) (o old new : Option (List ℕ)) (n : ℕ)
@@ -19,10 +19,6 @@ kept : (name : List ℕ) (o old mid new : Option (List ℕ)) (n : ℕ) → IfSom
     → IfSome o (λ why. Appends old new (complaint name n why))
 kept name None old mid new n h k = tt
 kept name (Some why) old mid new n h k = Appends-kept old mid new (complaint name n why) h k
-
-on_ok : {T E P : Type 0} (r : Result T E) → P → OnOk r P
-on_ok (Ok x) p = p
-on_ok (Err e) p = tt
 
 pub returns : goal.returns
 returns g c =

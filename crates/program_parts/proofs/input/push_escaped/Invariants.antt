@@ -1,0 +1,10 @@
+use Rattle.std.proofs.Common.{◌≡◌, ◌++◌, flat_map, string_bytes}
+use Rattle.std.specs.Char.{encode_utf8}
+use Rattle.std.specs.Char.Escape.{escape_default}
+use Rattle.std.specs.Char.Iter.{escape_rest}
+use Rattle.program_parts.proofs.input.push_escaped.Given as goal
+
+abbrev pub invariant-loop-escaped : goal.invariant-loop-escaped
+invariant-loop-escaped l =
+    string_bytes l.text ++ flat_map encode_utf8 (escape_rest l.escaped-iterator)
+    ≡ string_bytes l.fn.text ++ flat_map encode_utf8 (escape_default l.fn.character)
