@@ -1,43 +1,41 @@
 //! Tokens of an input of any size.
-use slice_group_by::{AsciiClass, AsciiClasses, ByteClasses, StreamGroupByKey};
+use slice_group_by::{AsciiClass, AsciiClasses, ByteClasses, StreamGroups};
 use std::io;
 use std::io::Read;
 
-/// Prints each word and number of an input with the byte at which it begins. A token may go on over several blocks; in memory stands
-/// one.
-pub fn print_tokens<R: Read>(rt: &(impl Print + AllocGlobal), input: &mut R) -> io::Result<()> {
-    let mut block = vec![in rt.alloc(); 0u8; 65536]?;
-    let mut tokens = StreamGroupByKey::new(
-        0u64,
-        |len: u64, part: &[u8]| len.saturating_add(part.len() as u64),
-        |byte: &u8| AsciiClasses::class(*byte),
-    );
-    let mut start = 0u64;
+/// Prints each word and number of an input, whole, also one that goes on over several blocks. In memory stand one block and one
+/// token.
+pub fn print_tokens<R: Read>(
+    rt: &(impl Print + AllocGlobal),
+    input: &mut R,
+    block: &mut [u8],
+) -> io::Result<()> {
+    let mut stream = StreamGroups::new();
+    let mut token = Vec::new(rt.alloc());
     for _ in 0..u64::MAX {
-        let len = input.read(&mut block)?;
+        let len = input.read(block)?;
         if len == 0 {
             break;
         }
-        let mut rest = &block[..len];
-        for _ in 0..u64::MAX {
-            let Some((last, len)) = tokens.next(&mut rest) else {
-                break;
-            };
-            print_token(rt, last, start)?;
-            start = start.saturating_add(len);
+        for (begins, part) in stream.class_parts::<AsciiClasses>(&block[..len]) {
+            if begins {
+                print_token(rt, &token)?;
+                token.clear();
+            }
+            token.extend_from_slice(part)?;
         }
     }
-    match tokens.finish() {
-        Some((last, _)) => print_token(rt, last, start),
-        None => Ok(()),
-    }
+    print_token(rt, &token)
 }
 
-// The token that begins there, by its last byte.
-fn print_token(rt: &impl Print, last: u8, start: u64) -> io::Result<()> {
-    match AsciiClasses::class(last) {
-        AsciiClass::Letter => println!(rt; "word at {start}"),
-        AsciiClass::Digit => println!(rt; "number at {start}"),
+// A token, by the class of its first byte.
+fn print_token(rt: &impl Print, token: &[u8]) -> io::Result<()> {
+    let (Some(first), Ok(text)) = (token.first(), str::from_utf8(token)) else {
+        return Ok(());
+    };
+    match AsciiClasses::class(*first) {
+        AsciiClass::Letter => println!(rt; "word {text}"),
+        AsciiClass::Digit => println!(rt; "number {text}"),
         AsciiClass::Space | AsciiClass::Other => Ok(()),
     }
 }
@@ -45,5 +43,5 @@ fn print_token(rt: &impl Print, last: u8, start: u64) -> io::Result<()> {
 /// Prints what these give.
 pub fn print_all(rt: &(impl Print + AllocGlobal)) -> io::Result<()> {
     let mut input: &[u8] = b"port 8080;";
-    print_tokens(rt, &mut input)
+    print_tokens(rt, &mut input, &mut [0; 3])
 }

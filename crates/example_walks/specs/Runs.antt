@@ -1,6 +1,12 @@
--- Lengths of runs.
-use Rattle.std.specs.Prelude.{ℕ, ◌+◌, ◌-◌, ◌^◌, List, length, min}
+-- Runs of equal bytes.
+use Rattle.std.specs.Prelude.{ℕ, ◌-◌, ◌^◌, List, [], ◌∷◌, length, min}
 
--- the length with that of a part more, and at most the greatest number of 64 bits
-abbrev pub longer : ℕ → List ℕ → ℕ
-longer len part = min (len + length part) (2 ^ 64 - 1)
+-- the last byte
+abbrev pub last_byte : List ℕ → ℕ
+last_byte [] = 0
+last_byte (x ∷ []) = x
+last_byte (x ∷ y ∷ ys) = last_byte (y ∷ ys)
+
+-- the byte of a run and its length, at most the greatest number of 64 bits
+abbrev pub run_of : List ℕ → ℕ × ℕ
+run_of group = (last_byte group, min (length group) (2 ^ 64 - 1))

@@ -1,67 +1,83 @@
 //! Groups of a stream that comes in blocks.
-ghost use Rattle.std.specs.Prelude.{ℕ, ◌++◌, List, flat_map, nat_eq, IfOk, OnOk};
-ghost use Rattle.slice_group_by.specs.Numbers.{by_number};
-ghost use Rattle.slice_group_by.specs.Split.{split};
-ghost use Rattle.slice_group_by.specs.Streams.{AreGivenAs, Folds, GivesAll, HasOpen, MayGoOn};
-ghost use Rattle.example_walks.specs.Runs.{longer};
+ghost use Rattle.std.specs.Prelude.{◌≡◌, ◌≢◌, ℕ, ◌+◌, ◌-◌, ◌^◌, List, [], ◌∷◌, ◌++◌, flat_map, length, map, min, nat_eq, IfOk, OnOk};
+ghost use Rattle.slice_group_by.specs.Split.{last, split};
+ghost use Rattle.slice_group_by.specs.Streams.{kept_of, onto_last, with_part};
+ghost use Rattle.example_walks.specs.Runs.{last_byte, run_of};
 
-use slice_group_by::StreamNumberGroup;
-use slice_group_by::laws::{folds_add_up, streams_give};
+use slice_group_by::StreamGroups;
+use slice_group_by::laws::parts_join;
 use std::alloc::{AllocError, Global};
-
-type Runs<F> = StreamNumberGroup<u8, usize, F>;
 
 /// The runs of bytes that come in blocks, each as its byte and its length.
 pub fn runs_of_blocks(alloc: Global, blocks: &[&[u8]]) -> Result<Vec<(u8, usize)>, AllocError>
-    ensures { IfOk result (λ runs. AreGivenAs nat_eq longer 0
-        (split nat_eq (flat_map (λ block. block.now) blocks.now)) runs.items) }
+    ensures { IfOk result (λ runs. runs.items ≡ map run_of (split nat_eq (flat_map (λ block. block.now) blocks.now))) }
 {
-    runs_folded(alloc, blocks, |len, part: &[u8]| {
-        len.saturating_add(part.len())
-    })
-}
-
-// The same, with the function that adds a part to the length of a run.
-fn runs_folded<F: FnMut(usize, &[u8]) -> usize>(
-    alloc: Global,
-    blocks: &[&[u8]],
-    fold: F,
-) -> Result<Vec<(u8, usize)>, AllocError>
-    requires may { F.IsAlwaysCallable fold }
-    requires folds { Folds F.FnMut longer fold }
-    ensures { IfOk result (λ runs. AreGivenAs nat_eq longer 0
-        (split nat_eq (flat_map (λ block. block.now) blocks.now)) runs.items) }
-{
-    folds_add_up::<u8>();
-    streams_give::<u8, usize>();
-    let mut stream = StreamNumberGroup::new(0, fold);
+    let mut stream = StreamGroups::new();
     let mut runs = Vec::new(alloc);
     for block in blocks {
-        push_ended(&mut stream, block, &mut runs)?;
-    }
-    if let Some(run) = stream.finish() {
-        runs.push(run)?;
+        add_block(&mut stream, block, &mut runs)?;
     }
     Ok(runs)
 }
 
-// Pushes the runs that end in the block.
-fn push_ended<F: FnMut(usize, &[u8]) -> usize>(
-    stream: &mut Runs<F>,
+// Adds what a block has of the runs.
+fn add_block(
+    stream: &mut StreamGroups<u8>,
     block: &[u8],
     runs: &mut Vec<(u8, usize)>,
 ) -> Result<(), AllocError>
-    requires { MayGoOn (by_number nat_eq) F.FnMut stream.old }
-    ensures may_go_on { MayGoOn (by_number nat_eq) F.FnMut stream.new }
-    ensures gives { OnOk result ((before left : List ℕ) → HasOpen (by_number nat_eq) F.FnMut nat_eq longer 0 stream.old left
-        → GivesAll nat_eq longer 0 before left runs.old.items
-        → (next : List ℕ) × HasOpen (by_number nat_eq) F.FnMut nat_eq longer 0 stream.new next
-        × GivesAll nat_eq longer 0 (before ++ block.now) next runs.new.items) }
+    ensures { OnOk result ((came : List ℕ) → kept_of stream.old ≡ last came → runs.old.items ≡ map run_of (split nat_eq came)
+        → (kept_of stream.new ≡ last (came ++ block.now))
+        × (runs.new.items ≡ map run_of (split nat_eq (came ++ block.now)))) }
 {
-    streams_give::<u8, usize>();
-    let mut rest = block;
-    while let Some(run) = stream.next(&mut rest) {
-        runs.push(run)?;
+    let parts = stream.number_parts(block);
+    parts_join(&parts);
+    for (begins, part) in parts {
+        add_part(runs, begins, part)?;
     }
     Ok(())
+}
+
+// Adds a part: a run more, or more of the last.
+fn add_part(runs: &mut Vec<(u8, usize)>, begins: bool, part: &[u8]) -> Result<(), AllocError>
+    requires { part.now ≢ [] }
+    ensures { OnOk result ((groups : List (List ℕ)) → runs.old.items ≡ map run_of groups
+        → runs.new.items ≡ map run_of (with_part groups (begins, part.now))) }
+{
+    if begins {
+        push_run(runs, 0, part)
+    } else {
+        let len = taken_len(runs);
+        push_run(runs, len, part)
+    }
+}
+
+// Takes the last run off, and gives its length, or 0 where there is none.
+fn taken_len(runs: &mut Vec<(u8, usize)>) -> usize
+    ensures { (groups : List (List ℕ)) (part : List ℕ) → part ≢ [] → runs.old.items ≡ map run_of groups
+        → runs.new.items ++ (last_byte part, min (result + length part) (2 ^ 64 - 1)) ∷ [] ≡ map run_of (onto_last groups part) }
+{
+    match runs.pop() {
+        Some((_, len)) => len,
+        None => 0,
+    }
+}
+
+// Pushes a run with a part, where it had a length before.
+fn push_run(runs: &mut Vec<(u8, usize)>, len: usize, part: &[u8]) -> Result<(), AllocError>
+    ensures { OnOk result (runs.new.items
+        ≡ runs.old.items ++ (last_byte part.now, min (len + length part.now) (2 ^ 64 - 1)) ∷ []) }
+{
+    runs.push((end_of(part), len.saturating_add(part.len())))?;
+    Ok(())
+}
+
+// The last byte, or 0 where there is none.
+fn end_of(part: &[u8]) -> u8
+    ensures { result ≡ last_byte part.now }
+{
+    match part.last() {
+        Some(byte) => *byte,
+        None => 0,
+    }
 }

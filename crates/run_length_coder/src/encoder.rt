@@ -1,19 +1,17 @@
 //! Codes bytes as runs, block by block.
-ghost use Rattle.std.specs.Prelude.{◌≡◌, ℕ, List, ◌++◌, OnOk, IfSome, nat_eq};
+ghost use Rattle.std.specs.Prelude.{◌≡◌, ◌≢◌, ℕ, ◌+◌, List, [], ◌++◌, length, slice_index, nat_eq, Option, IfOk, OnOk, IfSome};
 ghost use Rattle.std.specs.Io.KnownBytes.{Appends};
-ghost use Rattle.slice_group_by.specs.Numbers.{by_number};
-ghost use Rattle.slice_group_by.specs.Streams.{Folds, HasOpen, IsGivenAs, MayGoOn};
-ghost use Rattle.run_length_coder.specs.Coding.{Codes, coded, line, longer_len};
+ghost use Rattle.slice_group_by.specs.Split.{last, split};
+ghost use Rattle.slice_group_by.specs.Streams.{kept_of, with_part};
+ghost use Rattle.run_length_coder.specs.Coding.{coded, run_line, Written};
 
+use crate::runs::Run;
 use program_parts::blocks::{new_block, read_block};
-use slice_group_by::StreamNumberGroup;
-use slice_group_by::laws::folds_add_up;
+use slice_group_by::StreamGroups;
+use slice_group_by::laws::parts_join;
 use std::alloc::Global;
 use std::io;
 use std::io::{Error, ErrorKind, Read, Write};
-
-/// The runs of a stream: each is given as its byte and its length, where that is a number of 64 bits.
-type Runs<F> = StreamNumberGroup<u8, Option<usize>, F>;
 
 /// Writes the line of each run of the bytes that the input has left, each run as long as it can be, however the reads cut them.
 /// It keeps one block in memory. A failed read or write ends it, and so does a run of 2^64 bytes.
@@ -21,84 +19,102 @@ pub fn encode<R: Read, W: Write>(alloc: Global, input: &mut R, out: &mut W) -> i
     ensures { OnOk result (IfSome (R.remaining input.old)
         (λ bytes. Appends (W.contents out.old) (W.contents out.new) (coded bytes))) }
 {
-    encode_runs(alloc, input, out, |len, part: &[u8]| longer(len, part))
-}
-
-// The same, with the function that adds a part to the length of a run.
-fn encode_runs<R, W: Write, F>(
-    alloc: Global,
-    input: &mut R,
-    out: &mut W,
-    longer: F,
-) -> io::Result<()>
-where
-    R: Read,
-    F: FnMut(Option<usize>, &[u8]) -> Option<usize>,
-    requires may_go_on { F.IsAlwaysCallable longer }
-    requires folds { Folds F.FnMut longer_len longer }
-    ensures { OnOk result (IfSome (R.remaining input.old)
-        (λ bytes. Appends (W.contents out.old) (W.contents out.new) (coded bytes))) }
-{
-    folds_add_up::<u8>();
     let mut block = new_block(alloc)?;
-    let mut runs = StreamNumberGroup::new(Some(0), longer);
+    let mut stream = StreamGroups::new();
+    let mut last_run = None;
     for _ in 0..u64::MAX {
         let len = read_block(input, &mut block)?;
         if len == 0 {
-            return write_last(&mut runs, out);
+            return write_last(last_run, out);
         }
-        write_ended(&mut runs, &block[..len], out)?;
+        write_block(&mut stream, &mut last_run, &block[..len], out)?;
     }
     Err(Error::new(ErrorKind::InvalidData, "the input does not end"))
 }
 
-/// The length of a run with a part more.
-fn longer(len: Option<usize>, part: &[u8]) -> Option<usize>
-    ensures { result ≡ longer_len len part.now }
-{
-    len?.checked_add(part.len())
-}
-
 /// Writes the lines of the runs that end in the block.
-fn write_ended<F: FnMut(Option<usize>, &[u8]) -> Option<usize>, W: Write>(
-    runs: &mut Runs<F>,
+fn write_block<W: Write>(
+    stream: &mut StreamGroups<u8>,
+    last_run: &mut Option<Run>,
     block: &[u8],
     out: &mut W,
 ) -> io::Result<()>
-    requires { MayGoOn (by_number nat_eq) F.FnMut runs.old }
-    ensures may_go_on { MayGoOn (by_number nat_eq) F.FnMut runs.new }
-    ensures writes { OnOk result ((group : List ℕ) → HasOpen (by_number nat_eq) F.FnMut nat_eq longer_len (Some 0) runs.old group
-        → (next : List ℕ) × HasOpen (by_number nat_eq) F.FnMut nat_eq longer_len (Some 0) runs.new next
-        × Codes (W.contents out.old) (W.contents out.new) (group ++ block.now) next) }
+    ensures { OnOk result ((start : Option (List ℕ)) (came : List ℕ) → kept_of stream.old ≡ last came
+        → Written start (W.contents out.old) (split nat_eq came) last_run.old
+        → (kept_of stream.new ≡ last (came ++ block.now))
+        × Written start (W.contents out.new) (split nat_eq (came ++ block.now)) last_run.new) }
 {
-    let mut rest = block;
-    while let Some(run) = runs.next(&mut rest) {
-        write_run(run, out)?;
+    let parts = stream.number_parts(block);
+    parts_join(&parts);
+    for (begins, part) in parts {
+        let run = follow(*last_run, begins, part, out)?;
+        *last_run = Some(run);
     }
     Ok(())
 }
 
-/// Writes the line of the run that is open at the end of the input, if there is one.
-fn write_last<F: FnMut(Option<usize>, &[u8]) -> Option<usize>, W: Write>(
-    runs: &mut Runs<F>,
+/// The run that is open behind a part more. Where a run begins with the part, the line of the one that was open is written.
+fn follow<W: Write>(
+    last_run: Option<Run>,
+    begins: bool,
+    part: &[u8],
     out: &mut W,
-) -> io::Result<()>
-    ensures { OnOk result ((group : List ℕ) → HasOpen (by_number nat_eq) F.FnMut nat_eq longer_len (Some 0) runs.old group
-        → Appends (W.contents out.old) (W.contents out.new) (coded group)) }
+) -> io::Result<Run>
+    requires { part.now ≢ [] }
+    ensures { IfOk result (λ run. (start : Option (List ℕ)) (groups : List (List ℕ))
+        → Written start (W.contents out.old) groups last_run
+        → Written start (W.contents out.new) (with_part groups (begins, part.now)) (Some run)) }
 {
-    match runs.finish() {
+    let Some(run) = last_run else {
+        return Ok(begun(part));
+    };
+    if begins {
+        write_run(run, out)?;
+        return Ok(begun(part));
+    }
+    let more = longer(run, part)?;
+    Ok(more)
+}
+
+/// A run of the bytes of a part.
+fn begun(part: &[u8]) -> Run
+    requires { part.now ≢ [] }
+    ensures count { result.count ≡ length part.now }
+    ensures byte { result.byte ≡ slice_index part.now 0 }
+{
+    Run {
+        byte: part[0],
+        count: part.len(),
+    }
+}
+
+/// The run with a part more.
+fn longer(run: Run, part: &[u8]) -> io::Result<Run>
+    ensures { IfOk result (λ more. (more.count ≡ run.count + length part.now) × (more.byte ≡ run.byte)) }
+{
+    let Some(count) = run.count.checked_add(part.len()) else {
+        return Err(Error::new(ErrorKind::InvalidData, "a run is too long to be counted"));
+    };
+    Ok(Run {
+        byte: run.byte,
+        count,
+    })
+}
+
+/// Writes the line of the run that is open at the end of the input, if there is one.
+fn write_last<W: Write>(last_run: Option<Run>, out: &mut W) -> io::Result<()>
+    ensures { OnOk result ((start : Option (List ℕ)) (bytes : List ℕ)
+        → Written start (W.contents out.old) (split nat_eq bytes) last_run → Appends start (W.contents out.new) (coded bytes)) }
+{
+    match last_run {
         Some(run) => write_run(run, out),
         None => Ok(()),
     }
 }
 
 /// Writes the line of a run.
-fn write_run<W: Write>(run: (u8, Option<usize>), out: &mut W) -> io::Result<()>
-    ensures { OnOk result ((group : List ℕ) → IsGivenAs nat_eq longer_len (Some 0) group run
-        → Appends (W.contents out.old) (W.contents out.new) (line group)) }
+fn write_run<W: Write>(run: Run, out: &mut W) -> io::Result<()>
+    ensures { OnOk result (Appends (W.contents out.old) (W.contents out.new) (run_line run)) }
 {
-    let (byte, Some(len)) = run else {
-        return Err(Error::new(ErrorKind::InvalidData, "a run is too long to be counted"));
-    };
-    writeln!(out, "{len} {byte}")
+    writeln!(out, "{} {}", run.count, run.byte)
 }

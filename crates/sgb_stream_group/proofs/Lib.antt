@@ -1,5 +1,3 @@
-pub mod Calls
-pub mod Folds
-pub mod GivenGroups
-pub mod Parts
+pub mod Ends
+pub mod JoinedParts
 pub mod States

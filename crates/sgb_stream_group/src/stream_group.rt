@@ -1,143 +1,338 @@
 //! Groups that go on over the blocks of a stream.
-ghost use Rattle.std.specs.Prelude.{◌≡◌, ◌≢◌, ℕ, ◌<◌, ◌≤◌, Bool, not, false, List, [], ◌∷◌, ◌++◌, length, take, drop};
-ghost use Rattle.std.specs.Prelude.{IsSome, MatchOption};
-ghost use Rattle.sgb_search.specs.declared.end.End.TheVariants.{Front};
-ghost use Rattle.sgb_search.specs.Judges.{IsRun};
-ghost use Rattle.sgb_search.specs.Questions.{questions};
-ghost use Rattle.sgb_search.specs.Split.{last};
-ghost use Rattle.sgb_stream_group.specs.Streams.{Asks, Gives, GivesLast, GoesOn, HasOpen, IsOpen, IsSettled, MayGoOn};
-ghost use Rattle.sgb_stream_group.specs.Streams.{TakesPart, due};
+ghost use Rattle.std.specs.Prelude.{◌≡◌, Bool, [], map, MatchOption};
+ghost use Rattle.std.specs.Fn.{CalledAt, CalledAtTwo, ComputesKey, ComputesOnPairs};
+ghost use Rattle.std.specs.Ordering.{on};
+ghost use Rattle.sgb_numbers.specs.Classes.{by_class};
+ghost use Rattle.sgb_numbers.specs.Numbers.{by_number};
+ghost use Rattle.sgb_number_group.specs.Gives as numbers;
+ghost use Rattle.sgb_search.specs.Calls.{ComputesBy, IsCallableBy};
+ghost use Rattle.sgb_search.specs.Judges.{by_equality, by_key, by_predicate};
+ghost use Rattle.sgb_search.specs.Split.{AreNeighbours, first, last};
+ghost use Rattle.sgb_stream_group.specs.Streams.{AsksAcross, AsksEnds, across, begins_at, begins_of};
+ghost use Rattle.sgb_stream_group.specs.Streams.{groups_in, kept_of, last_after};
+ghost use Rattle.sgb_groups.specs.Gives.{groups_of};
 
-use sgb_numbers::number_judge::NumberJudge;
-use sgb_search::judge::{EqualityJudge, Judge, KeyJudge, PredicateJudge};
+use sgb_linear_group::linear_group::{LinearGroup, LinearGroupBy, LinearGroupByKey};
+use sgb_number_group::by_class::LinearClassGroup;
+use sgb_number_group::by_number::LinearNumberGroup;
+use sgb_numbers::byte_classes::ByteClasses;
+use sgb_numbers::lanes::Lanes;
+use sgb_search::laws::{always_callable, always_callable_key};
 
-/// The groups of equal elements of a stream that comes in blocks, by `==` of neighbours.
+/// A stream that comes in blocks, any of which may be empty, and whose groups may go on over several. It keeps the last element
+/// that came, or its key, and nothing else.
+///
+/// Each block gives its parts, one for each group that has elements in it: whether a group begins with the part, or the last group
+/// goes on, and the elements. What is made of a group over its parts is the caller's: a sum, a text, a list.
 ///
 /// ```
-/// let mut groups = StreamGroup::new(0usize, |len, part: &[u8]| len.saturating_add(part.len()));
-/// let mut first = b"aab".as_slice();
-/// groups.next(&mut first);  // Some((b'a', 2))
-/// groups.next(&mut first);  // None: the b may go on
-/// let mut second = b"bc".as_slice();
-/// groups.next(&mut second); // Some((b'b', 2))
-/// groups.next(&mut second); // None
-/// groups.finish();          // Some((b'c', 1))
+/// let mut stream = StreamGroups::new();
+/// stream.parts(&[1, 1, 2]); // (true, [1, 1]), (true, [2])
+/// stream.parts(&[2, 3]);    // (false, [2]), (true, [3])
 /// ```
-pub type StreamGroup<T, V, F> = StreamGroups<T, V, EqualityJudge, F>;
-
-/// The groups of equal numbers of a stream that comes in blocks: those of `StreamGroup`, found by vectors. How many numbers a call
-/// reads or compares is not counted.
-pub type StreamNumberGroup<T, V, F> = StreamGroups<T, V, NumberJudge, F>;
-
-/// The groups of a stream that comes in blocks by a predicate, which is asked about neighbours, the left one first.
-pub type StreamGroupBy<T, V, F, P> = StreamGroups<T, V, PredicateJudge<P>, F>;
-
-/// The groups of a stream that comes in blocks by a key: a question is a call of the key function on the left element, then one on
-/// the right, then `==` of the keys.
-pub type StreamGroupByKey<T, V, F, G, K> = StreamGroups<T, V, KeyJudge<G, K>, F>;
-
-/// The groups of a stream that comes in blocks, any of which may be empty, and a group may go on over several. Each group is given
-/// once it is known to end, as its last element and a value that is folded over its parts.
-///
-/// It keeps the last element and the value of the group that is open at the end of a block, and allocates nothing. Over all blocks
-/// it asks the questions of one linear walk: n - 1 for n elements.
 #[derive(Drop)]
-pub struct StreamGroups<T, V, J, F> {
-    pub judge: J,
-    pub fold: F,
-    pub start: V,
-    pub kept: Option<(T, V)>,
+pub struct StreamGroups<K> {
+    kept: Option<K>,
 }
 
-impl<T: Copy, V: Copy, J: Judge<T>, F: FnMut(V, &[T]) -> V> StreamGroups<T, V, J, F> {
-    /// Takes the next group that ends in the block off `rest`, what is left of the block. `None` at the end of the block: only the
-    /// next block tells whether the open group goes on. If none comes, `finish` gives it.
+/// The parts of the groups of a stream that a block has: each with whether a group begins with it, which of all but the first is
+/// known at once.
+#[derive(Drop)]
+pub struct Parts<I> {
+    begins: bool,
+    groups: I,
+}
+
+impl<I: Iterator> Iterator for Parts<I> {
+    type Item = (bool, I::Item);
+
+    ghost use Rattle.sgb_stream_group.specs.Streams.{GivesPart};
+
+    ghost can_next = { λ s. I.can_next s.groups };
+
+    ghost next_gives = { GivesPart I.next_gives };
+
+    ghost remaining = { λ s. I.remaining s.groups };
+
+    /// The next part, or `None` at the end of the block.
+    #[inline]
+    fn next(&mut self) -> Option<(bool, I::Item)> {
+        let part = self.groups.next()?;
+        let begins = self.begins;
+        self.begins = true;
+        Some((begins, part))
+    }
+
+    #[inline]
+    fn size_hint(&self) -> (usize, Option<usize>) {
+        self.groups.size_hint()
+    }
+}
+
+impl<I> Parts<I> {
+    /// The groups of a block as parts: for a caller who keeps by itself what tells whether the first goes on.
+    #[inline]
+    pub fn new(begins: bool, groups: I) -> Parts<I>
+        ensures begins { begins_of result ≡ begins }
+        ensures groups { groups_in result ≡ groups }
+    {
+        Parts { begins, groups }
+    }
+}
+
+impl<K> StreamGroups<K> {
+    /// A stream of which no block has come yet.
+    #[inline]
+    pub fn new() -> StreamGroups<K>
+        ensures { kept_of result ≡ None }
+    {
+        StreamGroups { kept: None }
+    }
+}
+
+// The first element and the last.
+#[inline]
+fn ends<T>(block: &[T]) -> Option<(&T, &T)>
+    ensures { MatchOption result (block.now ≡ [])
+        (λ e. (first block.now ≡ Some e.0.now) × (last block.now ≡ Some e.1.now)) }
+{
+    Some((block.first()?, block.last()?))
+}
+
+// Asks the predicate.
+#[inline]
+fn ask<T, P: FnMut(&T, &T) -> bool>(predicate: &mut P, before: &T, first: &T) -> bool
+    requires { P.IsAlwaysCallable predicate.old }
+    ensures called { CalledAtTwo P.FnMut predicate.old before.now first.now result predicate.new }
+    ensures callable { P.IsAlwaysCallable predicate.new }
+    ensures is { (p : T → T → Bool) → ComputesOnPairs P.FnMut p predicate.old → result ≡ p before.now first.now }
+    ensures computes { (p : T → T → Bool) → ComputesOnPairs P.FnMut p predicate.old → ComputesOnPairs P.FnMut p predicate.new }
+{
+    predicate(before, first)
+}
+
+// Whether a group begins between the two: asks the predicate, if there are two.
+#[inline]
+fn begins_by<T: Copy, P: FnMut(&T, &T) -> bool>(predicate: &mut P, pair: Option<(T, T)>) -> bool
+    requires { P.IsAlwaysCallable predicate.old }
+    ensures asks { AsksAcross P.FnMut pair predicate.old result predicate.new }
+    ensures callable { P.IsAlwaysCallable predicate.new }
+    ensures begins { (p : T → T → Bool) → ComputesOnPairs P.FnMut p predicate.old → result ≡ begins_at p pair }
+    ensures computes { (p : T → T → Bool) → ComputesOnPairs P.FnMut p predicate.old → ComputesOnPairs P.FnMut p predicate.new }
+{
+    match pair {
+        Some(two) => !ask(predicate, &two.0, &two.1),
+        None => true,
+    }
+}
+
+// The groups of a block by a predicate.
+#[inline]
+fn groups_by<T, P: FnMut(&T, &T) -> bool>(block: &[T], predicate: P) -> LinearGroupBy<'_, T, P>
+    requires { P.IsAlwaysCallable predicate }
+    ensures remainder { (groups_of result).remainder ≡ block.now }
+    ensures judge { (groups_of result).judge.predicate ≡ predicate }
+    ensures callable { IsCallableBy AreNeighbours (by_predicate P.FnMut) (groups_of result) }
+    ensures computes { (p : T → T → Bool) → ComputesOnPairs P.FnMut p predicate
+        → ComputesBy AreNeighbours (by_predicate P.FnMut) (groups_of result) p }
+{
+    always_callable::<T, P>();
+    LinearGroupBy::new(block, predicate)
+}
+
+// The key of an element.
+#[inline]
+fn key_of<T, K, F: FnMut(&T) -> K>(key: &mut F, element: &T) -> K
+    requires { F.IsAlwaysCallable key.old }
+    ensures called { CalledAt F.FnMut key.old element.now result key.new }
+    ensures callable { F.IsAlwaysCallable key.new }
+    ensures is { (k : T → K) → ComputesKey F.FnMut k key.old → result ≡ k element.now }
+    ensures computes { (k : T → K) → ComputesKey F.FnMut k key.old → ComputesKey F.FnMut k key.new }
+{
+    key(element)
+}
+
+// The groups of a block by a key.
+#[inline]
+fn groups_by_key<'a, T, K: PartialEq + Drop, F: FnMut(&T) -> K>(
+    block: &'a [T],
+    key: F,
+) -> LinearGroupByKey<'a, T, F, K>
+    requires { F.IsAlwaysCallable key }
+    ensures remainder { (groups_of result).remainder ≡ block.now }
+    ensures judge { (groups_of result).judge.func ≡ key }
+    ensures callable { IsCallableBy AreNeighbours (by_key F.FnMut K.eq) (groups_of result) }
+    ensures computes { (k : T → K) → ComputesKey F.FnMut k key
+        → ComputesBy AreNeighbours (by_key F.FnMut K.eq) (groups_of result) (λ x y. K.eq (k x) (k y)) }
+{
+    always_callable_key::<T, F, K>();
+    LinearGroupByKey::new(block, key)
+}
+
+impl<T: Copy> StreamGroups<T> {
+    // The element before the block and the block's first, if there are both. The block has come then.
+    #[inline]
+    fn across(&mut self, block: &[T]) -> Option<(T, T)>
+        ensures pair { result ≡ across (kept_of self.old) block.now }
+        ensures kept { kept_of self.new ≡ last_after (kept_of self.old) block.now }
+    {
+        let (first, last) = ends(block)?;
+        match self.kept.replace(*last) {
+            Some(before) => Some((before, *first)),
+            None => None,
+        }
+    }
+
+    /// The parts that the block has of the groups by a predicate. It is called on the last element before the block and the block's
+    /// first at once, and on the neighbours in the block as the parts are taken: over all blocks that is one linear walk.
     ///
-    /// It asks about each neighbouring pair up to the first that is refused, the first pair being the element that is kept and the
-    /// block's first one. It takes time by these questions, and calls `fold` at most once. A loop over calls ends: each that gives
-    /// a group leaves fewer questions to ask (`due`).
+    /// The block has come then, whether or not its parts are taken.
     #[inline]
-    pub fn next(&mut self, rest: &mut &[T]) -> Option<(T, V)>
-        requires { MayGoOn J.Judge F.FnMut self.old }
-        ensures may_go_on { MayGoOn J.Judge F.FnMut self.new }
-        ensures gives { (p : T → T → Bool) (f : V → List T → V) (start : V) (group : List T)
-            → HasOpen J.Judge F.FnMut p f start self.old group
-            → Gives J.Judge F.FnMut p f start (group ++ rest.old.now) result rest.new.now self.new }
-        ensures asks { Asks J.Judge self.old rest.old.now result rest.new.now self.new }
-        ensures fewer { IsSome result → due self.new.kept rest.new.now < due self.old.kept rest.old.now }
+    pub fn parts_by<'a, P: FnMut(&T, &T) -> bool>(
+        &mut self,
+        block: &'a [T],
+        predicate: P,
+    ) -> Parts<LinearGroupBy<'a, T, P>>
+        requires { P.IsAlwaysCallable predicate }
+        ensures kept { kept_of self.new ≡ last_after (kept_of self.old) block.now }
+        ensures remainder { (groups_of (groups_in result)).remainder ≡ block.now }
+        ensures asks { AsksAcross P.FnMut (across (kept_of self.old) block.now) predicate (begins_of result)
+            (groups_of (groups_in result)).judge.predicate }
+        ensures callable { IsCallableBy AreNeighbours (by_predicate P.FnMut) (groups_of (groups_in result)) }
+        ensures begins { (p : T → T → Bool) → ComputesOnPairs P.FnMut p predicate
+            → begins_of result ≡ begins_at p (across (kept_of self.old) block.now) }
+        ensures computes { (p : T → T → Bool) → ComputesOnPairs P.FnMut p predicate
+            → ComputesBy AreNeighbours (by_predicate P.FnMut) (groups_of (groups_in result)) p }
     {
-        let first = rest.first()?;
-        if self.ends_before(first) {
-            return self.kept.take();
-        }
-        let group = self.take_part(rest);
-        if rest.is_empty() {
-            self.kept = Some(group);
-            None
-        } else {
-            self.kept = None;
-            Some(group)
+        let mut predicate = predicate;
+        let pair = self.across(block);
+        let begins = begins_by(&mut predicate, pair);
+        Parts {
+            begins,
+            groups: groups_by(block, predicate),
         }
     }
+}
 
-    // Whether there is an open group, and the element does not go on with it: one question, where there is one.
+impl<T: Copy + PartialEq> StreamGroups<T> {
+    /// The parts that the block has of the groups of equal elements, by `==` of neighbours. The last element before the block and
+    /// the block's first are compared at once.
     #[inline]
-    fn ends_before(&mut self, element: &T) -> bool
-        requires { MayGoOn J.Judge F.FnMut self.old }
-        ensures may_go_on { MayGoOn J.Judge F.FnMut self.new }
-        ensures settled { (p : T → T → Bool) (f : V → List T → V) → IsSettled J.Judge F.FnMut p f self.old
-            → IsSettled J.Judge F.FnMut p f self.new }
-        ensures start { self.new.start ≡ self.old.start }
-        ensures kept { self.new.kept ≡ self.old.kept }
-        ensures says { (p : T → T → Bool) (f : V → List T → V) → IsSettled J.Judge F.FnMut p f self.old
-            → MatchOption self.old.kept (result ≡ false) (λ kept. result ≡ not (p kept.0 element.now)) }
-        ensures asks { MatchOption self.old.kept ((result ≡ false) × (self.new.judge ≡ self.old.judge))
-            (λ kept. IsRun J.may_ask J.answers self.old.judge (((kept.0, element.now), not result) ∷ []) self.new.judge) }
+    pub fn parts<'a>(&mut self, block: &'a [T]) -> Parts<LinearGroup<'a, T>>
+        ensures kept { kept_of self.new ≡ last_after (kept_of self.old) block.now }
+        ensures remainder { (groups_of (groups_in result)).remainder ≡ block.now }
+        ensures begins { begins_of result ≡ begins_at T.eq (across (kept_of self.old) block.now) }
+        ensures callable { IsCallableBy AreNeighbours (by_equality T.eq) (groups_of (groups_in result)) }
+        ensures computes { ComputesBy AreNeighbours (by_equality T.eq) (groups_of (groups_in result)) T.eq }
     {
-        match self.kept {
-            Some((last, _)) => !self.judge.ask(&last, element),
+        let goes_on = match self.across(block) {
+            Some((before, first)) => before == first,
             None => false,
+        };
+        Parts {
+            begins: !goes_on,
+            groups: LinearGroup::new(block),
+        }
+    }
+}
+
+impl<T: Lanes + Copy> StreamGroups<T> {
+    /// The parts of `parts`, of numbers, found by vectors. How many are compared is not counted.
+    #[inline]
+    pub fn number_parts<'a>(&mut self, block: &'a [T]) -> Parts<LinearNumberGroup<'a, T>>
+        ensures kept { kept_of self.new ≡ last_after (kept_of self.old) block.now }
+        ensures remainder { (numbers.groups_of (groups_in result)).remainder ≡ block.now }
+        ensures begins { begins_of result ≡ begins_at T.eq (across (kept_of self.old) block.now) }
+        ensures callable { IsCallableBy AreNeighbours (by_number T.eq) (numbers.groups_of (groups_in result)) }
+        ensures computes { ComputesBy AreNeighbours (by_number T.eq) (numbers.groups_of (groups_in result)) T.eq }
+    {
+        let goes_on = match self.across(block) {
+            Some((before, first)) => before == first,
+            None => false,
+        };
+        Parts {
+            begins: !goes_on,
+            groups: LinearNumberGroup::new(block),
+        }
+    }
+}
+
+impl StreamGroups<u8> {
+    /// The parts that the block has of the groups of bytes of one class, found by vectors: of tokens.
+    #[inline]
+    pub fn class_parts<'a, C: ByteClasses>(
+        &mut self,
+        block: &'a [u8],
+    ) -> Parts<LinearClassGroup<'a, C>>
+        ensures kept { kept_of self.new ≡ last_after (kept_of self.old) block.now }
+        ensures remainder { (numbers.groups_of (groups_in result)).remainder ≡ block.now }
+        ensures begins { begins_of result ≡ begins_at (on C.class_of C.Class.eq) (across (kept_of self.old) block.now) }
+        ensures callable { IsCallableBy AreNeighbours (by_class C.class_of C.Class.eq) (numbers.groups_of (groups_in result)) }
+        ensures computes { ComputesBy AreNeighbours (by_class C.class_of C.Class.eq) (numbers.groups_of (groups_in result))
+            (on C.class_of C.Class.eq) }
+    {
+        let goes_on = match self.across(block) {
+            Some((before, first)) => C::class(before) == C::class(first),
+            None => false,
+        };
+        Parts {
+            begins: !goes_on,
+            groups: LinearClassGroup::new(block),
+        }
+    }
+}
+
+impl<K: PartialEq + Drop> StreamGroups<K> {
+    /// The parts that the block has of the groups by a key. The stream keeps keys alone, so that elements need live no longer than
+    /// their block.
+    ///
+    /// The key function is called on the first element of the block and on the last at once, and on both elements of each
+    /// neighbouring pair as the parts are taken: in all twice on each element.
+    #[inline]
+    pub fn parts_by_key<'a, T, F: FnMut(&T) -> K>(
+        &mut self,
+        block: &'a [T],
+        key: F,
+    ) -> Parts<LinearGroupByKey<'a, T, F, K>>
+        requires { F.IsAlwaysCallable key }
+        ensures remainder { (groups_of (groups_in result)).remainder ≡ block.now }
+        ensures asks { AsksEnds F.FnMut block.now key (groups_of (groups_in result)).judge.func }
+        ensures callable { IsCallableBy AreNeighbours (by_key F.FnMut K.eq) (groups_of (groups_in result)) }
+        ensures kept { (k : T → K) → ComputesKey F.FnMut k key
+            → kept_of self.new ≡ last_after (kept_of self.old) (map k block.now) }
+        ensures begins { (k : T → K) → ComputesKey F.FnMut k key
+            → begins_of result ≡ begins_at K.eq (across (kept_of self.old) (map k block.now)) }
+        ensures computes { (k : T → K) → ComputesKey F.FnMut k key
+            → ComputesBy AreNeighbours (by_key F.FnMut K.eq) (groups_of (groups_in result)) (λ x y. K.eq (k x) (k y)) }
+    {
+        let mut key = key;
+        let begins = self.begins_by_key(block, &mut key);
+        Parts {
+            begins,
+            groups: groups_by_key(block, key),
         }
     }
 
-    // Takes the first group off what is left of the block, and gives the open one with it. What is kept stays: a group that ends in
-    // its block is not written there first, to be read again.
+    // Whether a group begins with the block, whose last key is kept: asks for the key of its first element and of its last.
     #[inline]
-    fn take_part(&mut self, rest: &mut &[T]) -> (T, V)
-        requires may_go_on { MayGoOn J.Judge F.FnMut self.old }
-        requires some { rest.old.now ≢ [] }
-        ensures may_go_on { MayGoOn J.Judge F.FnMut self.new }
-        ensures settled { (p : T → T → Bool) (f : V → List T → V) → IsSettled J.Judge F.FnMut p f self.old
-            → IsSettled J.Judge F.FnMut p f self.new }
-        ensures start { self.new.start ≡ self.old.start }
-        ensures takes { (p : T → T → Bool) (f : V → List T → V) → IsSettled J.Judge F.FnMut p f self.old
-            → (group : List T) → IsOpen p f self.old.start group self.old.kept → GoesOn p self.old.kept rest.old.now
-            → TakesPart p f self.old.start group rest.old.now rest.new.now (Some result) }
-        ensures kept { self.new.kept ≡ self.old.kept }
-        ensures asks { (n : ℕ) × (0 < n) × (n ≤ length rest.old.now)
-            × IsRun J.may_ask J.answers self.old.judge (questions Front rest.old.now n) self.new.judge
-            × (rest.new.now ≡ drop n rest.old.now) × (last (take n rest.old.now) ≡ Some result.0) }
-        ensures fewer { length rest.new.now < length rest.old.now }
+    fn begins_by_key<T, F: FnMut(&T) -> K>(&mut self, block: &[T], key: &mut F) -> bool
+        requires { F.IsAlwaysCallable key.old }
+        ensures asks { AsksEnds F.FnMut block.now key.old key.new }
+        ensures callable { F.IsAlwaysCallable key.new }
+        ensures computes { (k : T → K) → ComputesKey F.FnMut k key.old → ComputesKey F.FnMut k key.new }
+        ensures kept { (k : T → K) → ComputesKey F.FnMut k key.old
+            → kept_of self.new ≡ last_after (kept_of self.old) (map k block.now) }
+        ensures begins { (k : T → K) → ComputesKey F.FnMut k key.old
+            → result ≡ begins_at K.eq (across (kept_of self.old) (map k block.now)) }
     {
-        let value = match self.kept {
-            Some((_, value)) => value,
-            None => self.start,
+        let Some((first, last)) = ends(block) else {
+            return true;
         };
-        let len = self.judge.first_len(rest, 0, rest.len());
-        let (part, others) = rest.split_at(len);
-        *rest = others;
-        (part[len - 1], (self.fold)(value, part))
-    }
-
-    /// The group that is open behind the last block, the last of the stream, if it has one. It asks nothing. A block that comes
-    /// after this begins a stream of its own.
-    pub fn finish(&mut self) -> Option<(T, V)>
-        ensures may_go_on { MayGoOn J.Judge F.FnMut self.old → MayGoOn J.Judge F.FnMut self.new }
-        ensures gives { (p : T → T → Bool) (f : V → List T → V) (start : V) (group : List T)
-            → HasOpen J.Judge F.FnMut p f start self.old group
-            → GivesLast p f start group result × HasOpen J.Judge F.FnMut p f start self.new [] }
-        ensures judge { self.new.judge ≡ self.old.judge }
-    {
-        self.kept.take()
+        let first_key = key_of(key, first);
+        let last_key = key_of(key, last);
+        match self.kept.replace(last_key) {
+            Some(before) => !(before == first_key),
+            None => true,
+        }
     }
 }

@@ -1,4 +1,5 @@
 -- Runs of questions, and when they may be asked.
 pub mod PairsAsked
 pub mod Counting
+pub mod InOrder
 pub mod Adversary
