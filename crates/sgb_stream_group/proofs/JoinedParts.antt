@@ -7,8 +7,8 @@ use Rattle.sgb_search.specs.Seams.{is_accepted_across, are_accepted, seam}
 use Rattle.sgb_search.specs.Split.{concat, first, last, neighbours, put_before, split}
 use Rattle.sgb_search.proofs.Splits.Joined.{split_joins}
 use Rattle.sgb_search.proofs.Splits.Split.{split_begins}
-use Rattle.sgb_stream_group.specs.declared.stream_group.Parts.{Parts}
-use Rattle.sgb_stream_group.specs.Streams.{across, asked_pairs, begins_at, both, last_after, onto_last, or_before, pair_list}
+use Rattle.sgb_stream_group.specs.declared.parts.Parts.{Parts}
+use Rattle.sgb_stream_group.specs.Streams.{across, asked_pairs, begins_at, both, last_after, as_parts, or_before, pair_list}
 use Rattle.sgb_stream_group.specs.Streams.{GivesPart, with_part, with_parts}
 use Rattle.sgb_stream_group.proofs.Ends.{not_not, first_mapped, last_mapped}
 use Rattle.std.proofs.Common.{subst}
@@ -18,14 +18,9 @@ use Rattle.sgb_search.proofs.Questions.Runs.{run_append}
 use Rattle.sgb_stream_group.specs.Streams.{AsksBlocks, AsksPairs}
 
 module _ {A : Type 0} where
-  last_some : (x : A) (xs : List A) → (z : A) × (last (x ∷ xs) ≡ Some z)
+  pub last_some : (x : A) (xs : List A) → (z : A) × (last (x ∷ xs) ≡ Some z)
   last_some x [] = (x, refl)
   last_some x (y ∷ ys) = last_some y ys
-
-  -- the pieces, the first with this flag, and the others as those that begin groups
-  abbrev pub flagged : Bool → List (List A) → List (Bool × List A)
-  flagged b [] = []
-  flagged b (g ∷ gs) = (b, g) ∷ map (λ h. (true, h)) gs
 
   with_new : (gs hs : List (List A)) → with_parts gs (map (λ h. (true, h)) hs) ≡ gs ++ hs
   with_new gs [] = sym (append-nil gs)
@@ -40,7 +35,7 @@ module _ {A : Type 0} where
   with_parts_more gs [] part = refl
   with_parts_more gs (x ∷ xs) part = with_parts_more (with_part gs x) xs part
 
-  pub onto_open : (closed : List (List A)) (g part : List A) → onto_last (closed ++ g ∷ []) part ≡ closed ++ (g ++ part) ∷ []
+  pub onto_open : (closed : List (List A)) (g part : List A) → with_part (closed ++ g ∷ []) (false, part) ≡ closed ++ (g ++ part) ∷ []
   onto_open [] g part = refl
   onto_open (h ∷ []) g part = refl
   onto_open (h ∷ k ∷ ks) g part = ap (λ l. h ∷ l) (onto_open (k ∷ ks) g part)
@@ -77,7 +72,7 @@ module _ {A : Type 0} (p : A → A → Bool) where
 
   -- the groups with the parts of a block are the groups of all
   pub parts_join : (before block : List A) (b : Bool) → begins_at p (across (last before) block) ≡ b
-      → with_parts (split p before) (flagged b (split p block)) ≡ split p (before ++ block)
+      → with_parts (split p before) (as_parts b (split p block)) ≡ split p (before ++ block)
   parts_join before [] b e = ap (split p) (sym (append-nil before))
   parts_join [] (y ∷ ys) b e =
       let h = split_begins p y ys in
@@ -89,7 +84,7 @@ module _ {A : Type 0} (p : A → A → Bool) where
       let test : not (p z.0 y) ≡ b = ap (λ o. begins_at p (both o (Some y))) (sym z.1) ∙ e in
       let accepted : is_accepted_across p g.0 (y ∷ h.more) ≡ not b =
       ap (λ o. are_accepted p o (Some y)) (g.2 ∙ z.1) ∙ sym (not_not (p z.0 y)) ∙ ap not test in
-      ap (λ t. with_parts (split p (x ∷ xs)) (flagged b t)) h.is
+      ap (λ t. with_parts (split p (x ∷ xs)) (as_parts b t)) h.is
       ∙ with_new (with_part (split p (x ∷ xs)) (b, y ∷ h.more)) h.others
       ∙ sym (seam_is (split p (x ∷ xs)) g.0 (y ∷ h.more) h.others b g.1 accepted)
       ∙ ap (seam p (split p (x ∷ xs))) (sym h.is) ∙ sym (split_joins p (x ∷ xs) (y ∷ ys))
@@ -109,16 +104,15 @@ module _ {I X A : Type 0} (gives : I → Option X → I → Type 0) (shows : X �
       ∙ ap (λ f. (f, shows x.1) ∷ map {B = Bool × List A} (λ h. (true, h)) (map shows (map (λ z. z.1) xs))) (y.1.1.0 ∙ b)
 
   pub flags : (s t : Parts I) (parts : List (Bool × X)) → Yields (GivesPart gives) s parts t
-      → map (λ x. (x.0, shows x.1)) parts ≡ flagged s.begins (map shows (map (λ x. x.1) parts))
+      → map (λ x. (x.0, shows x.1)) parts ≡ as_parts s.begins (map shows (map (λ x. x.1) parts))
   flags s t [] y = refl
   flags s t (x ∷ xs) y =
       ap (λ l. (x.0, shows x.1) ∷ l) (all_begin y.0 t xs y.1.1.1 y.2)
       ∙ ap (λ f. (f, shows x.1) ∷ map {B = Bool × List A} (λ h. (true, h)) (map shows (map (λ z. z.1) xs))) y.1.1.0
 
-  pub yields_more : (s t u : Parts I) (parts : List (Bool × X)) (part : Bool × X) → Yields (GivesPart gives) s parts t
-      → GivesPart gives t (Some part) u → Yields (GivesPart gives) s (parts ++ part ∷ []) u
-  yields_more s t u [] part y g = (u, rw (← y) at g, refl)
-  yields_more s t u (x ∷ xs) part y g = (y.0, y.1, yields_more y.0 t u xs part y.2 g)
+  pub shown_alone : (parts : List (Bool × X)) → map (λ x. shows x.1) parts ≡ map shows (map (λ x. x.1) parts)
+  shown_alone [] = refl
+  shown_alone (x ∷ xs) = ap (λ l. shows x.1 ∷ l) (shown_alone xs)
 
 -- what is kept, and what is asked
 module _ {A : Type 0} where

@@ -1,3 +1,4 @@
 pub mod Ends
+pub mod FoldedParts
 pub mod JoinedParts
 pub mod States

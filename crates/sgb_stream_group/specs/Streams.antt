@@ -2,27 +2,36 @@
 use Rattle.std.specs.Prelude.{◌≡◌, Bool, true, not, cond, List, [], ◌∷◌, ◌++◌, Option, None, Some, map, option_map, MatchOption}
 use Rattle.std.specs.Borrow.{Bor}
 use Rattle.std.specs.Fn.{CalledAt, Mut}
+use Rattle.std.specs.List.{fold}
 use Rattle.sgb_search.specs.declared.judge.Judge.{Ghosts}
 use Rattle.sgb_search.specs.Judges.{IsRun, by_predicate, predicate_judge}
 use Rattle.sgb_search.specs.Split.{first, last, neighbours}
-use Rattle.sgb_stream_group.specs.declared.stream_group.Parts.{Parts}
-use Rattle.sgb_stream_group.specs.declared.stream_group.StreamGroups.{StreamGroups}
+use Rattle.sgb_stream_group.specs.declared.parts.Parts.{Parts}
+use Rattle.sgb_stream_group.specs.declared.stream.StreamGroups.{StreamGroups}
+
+-- the last value, if there is one, is changed
+abbrev pub change_last : {V : Type 0} → (V → V) → List V → List V
+change_last change [] = []
+change_last change (v ∷ []) = change v ∷ []
+change_last change (v ∷ w ∷ vs) = v ∷ change_last change (w ∷ vs)
+
+-- of each group a value: a part that begins one adds the value that `first` gives of it, and another changes the last value by `more`
+abbrev pub add_part : {A V : Type 0} → (first : List A → V) (more : V → List A → V) → List V → Bool × List A → List V
+add_part first more vs part = cond part.0 (vs ++ first part.1 ∷ []) (change_last (λ v. more v part.1) vs)
 
 module _ {A : Type 0} where
-  -- the last group goes on with a part
-  abbrev pub onto_last : List (List A) → List A → List (List A)
-  onto_last [] part = part ∷ []
-  onto_last (g ∷ []) part = (g ++ part) ∷ []
-  onto_last (g ∷ h ∷ gs) part = g ∷ onto_last (h ∷ gs) part
-
   -- groups, and a part more: one that begins a group is a group, and another goes on with the last
   abbrev pub with_part : List (List A) → Bool × List A → List (List A)
-  with_part gs x = cond x.0 (gs ++ x.1 ∷ []) (onto_last gs x.1)
+  with_part = add_part (λ part. part) (λ group part. group ++ part)
 
   -- groups, and parts more, in their order
   abbrev pub with_parts : List (List A) → List (Bool × List A) → List (List A)
-  with_parts gs [] = gs
-  with_parts gs (x ∷ xs) = with_parts (with_part gs x) xs
+  with_parts = fold with_part
+
+  -- groups of a block as parts: a group of the stream begins with each, or with each but the first
+  abbrev pub as_parts : Bool → List (List A) → List (Bool × List A)
+  as_parts begins [] = []
+  as_parts begins (g ∷ gs) = (begins, g) ∷ map (λ h. (true, h)) gs
 
   -- the last element, or the one that came before where there is none
   abbrev pub or_before : Option A → Option A → Option A

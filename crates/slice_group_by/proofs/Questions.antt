@@ -2,4 +2,5 @@
 pub mod PairsAsked
 pub mod Counting
 pub mod InOrder
+pub mod OverBlocks
 pub mod Adversary

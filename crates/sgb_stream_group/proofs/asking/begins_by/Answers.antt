@@ -1,6 +1,6 @@
 use Rattle.std.proofs.Common.{ap, not}
 use Rattle.sgb_stream_group.proofs.States.{asks_two}
-use Rattle.sgb_stream_group.proofs.stream_group.begins_by.Goals as goal
+use Rattle.sgb_stream_group.proofs.asking.begins_by.Goals as goal
 
 pub returns-in-Some-clause-asks : goal.returns-in-Some-clause-asks
 returns-in-Some-clause-asks g c =

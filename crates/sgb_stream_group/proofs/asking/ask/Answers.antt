@@ -1,6 +1,6 @@
 use Rattle.std.proofs.Common.{rules}
 use Rattle.sgb_stream_group.proofs.States.{test_after}
-use Rattle.sgb_stream_group.proofs.stream_group.ask.Goals as goal
+use Rattle.sgb_stream_group.proofs.asking.ask.Goals as goal
 
 pub returns-clause-called : goal.returns-clause-called
 returns-clause-called g c = search rules

@@ -1,7 +1,7 @@
 use Rattle.std.proofs.Common.{ap, ◌∙◌, Some}
 use Rattle.sgb_stream_group.proofs.Ends.{kept_mapped}
 use Rattle.sgb_stream_group.specs.Streams.{kept_of}
-use Rattle.sgb_stream_group.proofs.stream_group.StreamGroups.begins_by_key.Goals as goal
+use Rattle.sgb_stream_group.proofs.stream.StreamGroups.begins_by_key.Goals as goal
 
 pub returns-in-Some-replace-clause-kept : goal.returns-in-Some-replace-clause-kept
 returns-in-Some-replace-clause-kept g c k h =

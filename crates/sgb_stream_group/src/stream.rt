@@ -1,23 +1,24 @@
 //! Groups that go on over the blocks of a stream.
-ghost use Rattle.std.specs.Prelude.{◌≡◌, Bool, [], map, MatchOption};
-ghost use Rattle.std.specs.Fn.{CalledAt, CalledAtTwo, ComputesKey, ComputesOnPairs};
+ghost use Rattle.std.specs.Prelude.{◌≡◌, Bool, map};
+ghost use Rattle.std.specs.Fn.{ComputesKey, ComputesOnPairs};
 ghost use Rattle.std.specs.Ordering.{on};
 ghost use Rattle.sgb_numbers.specs.Classes.{by_class};
 ghost use Rattle.sgb_numbers.specs.Numbers.{by_number};
 ghost use Rattle.sgb_number_group.specs.Gives as numbers;
 ghost use Rattle.sgb_search.specs.Calls.{ComputesBy, IsCallableBy};
 ghost use Rattle.sgb_search.specs.Judges.{by_equality, by_key, by_predicate};
-ghost use Rattle.sgb_search.specs.Split.{AreNeighbours, first, last};
+ghost use Rattle.sgb_search.specs.Split.{AreNeighbours};
 ghost use Rattle.sgb_stream_group.specs.Streams.{AsksAcross, AsksEnds, across, begins_at, begins_of};
 ghost use Rattle.sgb_stream_group.specs.Streams.{groups_in, kept_of, last_after};
 ghost use Rattle.sgb_groups.specs.Gives.{groups_of};
 
+use crate::asking::{begins_by, ends, groups_by, groups_by_key, key_of};
+use crate::parts::Parts;
 use sgb_linear_group::linear_group::{LinearGroup, LinearGroupBy, LinearGroupByKey};
 use sgb_number_group::by_class::LinearClassGroup;
 use sgb_number_group::by_number::LinearNumberGroup;
 use sgb_numbers::byte_classes::ByteClasses;
 use sgb_numbers::lanes::Lanes;
-use sgb_search::laws::{always_callable, always_callable_key};
 
 /// A stream that comes in blocks, any of which may be empty, and whose groups may go on over several. It keeps the last element
 /// that came, or its key, and nothing else.
@@ -35,51 +36,6 @@ pub struct StreamGroups<K> {
     kept: Option<K>,
 }
 
-/// The parts of the groups of a stream that a block has: each with whether a group begins with it, which of all but the first is
-/// known at once.
-#[derive(Drop)]
-pub struct Parts<I> {
-    begins: bool,
-    groups: I,
-}
-
-impl<I: Iterator> Iterator for Parts<I> {
-    type Item = (bool, I::Item);
-
-    ghost use Rattle.sgb_stream_group.specs.Streams.{GivesPart};
-
-    ghost can_next = { λ s. I.can_next s.groups };
-
-    ghost next_gives = { GivesPart I.next_gives };
-
-    ghost remaining = { λ s. I.remaining s.groups };
-
-    /// The next part, or `None` at the end of the block.
-    #[inline]
-    fn next(&mut self) -> Option<(bool, I::Item)> {
-        let part = self.groups.next()?;
-        let begins = self.begins;
-        self.begins = true;
-        Some((begins, part))
-    }
-
-    #[inline]
-    fn size_hint(&self) -> (usize, Option<usize>) {
-        self.groups.size_hint()
-    }
-}
-
-impl<I> Parts<I> {
-    /// The groups of a block as parts: for a caller who keeps by itself what tells whether the first goes on.
-    #[inline]
-    pub fn new(begins: bool, groups: I) -> Parts<I>
-        ensures begins { begins_of result ≡ begins }
-        ensures groups { groups_in result ≡ groups }
-    {
-        Parts { begins, groups }
-    }
-}
-
 impl<K> StreamGroups<K> {
     /// A stream of which no block has come yet.
     #[inline]
@@ -88,85 +44,6 @@ impl<K> StreamGroups<K> {
     {
         StreamGroups { kept: None }
     }
-}
-
-// The first element and the last.
-#[inline]
-fn ends<T>(block: &[T]) -> Option<(&T, &T)>
-    ensures { MatchOption result (block.now ≡ [])
-        (λ e. (first block.now ≡ Some e.0.now) × (last block.now ≡ Some e.1.now)) }
-{
-    Some((block.first()?, block.last()?))
-}
-
-// Asks the predicate.
-#[inline]
-fn ask<T, P: FnMut(&T, &T) -> bool>(predicate: &mut P, before: &T, first: &T) -> bool
-    requires { P.IsAlwaysCallable predicate.old }
-    ensures called { CalledAtTwo P.FnMut predicate.old before.now first.now result predicate.new }
-    ensures callable { P.IsAlwaysCallable predicate.new }
-    ensures is { (p : T → T → Bool) → ComputesOnPairs P.FnMut p predicate.old → result ≡ p before.now first.now }
-    ensures computes { (p : T → T → Bool) → ComputesOnPairs P.FnMut p predicate.old → ComputesOnPairs P.FnMut p predicate.new }
-{
-    predicate(before, first)
-}
-
-// Whether a group begins between the two: asks the predicate, if there are two.
-#[inline]
-fn begins_by<T: Copy, P: FnMut(&T, &T) -> bool>(predicate: &mut P, pair: Option<(T, T)>) -> bool
-    requires { P.IsAlwaysCallable predicate.old }
-    ensures asks { AsksAcross P.FnMut pair predicate.old result predicate.new }
-    ensures callable { P.IsAlwaysCallable predicate.new }
-    ensures begins { (p : T → T → Bool) → ComputesOnPairs P.FnMut p predicate.old → result ≡ begins_at p pair }
-    ensures computes { (p : T → T → Bool) → ComputesOnPairs P.FnMut p predicate.old → ComputesOnPairs P.FnMut p predicate.new }
-{
-    match pair {
-        Some(two) => !ask(predicate, &two.0, &two.1),
-        None => true,
-    }
-}
-
-// The groups of a block by a predicate.
-#[inline]
-fn groups_by<T, P: FnMut(&T, &T) -> bool>(block: &[T], predicate: P) -> LinearGroupBy<'_, T, P>
-    requires { P.IsAlwaysCallable predicate }
-    ensures remainder { (groups_of result).remainder ≡ block.now }
-    ensures judge { (groups_of result).judge.predicate ≡ predicate }
-    ensures callable { IsCallableBy AreNeighbours (by_predicate P.FnMut) (groups_of result) }
-    ensures computes { (p : T → T → Bool) → ComputesOnPairs P.FnMut p predicate
-        → ComputesBy AreNeighbours (by_predicate P.FnMut) (groups_of result) p }
-{
-    always_callable::<T, P>();
-    LinearGroupBy::new(block, predicate)
-}
-
-// The key of an element.
-#[inline]
-fn key_of<T, K, F: FnMut(&T) -> K>(key: &mut F, element: &T) -> K
-    requires { F.IsAlwaysCallable key.old }
-    ensures called { CalledAt F.FnMut key.old element.now result key.new }
-    ensures callable { F.IsAlwaysCallable key.new }
-    ensures is { (k : T → K) → ComputesKey F.FnMut k key.old → result ≡ k element.now }
-    ensures computes { (k : T → K) → ComputesKey F.FnMut k key.old → ComputesKey F.FnMut k key.new }
-{
-    key(element)
-}
-
-// The groups of a block by a key.
-#[inline]
-fn groups_by_key<'a, T, K: PartialEq + Drop, F: FnMut(&T) -> K>(
-    block: &'a [T],
-    key: F,
-) -> LinearGroupByKey<'a, T, F, K>
-    requires { F.IsAlwaysCallable key }
-    ensures remainder { (groups_of result).remainder ≡ block.now }
-    ensures judge { (groups_of result).judge.func ≡ key }
-    ensures callable { IsCallableBy AreNeighbours (by_key F.FnMut K.eq) (groups_of result) }
-    ensures computes { (k : T → K) → ComputesKey F.FnMut k key
-        → ComputesBy AreNeighbours (by_key F.FnMut K.eq) (groups_of result) (λ x y. K.eq (k x) (k y)) }
-{
-    always_callable_key::<T, F, K>();
-    LinearGroupByKey::new(block, key)
 }
 
 impl<T: Copy> StreamGroups<T> {
@@ -229,10 +106,7 @@ impl<T: Copy + PartialEq> StreamGroups<T> {
             Some((before, first)) => before == first,
             None => false,
         };
-        Parts {
-            begins: !goes_on,
-            groups: LinearGroup::new(block),
-        }
+        Parts::new(!goes_on, LinearGroup::new(block))
     }
 }
 
@@ -250,10 +124,7 @@ impl<T: Lanes + Copy> StreamGroups<T> {
             Some((before, first)) => before == first,
             None => false,
         };
-        Parts {
-            begins: !goes_on,
-            groups: LinearNumberGroup::new(block),
-        }
+        Parts::new(!goes_on, LinearNumberGroup::new(block))
     }
 }
 
@@ -275,10 +146,7 @@ impl StreamGroups<u8> {
             Some((before, first)) => C::class(before) == C::class(first),
             None => false,
         };
-        Parts {
-            begins: !goes_on,
-            groups: LinearClassGroup::new(block),
-        }
+        Parts::new(!goes_on, LinearClassGroup::new(block))
     }
 }
 

@@ -1,5 +1,5 @@
 use Rattle.sgb_stream_group.proofs.Ends.{first_at, last_at}
-use Rattle.sgb_stream_group.proofs.stream_group.ends.Goals as goal
+use Rattle.sgb_stream_group.proofs.asking.ends.Goals as goal
 
 pub returns : goal.returns
 returns g c = (
