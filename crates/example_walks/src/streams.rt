@@ -1,14 +1,14 @@
-//! Groups of a stream that comes in blocks.
-ghost use Rattle.std.specs.Prelude.{◌≡◌, ◌≢◌, ℕ, ◌+◌, ◌-◌, ◌^◌, List, [], ◌∷◌, ◌++◌, flat_map, length, map, min, nat_eq, IfOk, OnOk};
+//! Groups of streams that come in blocks, with the theorem that the blocks do not matter: a run-length code.
+ghost use Rattle.std.specs.Prelude.{◌≡◌, ◌≢◌, List, [], ◌++◌, ℕ, flat_map, map, nat_eq, IfOk, OnOk};
 ghost use Rattle.slice_group_by.specs.Split.{last, split};
-ghost use Rattle.slice_group_by.specs.Streams.{kept_of, onto_last, with_part};
-ghost use Rattle.example_walks.specs.Runs.{last_byte, run_of};
+ghost use Rattle.slice_group_by.specs.Streams.{add_part, kept_of};
+ghost use Rattle.example_walks.specs.Runs.{longer_run, run_of};
 
 use slice_group_by::StreamGroups;
-use slice_group_by::laws::parts_join;
+use slice_group_by::laws::{last_changes, parts_fold, parts_join};
 use std::alloc::{AllocError, Global};
 
-/// The runs of bytes that come in blocks, each as its byte and its length.
+/// The runs of bytes that come in blocks, each as its byte and its length: those of all bytes.
 pub fn runs_of_blocks(alloc: Global, blocks: &[&[u8]]) -> Result<Vec<(u8, usize)>, AllocError>
     ensures { IfOk result (λ runs. runs.items ≡ map run_of (split nat_eq (flat_map (λ block. block.now) blocks.now))) }
 {
@@ -32,52 +32,23 @@ fn add_block(
 {
     let parts = stream.number_parts(block);
     parts_join(&parts);
+    parts_fold::<_, (u8, usize)>(&parts);
     for (begins, part) in parts {
-        add_part(runs, begins, part)?;
+        add_run(runs, begins, part)?;
     }
     Ok(())
 }
 
 // Adds a part: a run more, or more of the last.
-fn add_part(runs: &mut Vec<(u8, usize)>, begins: bool, part: &[u8]) -> Result<(), AllocError>
+fn add_run(runs: &mut Vec<(u8, usize)>, begins: bool, part: &[u8]) -> Result<(), AllocError>
     requires { part.now ≢ [] }
-    ensures { OnOk result ((groups : List (List ℕ)) → runs.old.items ≡ map run_of groups
-        → runs.new.items ≡ map run_of (with_part groups (begins, part.now))) }
+    ensures { OnOk result (runs.new.items ≡ add_part run_of longer_run runs.old.items (begins, part.now)) }
 {
+    last_changes::<(u8, usize)>();
     if begins {
-        push_run(runs, 0, part)
-    } else {
-        let len = taken_len(runs);
-        push_run(runs, len, part)
+        runs.push((part[0], part.len()))?;
+    } else if let Some(run) = runs.last_mut() {
+        run.1 = run.1.saturating_add(part.len());
     }
-}
-
-// Takes the last run off, and gives its length, or 0 where there is none.
-fn taken_len(runs: &mut Vec<(u8, usize)>) -> usize
-    ensures { (groups : List (List ℕ)) (part : List ℕ) → part ≢ [] → runs.old.items ≡ map run_of groups
-        → runs.new.items ++ (last_byte part, min (result + length part) (2 ^ 64 - 1)) ∷ [] ≡ map run_of (onto_last groups part) }
-{
-    match runs.pop() {
-        Some((_, len)) => len,
-        None => 0,
-    }
-}
-
-// Pushes a run with a part, where it had a length before.
-fn push_run(runs: &mut Vec<(u8, usize)>, len: usize, part: &[u8]) -> Result<(), AllocError>
-    ensures { OnOk result (runs.new.items
-        ≡ runs.old.items ++ (last_byte part.now, min (len + length part.now) (2 ^ 64 - 1)) ∷ []) }
-{
-    runs.push((end_of(part), len.saturating_add(part.len())))?;
     Ok(())
-}
-
-// The last byte, or 0 where there is none.
-fn end_of(part: &[u8]) -> u8
-    ensures { result ≡ last_byte part.now }
-{
-    match part.last() {
-        Some(byte) => *byte,
-        None => 0,
-    }
 }

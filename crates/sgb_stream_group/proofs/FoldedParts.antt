@@ -1,6 +1,7 @@
 -- A fold over parts is a fold over the groups that they make.
-use Rattle.std.proofs.Common.{◌≡◌, ◌≢◌, ℕ, ◌+◌, Bool, true, false, cond, ◌&&◌, List, [], ◌∷◌, ◌++◌, map, refl, sym, ap, ◌∙◌, add_assoc, arith}
+use Rattle.std.proofs.Common.{◌≡◌, ◌≢◌, ℕ, zero, suc, ◌+◌, length, get_or, Bool, true, false, cond, ◌&&◌, List, [], ◌∷◌, ◌++◌, map, refl, sym, ap, ◌∙◌, add_assoc, arith}
 use Rattle.std.specs.List.{AllByRecursion, count_by, fold}
+use Rattle.std.proofs.Math.ListN.{set}
 use Rattle.std.proofs.lemmas.List.{map-append}
 use Rattle.std.proofs.lemmas.List.Sums.{sum_by-append}
 use Rattle.sgb_stream_group.specs.Streams.{add_part, change_last, with_part, with_parts}
@@ -55,3 +56,11 @@ module _ {A : Type 0} (q : List A → Bool) (stays : (g part : List A) → g ≢
   counted gs (x ∷ xs) h n =
       counted (with_part gs x) xs (still_some gs x.0 x.1 h n.0) n.1
       ∙ omega (arith, one_counted gs x.0 x.1 h, sum_by-append (λ (y : Bool × List A). cond (y.0 && q y.1) 1 0) (x ∷ []) xs)
+
+-- the last value, changed where it stands
+pub last_set : {V : Type 0} (h : V → V) (vs : List V) (i : ℕ) (v : V) → i + 1 ≡ length vs → v ≡ get_or vs i v → set vs i (h v) ≡ change_last h vs
+last_set h [] i v e is = absurd (omega arith)
+last_set h (w ∷ []) zero v e is = ap (λ x. h x ∷ []) is
+last_set h (w ∷ []) (suc i) v e is = absurd (omega arith)
+last_set h (w ∷ x ∷ xs) zero v e is = absurd (omega arith)
+last_set h (w ∷ x ∷ xs) (suc i) v e is = ap (λ l. w ∷ l) (last_set h (x ∷ xs) i v (omega arith) is)

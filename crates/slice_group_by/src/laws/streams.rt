@@ -1,6 +1,6 @@
 //! Laws of groups that go on over the blocks of a stream.
 ghost use Rattle.std.specs.Prelude.{◌≡◌, ◌≢◌, ℕ, ◌+◌, ◌-◌, ◌*◌, ◌<◌, Bool, true, false, ◌&&◌, List, [], ◌∷◌, ◌++◌, length, Option, None, Some};
-ghost use Rattle.std.specs.Prelude.{count_by, map, option_map};
+ghost use Rattle.std.specs.Prelude.{count_by, map, option_map, slice_index_or, slice_set};
 ghost use Rattle.std.specs.Borrow.{MutBor};
 ghost use Rattle.std.specs.Fn.{CalledAt};
 ghost use Rattle.std.specs.Iterator.{Drains, Yields};
@@ -9,8 +9,8 @@ ghost use Rattle.sgb_search.specs.Judges.{AsksWithin, IsRun};
 ghost use Rattle.sgb_search.specs.Split.{concat, last, neighbours, split};
 ghost use Rattle.sgb_search.specs.declared.end.End.TheVariants.{Front};
 ghost use Rattle.sgb_stream_group.specs.declared.parts.Parts.{Parts};
-ghost use Rattle.sgb_stream_group.specs.Streams.{AsksBlocks, AsksEnds, AsksPairs, GivesPart, across, add_part, as_parts, asked_pairs};
-ghost use Rattle.sgb_stream_group.specs.Streams.{begins_at, begins_of, groups_in, last_after, pair_list, with_part, with_parts};
+ghost use Rattle.sgb_stream_group.specs.Streams.{AsksBlocks, AsksEnds, AsksPairs, GivesPart, across, add_part, as_parts};
+ghost use Rattle.sgb_stream_group.specs.Streams.{asked_pairs, begins_at, begins_of, change_last, groups_in, last_after, pair_list, with_part, with_parts};
 ghost use Rattle.slice_group_by.specs.Counts.{RaisesJust};
 
 use crate::laws::judged::Judged;
@@ -52,17 +52,24 @@ pub fn parts_join<Q: GroupQueue>(_parts: &Parts<Q>)
 {}
 
 /// A fold over parts is a fold over groups. Of each group a value is kept, which `first` computes of its elements. If `more` computes from
-/// the value of a part of a group, and from the elements that follow, the value of both, then the values of the parts so far, made by
-/// `add_part`, are those of the groups of all elements so far.
+/// the value of a part of a group, and from the elements that follow, the value of both, then the values of the groups before, changed by
+/// `add_part` part by part, are those of the groups of all elements so far.
 pub fn parts_fold<Q: GroupQueue, V>(_parts: &Parts<Q>)
     ensures { (first : List Q.Element → V) (more : V → List Q.Element → V)
         → ((group part : List Q.Element) → group ≢ [] → part ≢ [] → more (first group) part ≡ first (group ++ part))
-        → (p : Q.Element → Q.Element → Bool) (before block : List Q.Element) (s : Parts Q) (parts : List (Bool × Q.Item))
+        → (p : Q.Element → Q.Element → Bool) (before block : List Q.Element) (values : List V) (s : Parts Q) (parts : List (Bool × Q.Item))
+        → values ≡ map first (split p before)
         → Q.is_settled (groups_in s) p → Q.remainder (groups_in s) ≡ block
         → begins_of s ≡ begins_at p (across (last before) block)
         → Drains (GivesPart (Q.gives Front)) s parts
-        → fold (λ values x. add_part first more values (x.0, Q.shows x.1)) (map first (split p before)) parts
-        ≡ map first (split p (before ++ block)) }
+        → fold (λ values x. add_part first more values (x.0, Q.shows x.1)) values parts ≡ map first (split p (before ++ block)) }
+{}
+
+/// What `add_part` makes of a part that goes on, where the last value stands in a vector and is changed there, as by `last_mut`.
+pub fn last_changes<V>()
+    ensures { (change : V → V) (values : List V) (place : ℕ) (value : V) → place + 1 ≡ length values
+        → value ≡ slice_index_or values place value
+        → slice_set values place (change value) ≡ change_last change values }
 {}
 
 /// What a stream by a key says of the keys is what `parts_join` takes of the elements.

@@ -1,0 +1,7 @@
+-- Words of a text of bytes.
+use Rattle.std.specs.Prelude.{ℕ, Bool, List, slice_index}
+use Rattle.std.specs.Char.{is_ascii_alphabetic}
+
+-- the group is one of letters, by its first byte
+abbrev pub is_word : List ℕ → Bool
+is_word group = is_ascii_alphabetic (slice_index group 0)
