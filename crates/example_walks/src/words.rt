@@ -1,16 +1,15 @@
 //! Words of bytes that come in blocks, counted.
 ghost use Rattle.std.specs.Prelude.{◌≡◌, ◌+◌, ◌-◌, ◌^◌, List, ◌++◌, ℕ, count_by, flat_map, min};
-ghost use Rattle.slice_group_by.specs.Counted.{same_class};
 ghost use Rattle.slice_group_by.specs.Split.{last, split};
 ghost use Rattle.slice_group_by.specs.Streams.{kept_of};
-ghost use Rattle.example_walks.specs.Words.{is_word};
+ghost use Rattle.example_walks.specs.Words.{are_letters, is_word};
 
+use slice_group_by::StreamGroups;
 use slice_group_by::laws::parts_join;
-use slice_group_by::{AsciiClasses, StreamGroups};
 
 /// How many words the blocks have together: how many pieces of letters all bytes have, at most the greatest number of 64 bits.
 pub fn count_words(blocks: &[&[u8]]) -> usize
-    ensures { result ≡ min (count_by is_word (split same_class (flat_map (λ block. block.now) blocks.now))) (2 ^ 64 - 1) }
+    ensures { result ≡ min (count_by is_word (split are_letters (flat_map (λ block. block.now) blocks.now))) (2 ^ 64 - 1) }
 {
     let mut stream = StreamGroups::new();
     let mut words = 0usize;
@@ -24,10 +23,12 @@ pub fn count_words(blocks: &[&[u8]]) -> usize
 fn count_begun(stream: &mut StreamGroups<u8>, block: &[u8]) -> usize
     ensures { (came : List ℕ) → kept_of stream.old ≡ last came
         → (kept_of stream.new ≡ last (came ++ block.now))
-        × (min (count_by is_word (split same_class (came ++ block.now))) (2 ^ 64 - 1)
-        ≡ min (count_by is_word (split same_class came) + result) (2 ^ 64 - 1)) }
+        × (min (count_by is_word (split are_letters (came ++ block.now))) (2 ^ 64 - 1)
+        ≡ min (count_by is_word (split are_letters came) + result) (2 ^ 64 - 1)) }
 {
-    let parts = stream.class_parts::<AsciiClasses>(block);
+    let parts = stream.parts_by(block, |a: &u8, b: &u8| {
+        a.is_ascii_alphabetic() && b.is_ascii_alphabetic()
+    });
     parts_join(&parts);
     let mut words = 0usize;
     for (begins, part) in parts {

@@ -1,93 +1,59 @@
 -- Lines of runs that are written one after another.
-use Rattle.std.proofs.Common.{◌≡◌, ℕ, ◌+◌, ◌<◌, nat_eq, Bool, true, false, List, [], ◌∷◌, ◌++◌, length, flat_map}
-use Rattle.std.proofs.Common.{Option, None, Some, refl, ap, sym, ◌∙◌, append-nil, subst, arith}
-use Rattle.std.specs.Prelude.{slice_index}
-use Rattle.std.proofs.lemmas.List.{length-append}
-use Rattle.std.proofs.lemmas.Grind.{flat_map-append}
+use Rattle.std.proofs.Common.{◌≡◌, ℕ, nat_eq, List, [], ◌∷◌, ◌++◌, length, flat_map, map, Option, None, Some, refl, ap, sym, ◌∙◌, append_assoc, append-nil, subst}
+use Rattle.std.specs.Prelude.{option_map, slice_index}
+use Rattle.std.proofs.lemmas.List.Folds.{flat_map-map}
 use Rattle.std.specs.Io.KnownBytes.{Appends}
 use Rattle.std.proofs.KnownBytes.{Appends-nil, Appends-trans}
-use Rattle.slice_group_by.specs.Split.{split}
-use Rattle.slice_group_by.specs.Streams.{onto_last, with_part}
-use Rattle.run_length_coder.specs.Coding.{line, coded, run_line, Written}
+use Rattle.slice_group_by.specs.Split.{last, split, without_last}
+use Rattle.slice_group_by.specs.Streams.{change_last}
+use Rattle.run_length_coder.specs.Coding.{coded, line, line_of, pair_of, run_line, run_of, Written}
 use Rattle.run_length_coder.specs.declared.runs.Run.{Run}
 
+pub Written-same : (a b : Option (List ℕ)) (runs others : List (ℕ × ℕ)) (last_run : Option Run) → runs ≡ others → Written a b runs last_run
+    → Written a b others last_run
+Written-same a b runs others last_run e w = subst (λ l. Written a b l last_run) e w
+
 pub Written-none : (a : Option (List ℕ)) → Written a a [] None
-Written-none a = record { closed = []; writes = Appends-nil a; are = (refl, refl) }
+Written-none a = record { writes = Appends-nil a; is = refl }
 
-pub Written-same : (a b : Option (List ℕ)) (groups others : List (List ℕ)) (run : Option Run) → groups ≡ others → Written a b groups run
-    → Written a b others run
-Written-same a b groups others run e w = subst (λ l. Written a b l run) e w
+-- a run more
+pushed : (runs : List (ℕ × ℕ)) (run : ℕ × ℕ) → (without_last (runs ++ run ∷ []) ≡ runs) × (last (runs ++ run ∷ []) ≡ Some run)
+pushed [] run = (refl, refl)
+pushed (r ∷ []) run = (refl, refl)
+pushed (r ∷ s ∷ rs) run = let h = pushed (s ∷ rs) run in (ap (λ l. r ∷ l) h.0, h.1)
 
-onto_open : (closed : List (List ℕ)) (g part : List ℕ) → onto_last (closed ++ g ∷ []) part ≡ closed ++ (g ++ part) ∷ []
-onto_open [] g part = refl
-onto_open (h ∷ []) g part = refl
-onto_open (h ∷ k ∷ ks) g part = ap (λ l. h ∷ l) (onto_open (k ∷ ks) g part)
+pub Written-begins : (a b : Option (List ℕ)) (runs : List (ℕ × ℕ)) (part : List ℕ) (next : Option Run) → Appends a b (flat_map run_line runs)
+    → pair_of next ≡ Some (run_of part) → Written a b (runs ++ run_of part ∷ []) next
+Written-begins a b runs part next w e = let h = pushed runs (run_of part) in record { writes = rw h.0 w; is = e ∙ sym h.1 }
 
-alone : (b : Bool) (part : List ℕ) → with_part [] (b, part) ≡ part ∷ []
-alone true part = refl
-alone false part = refl
+-- the last run changed
+changed : (h : ℕ × ℕ → ℕ × ℕ) (runs : List (ℕ × ℕ))
+    → (without_last (change_last h runs) ≡ without_last runs) × (last (change_last h runs) ≡ option_map h (last runs))
+changed h [] = (refl, refl)
+changed h (r ∷ []) = (refl, refl)
+changed h (r ∷ s ∷ []) = (refl, refl)
+changed h (r ∷ s ∷ t ∷ rs) = let k = changed h (s ∷ t ∷ rs) in (ap (λ l. r ∷ l) k.0, k.1)
 
-first_stays : (group part : List ℕ) → 0 < length group → slice_index (group ++ part) 0 ≡ slice_index group 0
-first_stays [] part h = absurd (omega arith)
-first_stays (x ∷ xs) part h = refl
+pub Written-goes_on : (a b : Option (List ℕ)) (runs : List (ℕ × ℕ)) (last_run next : Option Run) (h : ℕ × ℕ → ℕ × ℕ) → Written a b runs last_run
+    → pair_of next ≡ option_map h (pair_of last_run) → Written a b (change_last h runs) next
+Written-goes_on a b runs last_run next h w e =
+    let k = changed h runs in record { writes = rw k.0 w.writes; is = e ∙ ap (option_map h) w.is ∙ sym k.1 }
 
--- the first part of all
-pub Written-first : (a b : Option (List ℕ)) (groups : List (List ℕ)) (begins : Bool) (part : List ℕ) (run : Run) → Written a b groups None
-    → run.count ≡ length part → run.byte ≡ slice_index part 0 → Written a b (with_part groups (begins, part)) (Some run)
-Written-first a b groups begins part run w n x = record {
-  closed = w.closed;
-  writes = w.writes;
-  are =
-      (part, ap (λ l. with_part l (begins, part)) w.are.0 ∙ alone begins part ∙ ap (λ l. l ++ part ∷ []) (sym w.are.1), sym n, sym x);
-}
+-- all runs are written with the one that is open
+lines : (runs : List (ℕ × ℕ)) → flat_map run_line (without_last runs) ++ line_of (last runs) ≡ flat_map run_line runs
+lines [] = refl
+lines (r ∷ []) = sym (append-nil (run_line r))
+lines (r ∷ s ∷ rs) =
+    append_assoc (run_line r) (flat_map run_line (without_last (s ∷ rs))) (line_of (last (s ∷ rs)))
+    ∙ ap (λ l. run_line r ++ l) (lines (s ∷ rs))
 
--- the line of what is open
-open_line : (group : List ℕ) (run : Run) → length group ≡ run.count → slice_index group 0 ≡ run.byte → run_line run ≡ line group
-open_line group run n x = rw (n, x) refl
+pub Written-all : (a b c : Option (List ℕ)) (runs : List (ℕ × ℕ)) (last_run : Option Run) → Written a b runs last_run
+    → Appends b c (line_of (pair_of last_run)) → Appends a c (flat_map run_line runs)
+Written-all a b c runs last_run w more =
+    subst (Appends a c) (ap (λ o. flat_map run_line (without_last runs) ++ line_of o) w.is ∙ lines runs)
+    (Appends-trans a b c (flat_map run_line (without_last runs)) (line_of (pair_of last_run)) w.writes more)
 
-lines_more : (closed : List (List ℕ)) (group : List ℕ) → flat_map line closed ++ line group ≡ flat_map line (closed ++ group ∷ [])
-lines_more closed group =
-    ap (λ l. flat_map line closed ++ l) (sym (append-nil (line group))) ∙ sym (flat_map-append line closed (group ∷ []))
-
-writes_all : (a b c : Option (List ℕ)) (groups : List (List ℕ)) (run : Run) → Written a b groups (Some run) → Appends b c (run_line run)
-    → Appends a c (flat_map line groups)
-writes_all a b c groups run w more =
-    let (group, is, n, x) = w.are in
-    subst (Appends a c)
-    (ap (λ l. flat_map line w.closed ++ l) (open_line group run n x) ∙ lines_more w.closed group ∙ ap (flat_map line) (sym is))
-    (Appends-trans a b c (flat_map line w.closed) (run_line run) w.writes more)
-
--- a run begins with the part
-pub Written-begins : (a b c : Option (List ℕ)) (groups : List (List ℕ)) (part : List ℕ) (run next : Run) → Written a b groups (Some run)
-    → Appends b c (run_line run) → next.count ≡ length part → next.byte ≡ slice_index part 0
-    → Written a c (with_part groups (true, part)) (Some next)
-Written-begins a b c groups part run next w more n x = record {
-  closed = groups;
-  writes = writes_all a b c groups run w more;
-  are = (part, refl, sym n, sym x);
-}
-
--- or the open one goes on
-pub Written-goes_on : (a b : Option (List ℕ)) (groups : List (List ℕ)) (part : List ℕ) (run next : Run) → 0 < run.count
-    → Written a b groups (Some run) → next.count ≡ run.count + length part → next.byte ≡ run.byte
-    → Written a b (with_part groups (false, part)) (Some next)
-Written-goes_on a b groups part run next some w n x =
-    let (group, is, len, byte) = w.are in
-    record {
-      closed = w.closed;
-      writes = w.writes;
-      are = (
-        group ++ part,
-        ap (λ l. onto_last l part) is ∙ onto_open w.closed group part,
-        omega (arith, length-append group part, len, n),
-        first_stays group part (omega (arith, len, some)) ∙ byte ∙ sym x,
-      );
-    }
-
--- at the end all is coded once what is open is written
-pub coded_with_open : (a b c : Option (List ℕ)) (bytes : List ℕ) (run : Run) → Written a b (split nat_eq bytes) (Some run)
-    → Appends b c (run_line run) → Appends a c (coded bytes)
-coded_with_open a b c bytes run w more = writes_all a b c (split nat_eq bytes) run w more
-
-pub coded_with_none : (a b : Option (List ℕ)) (bytes : List ℕ) → Written a b (split nat_eq bytes) None → Appends a b (coded bytes)
-coded_with_none a b bytes w = subst (Appends a b) (ap (flat_map line) (w.are.1 ∙ sym w.are.0)) w.writes
+pub Written-coded : (a b c : Option (List ℕ)) (bytes : List ℕ) (last_run : Option Run) → Written a b (map run_of (split nat_eq bytes)) last_run
+    → Appends b c (line_of (pair_of last_run)) → Appends a c (coded bytes)
+Written-coded a b c bytes last_run w more =
+    subst (Appends a c) (flat_map-map run_line run_of (split nat_eq bytes)) (Written-all a b c (map run_of (split nat_eq bytes)) last_run w more)

@@ -1,7 +1,8 @@
 -- What is written of bytes: a line for each of their runs.
-use Rattle.std.specs.Prelude.{◌≡◌, ℕ, List, [], ◌∷◌, ◌++◌, length, flat_map, replicate, codes, decimal, nat_eq, slice_index, Option, None, Some}
+use Rattle.std.specs.Prelude.{◌≡◌, ℕ, ◌+◌, List, [], ◌∷◌, ◌++◌, length, flat_map, replicate, codes, decimal, nat_eq, slice_index}
+use Rattle.std.specs.Prelude.{Option, None, Some, option_map}
 use Rattle.std.specs.Io.KnownBytes.{Appends}
-use Rattle.slice_group_by.specs.Split.{split}
+use Rattle.slice_group_by.specs.Split.{last, split, without_last}
 use Rattle.run_length_coder.specs.declared.runs.Run.{Run}
 
 -- the bytes of a run
@@ -16,18 +17,25 @@ line group = decimal (length group) ++ codes " " ++ decimal (slice_index group 0
 abbrev pub coded : List ℕ → List ℕ
 coded bytes = flat_map line (split nat_eq bytes)
 
--- the line of a run
-abbrev pub run_line : Run → List ℕ
-run_line run = decimal run.count ++ codes " " ++ decimal run.byte ++ 10 ∷ []
+-- the byte of a group and its length, and both with a part more
+abbrev pub run_of : List ℕ → ℕ × ℕ
+run_of group = (slice_index group 0, length group)
 
--- the groups are those that are closed and the one that is open, if there is one: of this length, and beginning with this byte
-abbrev pub AreOpen : List (List ℕ) → List (List ℕ) → Option Run → Type 0
-AreOpen groups closed None = (groups ≡ []) × (closed ≡ [])
-AreOpen groups closed (Some run) =
-    (group : List ℕ) × (groups ≡ closed ++ group ∷ []) × (length group ≡ run.count) × (slice_index group 0 ≡ run.byte)
+abbrev pub longer_run : ℕ × ℕ → List ℕ → ℕ × ℕ
+longer_run run part = (run.0, run.1 + length part)
 
--- of the groups the lines of all are written but that of the open one
-pub record Written (before after : Option (List ℕ)) (groups : List (List ℕ)) (open_run : Option Run) : Type 0 where
-  pub closed : List (List ℕ)
-  pub writes : Appends before after (flat_map line closed)
-  pub are : AreOpen groups closed open_run
+-- the line of a run, and of the one that is open
+abbrev pub run_line : ℕ × ℕ → List ℕ
+run_line run = decimal run.1 ++ codes " " ++ decimal run.0 ++ 10 ∷ []
+
+abbrev pub line_of : Option (ℕ × ℕ) → List ℕ
+line_of None = []
+line_of (Some run) = run_line run
+
+abbrev pub pair_of : Option Run → Option (ℕ × ℕ)
+pair_of = option_map (λ run. (run.byte, run.count))
+
+-- of the runs the lines of all are written but that of the last, which is open
+pub record Written (before after : Option (List ℕ)) (runs : List (ℕ × ℕ)) (last_run : Option Run) : Type 0 where
+  pub writes : Appends before after (flat_map run_line (without_last runs))
+  pub is : pair_of last_run ≡ last runs

@@ -1,14 +1,14 @@
 //! Codes bytes as runs, block by block.
-ghost use Rattle.std.specs.Prelude.{◌≡◌, ◌≢◌, ℕ, ◌+◌, List, [], ◌++◌, length, slice_index, nat_eq, Option, IfOk, OnOk, IfSome};
+ghost use Rattle.std.specs.Prelude.{◌≡◌, ◌≢◌, ℕ, List, [], ◌++◌, map, nat_eq, Option, option_map, IfOk, OnOk, IfSome};
 ghost use Rattle.std.specs.Io.KnownBytes.{Appends};
 ghost use Rattle.slice_group_by.specs.Split.{last, split};
-ghost use Rattle.slice_group_by.specs.Streams.{kept_of, with_part};
-ghost use Rattle.run_length_coder.specs.Coding.{coded, run_line, Written};
+ghost use Rattle.slice_group_by.specs.Streams.{add_part, kept_of};
+ghost use Rattle.run_length_coder.specs.Coding.{coded, line_of, longer_run, pair_of, run_of, Written};
 
 use crate::runs::Run;
 use program_parts::blocks::{new_block, read_block};
 use slice_group_by::StreamGroups;
-use slice_group_by::laws::parts_join;
+use slice_group_by::laws::{parts_fold, parts_join};
 use std::alloc::Global;
 use std::io;
 use std::io::{Error, ErrorKind, Read, Write};
@@ -40,15 +40,15 @@ fn write_block<W: Write>(
     out: &mut W,
 ) -> io::Result<()>
     ensures { OnOk result ((start : Option (List ℕ)) (came : List ℕ) → kept_of stream.old ≡ last came
-        → Written start (W.contents out.old) (split nat_eq came) last_run.old
+        → Written start (W.contents out.old) (map run_of (split nat_eq came)) last_run.old
         → (kept_of stream.new ≡ last (came ++ block.now))
-        × Written start (W.contents out.new) (split nat_eq (came ++ block.now)) last_run.new) }
+        × Written start (W.contents out.new) (map run_of (split nat_eq (came ++ block.now))) last_run.new) }
 {
     let parts = stream.number_parts(block);
     parts_join(&parts);
+    parts_fold::<_, (u8, usize)>(&parts);
     for (begins, part) in parts {
-        let run = follow(*last_run, begins, part, out)?;
-        *last_run = Some(run);
+        *last_run = follow(*last_run, begins, part, out)?;
     }
     Ok(())
 }
@@ -59,62 +59,45 @@ fn follow<W: Write>(
     begins: bool,
     part: &[u8],
     out: &mut W,
-) -> io::Result<Run>
+) -> io::Result<Option<Run>>
     requires { part.now ≢ [] }
-    ensures { IfOk result (λ run. (start : Option (List ℕ)) (groups : List (List ℕ))
-        → Written start (W.contents out.old) groups last_run
-        → Written start (W.contents out.new) (with_part groups (begins, part.now)) (Some run)) }
+    ensures { IfOk result (λ next. (start : Option (List ℕ)) (runs : List (ℕ × ℕ))
+        → Written start (W.contents out.old) runs last_run
+        → Written start (W.contents out.new) (add_part run_of longer_run runs (begins, part.now)) next) }
 {
-    let Some(run) = last_run else {
-        return Ok(begun(part));
-    };
     if begins {
-        write_run(run, out)?;
-        return Ok(begun(part));
+        write_last(last_run, out)?;
+        return Ok(Some(Run {
+            byte: part[0],
+            count: part.len(),
+        }));
     }
-    let more = longer(run, part)?;
-    Ok(more)
-}
-
-/// A run of the bytes of a part.
-fn begun(part: &[u8]) -> Run
-    requires { part.now ≢ [] }
-    ensures count { result.count ≡ length part.now }
-    ensures byte { result.byte ≡ slice_index part.now 0 }
-{
-    Run {
-        byte: part[0],
-        count: part.len(),
-    }
+    let next = longer(last_run, part)?;
+    Ok(next)
 }
 
 /// The run with a part more.
-fn longer(run: Run, part: &[u8]) -> io::Result<Run>
-    ensures { IfOk result (λ more. (more.count ≡ run.count + length part.now) × (more.byte ≡ run.byte)) }
+fn longer(last_run: Option<Run>, part: &[u8]) -> io::Result<Option<Run>>
+    ensures { IfOk result (λ next. pair_of next ≡ option_map (λ run. longer_run run part.now) (pair_of last_run)) }
 {
+    let Some(run) = last_run else {
+        return Ok(None);
+    };
     let Some(count) = run.count.checked_add(part.len()) else {
         return Err(Error::new(ErrorKind::InvalidData, "a run is too long to be counted"));
     };
-    Ok(Run {
+    Ok(Some(Run {
         byte: run.byte,
         count,
-    })
+    }))
 }
 
-/// Writes the line of the run that is open at the end of the input, if there is one.
+/// Writes the line of the run that is open, if there is one.
 fn write_last<W: Write>(last_run: Option<Run>, out: &mut W) -> io::Result<()>
-    ensures { OnOk result ((start : Option (List ℕ)) (bytes : List ℕ)
-        → Written start (W.contents out.old) (split nat_eq bytes) last_run → Appends start (W.contents out.new) (coded bytes)) }
+    ensures { OnOk result (Appends (W.contents out.old) (W.contents out.new) (line_of (pair_of last_run))) }
 {
     match last_run {
-        Some(run) => write_run(run, out),
+        Some(run) => writeln!(out, "{} {}", run.count, run.byte),
         None => Ok(()),
     }
-}
-
-/// Writes the line of a run.
-fn write_run<W: Write>(run: Run, out: &mut W) -> io::Result<()>
-    ensures { OnOk result (Appends (W.contents out.old) (W.contents out.new) (run_line run)) }
-{
-    writeln!(out, "{} {}", run.count, run.byte)
 }

@@ -4,6 +4,7 @@ use Rattle.std.proofs.lemmas.Result.{on_ok_weaker}
 use Rattle.std.specs.Io.KnownBytes.{Appends}
 use Rattle.std.proofs.KnownBytes.{Consumes-trans, Consumes-whole}
 use Rattle.run_length_coder.specs.Coding.{coded}
+use Rattle.run_length_coder.proofs.CodedRuns.{Written-coded}
 use Rattle.run_length_coder.proofs.encoder.encode.Goals as goal
 
 pub loop-preserved : goal.loop-preserved
@@ -22,5 +23,5 @@ returns-then-len-eq0 g c =
     (λ written. Consumes-whole _ _ bytes
     (λ l. Appends (g.W.Write.contents c.args.out.now) (g.W.Write.contents c.write_last.new.out) (coded l))
     (rw append-nil at (Consumes-trans _ _ _ bytes [] read (rw none at block))) (end none (omega (arith, room)))
-    (written _ bytes so_far))
+    (Written-coded _ _ _ bytes _ so_far written))
     c.write_last.ensures
