@@ -1,19 +1,15 @@
 //! Tokens of an input of any size.
-use slice_group_by::{AsciiClass, AsciiClasses, ByteClasses, StreamGroups};
+use slice_group_by::{AsciiClasses, StreamGroups};
 use std::io;
 use std::io::Read;
 
-/// Prints each word and number of an input, whole, also one that goes on over several blocks. In memory stand one block and one
-/// token.
-pub fn print_tokens<R: Read>(
-    rt: &(impl Print + AllocGlobal),
-    input: &mut R,
-    block: &mut [u8],
-) -> io::Result<()> {
+/// Prints each token of an input, whole, also one that goes on over several blocks: words, numbers and marks, each on a line. In memory
+/// stand one block and one token.
+pub fn print_tokens<R: Read>(rt: &(impl Print + AllocGlobal), input: &mut R) -> io::Result<()> {
     let mut stream = StreamGroups::new();
-    let mut token = Vec::new(rt.alloc());
+    let (mut block, mut token) = ([0; 4096], Vec::new(rt.alloc()));
     for _ in 0..u64::MAX {
-        let len = input.read(block)?;
+        let len = input.read(&mut block)?;
         if len == 0 {
             break;
         }
@@ -28,20 +24,18 @@ pub fn print_tokens<R: Read>(
     print_token(rt, &token)
 }
 
-// A token, by the class of its first byte.
+// A token, but for white space.
 fn print_token(rt: &impl Print, token: &[u8]) -> io::Result<()> {
-    let (Some(first), Ok(text)) = (token.first(), str::from_utf8(token)) else {
-        return Ok(());
-    };
-    match AsciiClasses::class(*first) {
-        AsciiClass::Letter => println!(rt; "word {text}"),
-        AsciiClass::Digit => println!(rt; "number {text}"),
-        AsciiClass::Space | AsciiClass::Other => Ok(()),
+    match str::from_utf8(token) {
+        Ok(text) if !text.trim().is_empty() => println!(rt; "token {text}"),
+        _ => Ok(()),
     }
 }
 
 /// Prints what these give.
 pub fn print_all(rt: &(impl Print + AllocGlobal)) -> io::Result<()> {
-    let mut input: &[u8] = b"port 8080;";
-    print_tokens(rt, &mut input, &mut [0; 3])
+    let first: &[u8] = b"po";
+    let second: &[u8] = b"rt 80";
+    let third: &[u8] = b"80;";
+    print_tokens(rt, &mut first.chain(second).chain(third))
 }
