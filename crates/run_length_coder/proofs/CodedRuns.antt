@@ -6,14 +6,13 @@ use Rattle.std.specs.Io.KnownBytes.{Appends}
 use Rattle.std.proofs.KnownBytes.{Appends-nil, Appends-trans}
 use Rattle.slice_group_by.specs.Split.{last, split, without_last}
 use Rattle.slice_group_by.specs.Streams.{change_last}
-use Rattle.run_length_coder.specs.Coding.{coded, line, line_of, pair_of, run_line, run_of, Written}
-use Rattle.run_length_coder.specs.declared.runs.Run.{Run}
+use Rattle.run_length_coder.specs.Coding.{coded, line, line_of, run_if, run_line, run_of, Written}
 
-pub Written-same : (a b : Option (List ℕ)) (runs others : List (ℕ × ℕ)) (last_run : Option Run) → runs ≡ others → Written a b runs last_run
-    → Written a b others last_run
-Written-same a b runs others last_run e w = subst (λ l. Written a b l last_run) e w
+pub Written-same : (a b : Option (List ℕ)) (runs others : List (ℕ × ℕ)) (byte count : ℕ) → runs ≡ others
+    → Written a b runs byte count → Written a b others byte count
+Written-same a b runs others byte count e w = subst (λ l. Written a b l byte count) e w
 
-pub Written-none : (a : Option (List ℕ)) → Written a a [] None
+pub Written-none : (a : Option (List ℕ)) → Written a a [] 0 0
 Written-none a = record { writes = Appends-nil a; is = refl }
 
 -- a run more
@@ -22,9 +21,9 @@ pushed [] run = (refl, refl)
 pushed (r ∷ []) run = (refl, refl)
 pushed (r ∷ s ∷ rs) run = let h = pushed (s ∷ rs) run in (ap (λ l. r ∷ l) h.0, h.1)
 
-pub Written-begins : (a b : Option (List ℕ)) (runs : List (ℕ × ℕ)) (part : List ℕ) (next : Option Run) → Appends a b (flat_map run_line runs)
-    → pair_of next ≡ Some (run_of part) → Written a b (runs ++ run_of part ∷ []) next
-Written-begins a b runs part next w e = let h = pushed runs (run_of part) in record { writes = rw h.0 w; is = e ∙ sym h.1 }
+pub Written-begins : (a b : Option (List ℕ)) (runs : List (ℕ × ℕ)) (part : List ℕ) (byte count : ℕ) → Appends a b (flat_map run_line runs)
+    → run_if byte count ≡ Some (run_of part) → Written a b (runs ++ run_of part ∷ []) byte count
+Written-begins a b runs part byte count w e = let h = pushed runs (run_of part) in record { writes = rw h.0 w; is = e ∙ sym h.1 }
 
 -- the last run changed
 changed : (h : ℕ × ℕ → ℕ × ℕ) (runs : List (ℕ × ℕ))
@@ -34,9 +33,9 @@ changed h (r ∷ []) = (refl, refl)
 changed h (r ∷ s ∷ []) = (refl, refl)
 changed h (r ∷ s ∷ t ∷ rs) = let k = changed h (s ∷ t ∷ rs) in (ap (λ l. r ∷ l) k.0, k.1)
 
-pub Written-goes_on : (a b : Option (List ℕ)) (runs : List (ℕ × ℕ)) (last_run next : Option Run) (h : ℕ × ℕ → ℕ × ℕ) → Written a b runs last_run
-    → pair_of next ≡ option_map h (pair_of last_run) → Written a b (change_last h runs) next
-Written-goes_on a b runs last_run next h w e =
+pub Written-goes_on : (a b : Option (List ℕ)) (runs : List (ℕ × ℕ)) (byte count more : ℕ) (h : ℕ × ℕ → ℕ × ℕ)
+    → Written a b runs byte count → run_if byte more ≡ option_map h (run_if byte count) → Written a b (change_last h runs) byte more
+Written-goes_on a b runs byte count more h w e =
     let k = changed h runs in record { writes = rw k.0 w.writes; is = e ∙ ap (option_map h) w.is ∙ sym k.1 }
 
 -- all runs are written with the one that is open
@@ -47,13 +46,14 @@ lines (r ∷ s ∷ rs) =
     append_assoc (run_line r) (flat_map run_line (without_last (s ∷ rs))) (line_of (last (s ∷ rs)))
     ∙ ap (λ l. run_line r ++ l) (lines (s ∷ rs))
 
-pub Written-all : (a b c : Option (List ℕ)) (runs : List (ℕ × ℕ)) (last_run : Option Run) → Written a b runs last_run
-    → Appends b c (line_of (pair_of last_run)) → Appends a c (flat_map run_line runs)
-Written-all a b c runs last_run w more =
+pub Written-all : (a b c : Option (List ℕ)) (runs : List (ℕ × ℕ)) (byte count : ℕ) → Written a b runs byte count
+    → Appends b c (line_of (run_if byte count)) → Appends a c (flat_map run_line runs)
+Written-all a b c runs byte count w more =
     subst (Appends a c) (ap (λ o. flat_map run_line (without_last runs) ++ line_of o) w.is ∙ lines runs)
-    (Appends-trans a b c (flat_map run_line (without_last runs)) (line_of (pair_of last_run)) w.writes more)
+    (Appends-trans a b c (flat_map run_line (without_last runs)) (line_of (run_if byte count)) w.writes more)
 
-pub Written-coded : (a b c : Option (List ℕ)) (bytes : List ℕ) (last_run : Option Run) → Written a b (map run_of (split nat_eq bytes)) last_run
-    → Appends b c (line_of (pair_of last_run)) → Appends a c (coded bytes)
-Written-coded a b c bytes last_run w more =
-    subst (Appends a c) (flat_map-map run_line run_of (split nat_eq bytes)) (Written-all a b c (map run_of (split nat_eq bytes)) last_run w more)
+pub Written-coded : (a b c : Option (List ℕ)) (bytes : List ℕ) (byte count : ℕ) → Written a b (map run_of (split nat_eq bytes)) byte count
+    → Appends b c (line_of (run_if byte count)) → Appends a c (coded bytes)
+Written-coded a b c bytes byte count w more =
+    subst (Appends a c) (flat_map-map run_line run_of (split nat_eq bytes))
+    (Written-all a b c (map run_of (split nat_eq bytes)) byte count w more)

@@ -1,6 +1,6 @@
 -- What is written of bytes: a line for each of their runs.
 use Rattle.std.specs.Prelude.{◌≡◌, ℕ, ◌+◌, List, [], ◌∷◌, ◌++◌, length, flat_map, replicate, codes, decimal, nat_eq, slice_index}
-use Rattle.std.specs.Prelude.{Option, None, Some, option_map}
+use Rattle.std.specs.Prelude.{Option, None, Some, cond}
 use Rattle.std.specs.Io.KnownBytes.{Appends}
 use Rattle.slice_group_by.specs.Split.{last, split, without_last}
 use Rattle.run_length_coder.specs.declared.runs.Run.{Run}
@@ -32,10 +32,11 @@ abbrev pub line_of : Option (ℕ × ℕ) → List ℕ
 line_of None = []
 line_of (Some run) = run_line run
 
-abbrev pub pair_of : Option Run → Option (ℕ × ℕ)
-pair_of = option_map (λ run. (run.byte, run.count))
+-- the run that is open, where the count is not 0
+abbrev pub run_if : ℕ → ℕ → Option (ℕ × ℕ)
+run_if byte count = cond (nat_eq count 0) None (Some (byte, count))
 
 -- of the runs the lines of all are written but that of the last, which is open
-pub record Written (before after : Option (List ℕ)) (runs : List (ℕ × ℕ)) (last_run : Option Run) : Type 0 where
+pub record Written (before after : Option (List ℕ)) (runs : List (ℕ × ℕ)) (byte count : ℕ) : Type 0 where
   pub writes : Appends before after (flat_map run_line (without_last runs))
-  pub is : pair_of last_run ≡ last runs
+  pub is : run_if byte count ≡ last runs

@@ -1,11 +1,10 @@
 //! Codes bytes as runs, block by block.
-ghost use Rattle.std.specs.Prelude.{◌≡◌, ◌≢◌, ℕ, List, [], ◌++◌, map, nat_eq, Option, option_map, IfOk, OnOk, IfSome};
+ghost use Rattle.std.specs.Prelude.{◌≡◌, ℕ, List, ◌++◌, map, nat_eq, Option, option_map, IfOk, OnOk, IfSome};
 ghost use Rattle.std.specs.Io.KnownBytes.{Appends};
 ghost use Rattle.slice_group_by.specs.Split.{last, split};
-ghost use Rattle.slice_group_by.specs.Streams.{add_part, kept_of};
-ghost use Rattle.run_length_coder.specs.Coding.{coded, line_of, longer_run, pair_of, run_of, Written};
+ghost use Rattle.slice_group_by.specs.Streams.{kept_of};
+ghost use Rattle.run_length_coder.specs.Coding.{coded, line_of, longer_run, run_if, run_of, Written};
 
-use crate::runs::Run;
 use program_parts::blocks::{new_block, read_block};
 use slice_group_by::StreamGroups;
 use slice_group_by::laws::{parts_fold, parts_join};
@@ -21,83 +20,64 @@ pub fn encode<R: Read, W: Write>(alloc: Global, input: &mut R, out: &mut W) -> i
 {
     let mut block = new_block(alloc)?;
     let mut stream = StreamGroups::new();
-    let mut last_run = None;
+    let (mut byte, mut count) = (0u8, 0usize);
     for _ in 0..u64::MAX {
         let len = read_block(input, &mut block)?;
         if len == 0 {
-            return write_last(last_run, out);
+            return write_run(byte, count, out);
         }
-        write_block(&mut stream, &mut last_run, &block[..len], out)?;
+        (byte, count) = write_block(&mut stream, byte, count, &block[..len], out)?;
     }
     Err(Error::new(ErrorKind::InvalidData, "the input does not end"))
 }
 
-/// Writes the lines of the runs that end in the block.
+/// Writes the lines of the runs that end in the block, and gives the one that is open behind it. There is none where the count is 0.
 fn write_block<W: Write>(
     stream: &mut StreamGroups<u8>,
-    last_run: &mut Option<Run>,
+    mut byte: u8,
+    mut count: usize,
     block: &[u8],
     out: &mut W,
-) -> io::Result<()>
-    ensures { OnOk result ((start : Option (List ℕ)) (came : List ℕ) → kept_of stream.old ≡ last came
-        → Written start (W.contents out.old) (map run_of (split nat_eq came)) last_run.old
+) -> io::Result<(u8, usize)>
+    ensures { IfOk result (λ next. (start : Option (List ℕ)) (came : List ℕ) → kept_of stream.old ≡ last came
+        → Written start (W.contents out.old) (map run_of (split nat_eq came)) byte count
         → (kept_of stream.new ≡ last (came ++ block.now))
-        × Written start (W.contents out.new) (map run_of (split nat_eq (came ++ block.now))) last_run.new) }
+        × Written start (W.contents out.new) (map run_of (split nat_eq (came ++ block.now))) next.0 next.1) }
 {
     let parts = stream.number_parts(block);
     parts_join(&parts);
     parts_fold::<_, (u8, usize)>(&parts);
     for (begins, part) in parts {
-        *last_run = follow(*last_run, begins, part, out)?;
+        if begins {
+            write_run(byte, count, out)?;
+            byte = part[0];
+            count = part.len();
+        } else {
+            count = longer(count, part)?;
+        }
     }
-    Ok(())
+    Ok((byte, count))
 }
 
-/// The run that is open behind a part more. Where a run begins with the part, the line of the one that was open is written.
-fn follow<W: Write>(
-    last_run: Option<Run>,
-    begins: bool,
-    part: &[u8],
-    out: &mut W,
-) -> io::Result<Option<Run>>
-    requires { part.now ≢ [] }
-    ensures { IfOk result (λ next. (start : Option (List ℕ)) (runs : List (ℕ × ℕ))
-        → Written start (W.contents out.old) runs last_run
-        → Written start (W.contents out.new) (add_part run_of longer_run runs (begins, part.now)) next) }
+/// The count of the run that is open, if there is one, with a part more.
+fn longer(count: usize, part: &[u8]) -> io::Result<usize>
+    ensures { IfOk result (λ more. (byte : ℕ) → run_if byte more ≡ option_map (λ run. longer_run run part.now) (run_if byte count)) }
 {
-    if begins {
-        write_last(last_run, out)?;
-        return Ok(Some(Run {
-            byte: part[0],
-            count: part.len(),
-        }));
+    if count == 0 {
+        return Ok(0);
     }
-    let next = longer(last_run, part)?;
-    Ok(next)
-}
-
-/// The run with a part more.
-fn longer(last_run: Option<Run>, part: &[u8]) -> io::Result<Option<Run>>
-    ensures { IfOk result (λ next. pair_of next ≡ option_map (λ run. longer_run run part.now) (pair_of last_run)) }
-{
-    let Some(run) = last_run else {
-        return Ok(None);
-    };
-    let Some(count) = run.count.checked_add(part.len()) else {
+    let Some(more) = count.checked_add(part.len()) else {
         return Err(Error::new(ErrorKind::InvalidData, "a run is too long to be counted"));
     };
-    Ok(Some(Run {
-        byte: run.byte,
-        count,
-    }))
+    Ok(more)
 }
 
 /// Writes the line of the run that is open, if there is one.
-fn write_last<W: Write>(last_run: Option<Run>, out: &mut W) -> io::Result<()>
-    ensures { OnOk result (Appends (W.contents out.old) (W.contents out.new) (line_of (pair_of last_run))) }
+fn write_run<W: Write>(byte: u8, count: usize, out: &mut W) -> io::Result<()>
+    ensures { OnOk result (Appends (W.contents out.old) (W.contents out.new) (line_of (run_if byte count))) }
 {
-    match last_run {
-        Some(run) => writeln!(out, "{} {}", run.count, run.byte),
-        None => Ok(()),
+    if count == 0 {
+        return Ok(());
     }
+    writeln!(out, "{count} {byte}")
 }
