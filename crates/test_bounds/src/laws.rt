@@ -21,6 +21,7 @@ pub fn of_lists<T, U>() {
     equal_pieces_are_copies::<T>();
     pieces_add_up::<T>();
     parts_begin_by_keys::<T, U>();
+    last_changes::<T>();
     merge_is_unique::<T, U>();
     semi_joins_are_filters::<T, U>();
     joins_find_partners::<T, U>();
@@ -119,8 +120,10 @@ pub fn of_streams<T, P: FnMut(&T, &T) -> bool, Q: GroupQueue>(
     linear: &Parts<LinearGroupBy<'_, T, P>>,
 ) {
     parts_join(parts);
+    parts_fold::<_, T>(parts);
     streams_ask(parts);
     parts_ask(linear);
+    streams_count(linear);
 }
 
 pub fn of_chunks<T, P: FnMut(&T, &T) -> bool, Q: GroupQueue<Element = T>>(

@@ -48,11 +48,45 @@ pub fn by_lent_closure(blocks: &[&[u8]]) -> usize {
     groups
 }
 
-pub fn by_copied_predicate<T: Copy, P: Fn(&T, &T) -> bool + Copy>(predicate: P, blocks: &[&[T]])
-    requires { P.IsAlwaysCallable predicate }
+pub fn by_handed_predicate<T: Copy, P: FnMut(&T, &T) -> bool>(
+    mut predicate: P,
+    blocks: &[&[T]],
+) -> usize
+    requires { (state : P) → P.IsAlwaysCallable state }
+{
+    let mut stream = StreamGroups::new();
+    let mut groups = 0usize;
+    for block in blocks {
+        let mut parts = stream.parts_by(block, predicate);
+        for (begins, _) in parts.by_ref() {
+            if begins {
+                groups = groups.saturating_add(1);
+            }
+        }
+        predicate = parts.into_predicate();
+    }
+    groups
+}
+
+pub fn by_handed_key<T, F: FnMut(&T) -> K, K: PartialEq + Drop>(mut key: F, blocks: &[&[T]])
+    requires { (state : F) → F.IsAlwaysCallable state }
 {
     let mut stream = StreamGroups::new();
     for block in blocks {
-        let _ = stream.parts_by(block, predicate).next();
+        let mut parts = stream.parts_by_key(block, key);
+        let _ = parts.next();
+        key = parts.into_key();
     }
+}
+
+pub fn by_counting_closure(blocks: &[&[u8]]) -> (usize, usize) {
+    let mut count = 0usize;
+    let groups = by_handed_predicate(
+        |a: &u8, b: &u8| {
+            count = count.saturating_add(1);
+            a == b
+        },
+        blocks,
+    );
+    (groups, count)
 }
