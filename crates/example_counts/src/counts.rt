@@ -1,5 +1,5 @@
 //! Calls of closures that they count in a variable of their caller's: what a walk over groups costs.
-ghost use Rattle.std.specs.Prelude.{◌≡◌, ◌+◌, ◌-◌, ◌*◌, ◌^◌, ◌≤◌, ℕ, List, ◌++◌, flat_map, length, map, option_map, nat_eq, MatchOption};
+ghost use Rattle.std.specs.Prelude.{◌≡◌, ◌+◌, ◌-◌, ◌*◌, ◌^◌, ◌<◌, ◌≤◌, ℕ, List, ◌++◌, flat_map, length, map, option_map, nat_eq, MatchOption};
 ghost use Rattle.slice_group_by.specs.Queue.{pops};
 ghost use Rattle.slice_group_by.specs.Searching.{digits};
 ghost use Rattle.slice_group_by.specs.Split.{IsGrouped, last, split};
@@ -7,7 +7,7 @@ ghost use Rattle.slice_group_by.specs.Streams.{kept_of};
 
 use slice_group_by::laws::{
     calls_ask, join_counts, linear_counts, mapped_calls_ask, merges_ask, parts_join,
-    questions_count, search_asks, streams_count,
+    questions_count, search_asks, streams_count, streams_count_keys,
 };
 use slice_group_by::{
     BinaryGroupBy, End, ExponentialGroupBy, LinearGroupBy, MergeJoinBy, StreamGroups, walk,
@@ -133,6 +133,33 @@ fn with_questions(stream: &mut StreamGroups<u32>, block: &[u32], mut count: usiz
     });
     parts_join(&parts);
     streams_count(&parts);
+    for _ in parts {}
+    count
+}
+
+/// How often the key function of a stream is called: twice on each element of all blocks.
+pub fn stream_key_calls(blocks: &[&[u32]]) -> usize
+    ensures { 2 * length (flat_map (λ block. block.now) blocks.now) < 2 ^ 64
+        → result ≡ 2 * length (flat_map (λ block. block.now) blocks.now) }
+{
+    let mut stream = StreamGroups::new();
+    let mut count = 0usize;
+    for block in blocks {
+        count = with_key_calls(&mut stream, block, count);
+    }
+    count
+}
+
+// The count with the calls for a block more.
+fn with_key_calls(stream: &mut StreamGroups<u32>, block: &[u32], mut count: usize) -> usize
+    ensures { (came : List ℕ) → (2 * length came < 2 ^ 64 → count ≡ 2 * length came)
+        → 2 * length (came ++ block.now) < 2 ^ 64 → result ≡ 2 * length (came ++ block.now) }
+{
+    let parts = stream.parts_by_key(block, |x: &u32| {
+        count = count.wrapping_add(1);
+        *x / 10
+    });
+    streams_count_keys(&parts);
     for _ in parts {}
     count
 }

@@ -2,7 +2,7 @@
 use slice_group_by::laws::*;
 use slice_group_by::{
     BinaryGroupBy, DedupWithCount, ExponentialGroupByKeyMut, GroupQueue, Keyed, LinearGroupBy,
-    LinearStrGroupByKeyMut, MergeJoin, MergeJoinBy, Offsets, Parts, RemainderLen, SliceQueue,
+    LinearGroupByKey, LinearStrGroupByKeyMut, MergeJoin, MergeJoinBy, Offsets, Parts, RemainderLen, SliceQueue,
     WithKeys, WithOffsets,
 };
 use std::cmp::Ordering;
@@ -115,15 +115,17 @@ pub fn of_counts<'a, T: 'a, Q: RemainderLen + SliceQueue<'a, T>>(
     sees_counts(groups);
 }
 
-pub fn of_streams<T, P: FnMut(&T, &T) -> bool, Q: GroupQueue>(
+pub fn of_streams<T, P: FnMut(&T, &T) -> bool, F: FnMut(&T) -> K, K: PartialEq + Drop, Q: GroupQueue>(
     parts: &Parts<Q>,
     linear: &Parts<LinearGroupBy<'_, T, P>>,
+    by_key: &Parts<LinearGroupByKey<'_, T, F, K>>,
 ) {
     parts_join(parts);
     parts_fold::<_, T>(parts);
     streams_ask(parts);
     parts_ask(linear);
     streams_count(linear);
+    streams_count_keys(by_key);
 }
 
 pub fn of_chunks<T, P: FnMut(&T, &T) -> bool, Q: GroupQueue<Element = T>>(

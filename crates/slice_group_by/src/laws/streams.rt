@@ -117,3 +117,22 @@ pub fn streams_count<T, J: Judge<T>, S: Judged<T, J, Linear>>(_parts: &Parts<S>)
         × (each * (length (before ++ block) - 1) < limit
         → (counter (S.groups (groups_in t)).judge).now ≡ each * (length (before ++ block) - 1)) }
 {}
+
+/// The same of a key function: a block of m elements calls it 2 * m times, so all blocks call it twice on each element. `f` is the
+/// function that is passed, and `g` that of the parts, which `parts_by_key` ensures.
+pub fn streams_count_keys<
+    T,
+    K: PartialEq + Drop,
+    F: FnMut(&T) -> K,
+    S: Judged<T, KeyJudge<F, K>, Linear>,
+>(_parts: &Parts<S>)
+    ensures { (counter : F → MutBor ℕ) (each limit : ℕ)
+        → RaisesJust (CalledAt F.FnMut) (λ f. (counter f).now) (λ f. (counter f).ghost_name) each limit
+        → (elements : ℕ) (block : List T) (f : F) (s t : Parts S) (parts : List (Bool × S.Item))
+        → AsksEnds F.FnMut block f (S.groups (groups_in s)).judge.func → (S.groups (groups_in s)).remainder ≡ block
+        → Yields (GivesPart (S.GroupQueue.gives Front)) s parts t → (S.groups (groups_in t)).remainder ≡ []
+        → (each * (2 * elements) < limit → (counter f).now ≡ each * (2 * elements))
+        → ((counter (S.groups (groups_in t)).judge.func).ghost_name ≡ (counter f).ghost_name)
+        × (each * (2 * (elements + length block)) < limit
+        → (counter (S.groups (groups_in t)).judge.func).now ≡ each * (2 * (elements + length block))) }
+{}
