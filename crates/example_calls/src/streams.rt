@@ -2,8 +2,8 @@
 use slice_group_by::{LinearGroupByKey, Parts, StreamGroups};
 use std::io;
 
-/// Prints how many events each session has, and when the last one was. Events of a session follow within half a minute, and a
-/// session may go on over several blocks.
+/// Prints how many events each session has, and when the last one was. Events of a session follow within half a minute,
+/// and a session may go on over several blocks.
 pub fn print_sessions(rt: &impl Print, blocks: &[&[u64]]) -> io::Result<()> {
     let mut stream = StreamGroups::new();
     let (mut len, mut last) = (0usize, 0u64);
@@ -28,8 +28,8 @@ fn print_session(rt: &impl Print, len: usize, last: u64) -> io::Result<()> {
     println!(rt; "session: {len} up to {last}")
 }
 
-/// Prints the sum of each key of lines `key,value`, in which equal keys stand side by side. A line borrows from its block, so the key of
-/// the open sum is a `String` of its own.
+/// Prints the sum of each key of lines `key,value`, in which equal keys stand side by side. A line borrows from its
+/// block, so the key of the open sum is a `String` of its own.
 pub fn print_sums(rt: &(impl Print + AllocGlobal), blocks: &[&str]) -> io::Result<()> {
     let (mut key, mut sum) = (String::new(rt.alloc()), 0u64);
     for block in blocks {

@@ -1,5 +1,6 @@
 //! Calls of closures that they count in a variable of their caller's: what a walk over groups costs.
-ghost use Rattle.std.specs.Prelude.{◌≡◌, ◌+◌, ◌-◌, ◌*◌, ◌^◌, ◌<◌, ◌≤◌, ℕ, List, ◌++◌, flat_map, length, map, option_map, nat_eq, MatchOption};
+ghost use Rattle.std.specs.Prelude.{◌≡◌, ◌+◌, ◌-◌, ◌*◌, ◌^◌, ◌<◌, ◌≤◌, ℕ, List, ◌++◌, flat_map, length, map};
+ghost use Rattle.std.specs.Prelude.{option_map, nat_eq, MatchOption};
 ghost use Rattle.slice_group_by.specs.Queue.{pops};
 ghost use Rattle.slice_group_by.specs.Searching.{digits};
 ghost use Rattle.slice_group_by.specs.Split.{IsGrouped, last, split};
@@ -60,7 +61,8 @@ pub fn walk_binary<'a>(xs: &'a [u32], ends: &[End], out: &mut [Option<&'a [u32]>
     count
 }
 
-/// The first exponential group, and how many questions it costs: by its own length alone, and none where there is no group.
+/// The first exponential group, and how many questions it costs: by its own length alone, and none where there is no
+/// group.
 pub fn first_exponential_group(xs: &[u32]) -> (Option<&[u32]>, usize)
     ensures { MatchOption result.0 (result.1 ≡ 0) (λ group. result.1 ≤ 2 * digits (length group.now) + 1) }
 {
@@ -108,7 +110,8 @@ pub fn longest_and_questions(xs: &[u32]) -> (usize, usize)
     (longest, count)
 }
 
-/// How many questions the groups of a stream ask: one less than there are elements in all blocks, however these are cut.
+/// How many questions the groups of a stream ask: one less than there are elements in all blocks, however these are
+/// cut.
 pub fn stream_questions(blocks: &[&[u32]]) -> usize
     ensures { length (flat_map (λ block. block.now) blocks.now) ≤ 2 ^ 64
         → result ≡ length (flat_map (λ block. block.now) blocks.now) - 1 }

@@ -26,7 +26,8 @@ fn add_block(
     block: &[u8],
     runs: &mut Vec<(u8, usize)>,
 ) -> Result<(), AllocError>
-    ensures { OnOk result ((came : List ℕ) → kept_of stream.old ≡ last came → runs.old.items ≡ map run_of (split nat_eq came)
+    ensures { OnOk result ((came : List ℕ) → kept_of stream.old ≡ last came → runs.old.items
+        ≡ map run_of (split nat_eq came)
         → (kept_of stream.new ≡ last (came ++ block.now))
         × (runs.new.items ≡ map run_of (split nat_eq (came ++ block.now)))) }
 {

@@ -7,9 +7,11 @@ ghost use Rattle.example_walks.specs.Words.{are_letters, is_word};
 use slice_group_by::StreamGroups;
 use slice_group_by::laws::parts_join;
 
-/// How many words the blocks have together: how many pieces of letters all bytes have, at most the greatest number of 64 bits.
+/// How many words the blocks have together: how many pieces of letters all bytes have, at most the greatest number of
+/// 64 bits.
 pub fn count_words(blocks: &[&[u8]]) -> usize
-    ensures { result ≡ min (count_by is_word (split are_letters (flat_map (λ block. block.now) blocks.now))) (2 ^ 64 - 1) }
+    ensures { result
+        ≡ min (count_by is_word (split are_letters (flat_map (λ block. block.now) blocks.now))) (2 ^ 64 - 1) }
 {
     let mut stream = StreamGroups::new();
     let mut words = 0usize;

@@ -12,8 +12,8 @@ use std::alloc::Global;
 use std::io;
 use std::io::{Error, ErrorKind, Read, Write};
 
-/// Writes the line of each run of the bytes that the input has left, each run as long as it can be, however the reads cut them.
-/// It keeps one block in memory. A failed read or write ends it, and so does a run of 2^64 bytes.
+/// Writes the line of each run of the bytes that the input has left, each run as long as it can be, however the reads
+/// cut them. It keeps one block in memory. A failed read or write ends it, and so does a run of 2^64 bytes.
 pub fn encode<R: Read, W: Write>(alloc: Global, input: &mut R, out: &mut W) -> io::Result<()>
     ensures { OnOk result (IfSome (R.remaining input.old)
         (λ bytes. Appends (W.contents out.old) (W.contents out.new) (coded bytes))) }
@@ -31,7 +31,8 @@ pub fn encode<R: Read, W: Write>(alloc: Global, input: &mut R, out: &mut W) -> i
     Err(Error::new(ErrorKind::InvalidData, "the input does not end"))
 }
 
-/// Writes the lines of the runs that end in the block, and gives the one that is open behind it. There is none where the count is 0.
+/// Writes the lines of the runs that end in the block, and gives the one that is open behind it. There is none where
+/// the count is 0.
 fn write_block<W: Write>(
     stream: &mut StreamGroups<u8>,
     mut byte: u8,
@@ -61,7 +62,8 @@ fn write_block<W: Write>(
 
 /// The count of the run that is open, if there is one, with a part more.
 fn longer(count: usize, part: &[u8]) -> io::Result<usize>
-    ensures { IfOk result (λ more. (byte : ℕ) → run_if byte more ≡ option_map (λ run. longer_run run part.now) (run_if byte count)) }
+    ensures { IfOk result (λ more. (byte : ℕ) → run_if byte more
+        ≡ option_map (λ run. longer_run run part.now) (run_if byte count)) }
 {
     if count == 0 {
         return Ok(0);

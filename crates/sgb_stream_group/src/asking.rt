@@ -26,7 +26,8 @@ pub(crate) fn ask<T, P: FnMut(&T, &T) -> bool>(predicate: &mut P, before: &T, fi
     ensures called { CalledAtTwo P.FnMut predicate.old before.now first.now result predicate.new }
     ensures callable { P.IsAlwaysCallable predicate.new }
     ensures is { (p : T → T → Bool) → ComputesOnPairs P.FnMut p predicate.old → result ≡ p before.now first.now }
-    ensures computes { (p : T → T → Bool) → ComputesOnPairs P.FnMut p predicate.old → ComputesOnPairs P.FnMut p predicate.new }
+    ensures computes { (p : T → T → Bool) → ComputesOnPairs P.FnMut p predicate.old
+        → ComputesOnPairs P.FnMut p predicate.new }
 {
     predicate(before, first)
 }
@@ -41,7 +42,8 @@ pub(crate) fn begins_by<T: Copy, P: FnMut(&T, &T) -> bool>(
     ensures asks { AsksAcross P.FnMut pair predicate.old result predicate.new }
     ensures callable { P.IsAlwaysCallable predicate.new }
     ensures begins { (p : T → T → Bool) → ComputesOnPairs P.FnMut p predicate.old → result ≡ begins_at p pair }
-    ensures computes { (p : T → T → Bool) → ComputesOnPairs P.FnMut p predicate.old → ComputesOnPairs P.FnMut p predicate.new }
+    ensures computes { (p : T → T → Bool) → ComputesOnPairs P.FnMut p predicate.old
+        → ComputesOnPairs P.FnMut p predicate.new }
 {
     match pair {
         Some(two) => !ask(predicate, &two.0, &two.1),

@@ -5,7 +5,8 @@ ghost use Rattle.sgb_stream_group.specs.Streams.{begins_of, groups_in};
 
 use sgb_linear_group::linear_group::{LinearGroupBy, LinearGroupByKey};
 
-/// The groups of a block, each with whether a group of the stream begins with it, or the last one goes on. Only the first can go on.
+/// The groups of a block, each with whether a group of the stream begins with it, or the last one goes on. Only the
+/// first can go on.
 #[derive(Drop)]
 pub struct Parts<I> {
     pub(crate) begins: bool,

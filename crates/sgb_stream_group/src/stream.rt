@@ -20,11 +20,11 @@ use sgb_number_group::by_number::LinearNumberGroup;
 use sgb_numbers::byte_classes::ByteClasses;
 use sgb_numbers::lanes::Lanes;
 
-/// A stream that comes in blocks, any of which may be empty, and whose groups may go on over several. It keeps the last element
-/// that came, or its key, and nothing else.
+/// A stream that comes in blocks, any of which may be empty, and whose groups may go on over several. It keeps the last
+/// element that came, or its key, and nothing else.
 ///
-/// Each block gives its parts, one for each group that has elements in it: whether a group begins with the part, or the last group
-/// goes on, and the elements. What is made of a group over its parts is the caller's: a sum, a text, a list.
+/// Each block gives its parts, one for each group that has elements in it: whether a group begins with the part, or the
+/// last group goes on, and the elements. What is made of a group over its parts is the caller's: a sum, a text, a list.
 ///
 /// ```
 /// let mut stream = StreamGroups::new();
@@ -60,8 +60,9 @@ impl<T: Copy> StreamGroups<T> {
         }
     }
 
-    /// The parts that the block has of the groups by a predicate. It is called on the last element before the block and the block's
-    /// first at once, and on the neighbours in the block as the parts are taken: over all blocks that is one linear walk.
+    /// The parts that the block has of the groups by a predicate. It is called on the last element before the block and
+    /// the block's first at once, and on the neighbours in the block as the parts are taken: over all blocks that is
+    /// one linear walk.
     ///
     /// The block has come then, whether or not its parts are taken.
     #[inline]
@@ -92,8 +93,8 @@ impl<T: Copy> StreamGroups<T> {
 }
 
 impl<T: Copy + PartialEq> StreamGroups<T> {
-    /// The parts that the block has of the groups of equal elements, by `==` of neighbours. The last element before the block and
-    /// the block's first are compared at once.
+    /// The parts that the block has of the groups of equal elements, by `==` of neighbours. The last element before the
+    /// block and the block's first are compared at once.
     #[inline]
     pub fn parts<'a>(&mut self, block: &'a [T]) -> Parts<LinearGroup<'a, T>>
         ensures kept { kept_of self.new ≡ last_after (kept_of self.old) block.now }
@@ -151,11 +152,11 @@ impl StreamGroups<u8> {
 }
 
 impl<K: PartialEq + Drop> StreamGroups<K> {
-    /// The parts that the block has of the groups by a key. The stream keeps keys alone, so that elements need live no longer than
-    /// their block.
+    /// The parts that the block has of the groups by a key. The stream keeps keys alone, so that elements need live no
+    /// longer than their block.
     ///
-    /// The key function is called on the first element of the block and on the last at once, and on both elements of each
-    /// neighbouring pair as the parts are taken: in all twice on each element.
+    /// The key function is called on the first element of the block and on the last at once, and on both elements of
+    /// each neighbouring pair as the parts are taken: in all twice on each element.
     #[inline]
     pub fn parts_by_key<'a, T, F: FnMut(&T) -> K>(
         &mut self,
@@ -181,7 +182,8 @@ impl<K: PartialEq + Drop> StreamGroups<K> {
         }
     }
 
-    // Whether a group begins with the block, whose last key is kept: asks for the key of its first element and of its last.
+    // Whether a group begins with the block, whose last key is kept: asks for the key of its first element and of its
+    // last.
     #[inline]
     fn begins_by_key<T, F: FnMut(&T) -> K>(&mut self, block: &[T], key: &mut F) -> bool
         requires { F.IsAlwaysCallable key.old }
