@@ -1,12 +1,12 @@
 -- Lines of runs that are written one after another.
-use Rattle.std.proofs.Common.{◌≡◌, ℕ, nat_eq, List, [], ◌∷◌, ◌++◌, length, flat_map, map, Option, None, Some, refl, ap, sym, ◌∙◌, append_assoc, append-nil, subst}
-use Rattle.std.specs.Prelude.{option_map, slice_index}
+use Rattle.std.proofs.Common.{◌≡◌, ℕ, nat_eq, List, [], ◌∷◌, ◌++◌, flat_map, map, Option, Some, refl, ap, sym, ◌∙◌, append_assoc, append-nil, subst}
+use Rattle.std.specs.Prelude.{option_map}
 use Rattle.std.proofs.lemmas.List.Folds.{flat_map-map}
 use Rattle.std.specs.Io.KnownBytes.{Appends}
 use Rattle.std.proofs.KnownBytes.{Appends-nil, Appends-trans}
 use Rattle.slice_group_by.specs.Split.{last, split, without_last}
 use Rattle.slice_group_by.specs.Streams.{change_last}
-use Rattle.run_length_coder.specs.Coding.{coded, line, line_of, run_if, run_line, run_of, Written}
+use Rattle.run_length_coder.specs.Coding.{coded, line_of, run_if, run_line, run_of, Written}
 
 pub Written-same : (a b : Option (List ℕ)) (runs others : List (ℕ × ℕ)) (byte count : ℕ) → runs ≡ others
     → Written a b runs byte count → Written a b others byte count

@@ -1,5 +1,5 @@
 -- The parts that calls give of a block, and the groups that they make.
-use Rattle.std.proofs.Common.{◌≡◌, ◌≢◌, Bool, List, [], ◌∷◌, ◌++◌, map, Option, Some, sym, ap, ◌∙◌, subst}
+use Rattle.std.proofs.Common.{◌≡◌, Bool, List, [], ◌∷◌, ◌++◌, map, Option, Some, sym, ap, ◌∙◌}
 use Rattle.std.specs.Prelude.{option_map}
 use Rattle.std.specs.Iterator.{Drains, Yields}
 use Rattle.sgb_search.specs.Split.{TakesPart, TakesPiece, last, split}

@@ -1,4 +1,4 @@
-use Rattle.std.proofs.Common.{◌≡◌, ◌+◌, Bool, List, refl, sym, ap, ◌∙◌, [], ◌∷◌, map}
+use Rattle.std.proofs.Common.{◌+◌, Bool, List, sym, ap, ◌∙◌, [], ◌∷◌, map}
 use Rattle.std.proofs.lemmas.List.{map-append}
 use Rattle.std.specs.List.{count_by}
 use Rattle.std.proofs.lemmas.List.Folds.{fold-map}

@@ -1,4 +1,4 @@
-use Rattle.std.proofs.Common.{map, ◌∙◌, ap, sym}
+use Rattle.std.proofs.Common.{map, ◌∙◌, ap}
 use Rattle.sgb_search.specs.Split.{neighbours}
 use Rattle.sgb_search.specs.declared.end.End.TheVariants.{Front}
 use Rattle.sgb_stream_group.proofs.JoinedParts.{yields_under}
