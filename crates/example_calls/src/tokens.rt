@@ -1,49 +1,41 @@
 //! Tokens of an input of any size.
-use slice_group_by::{AsciiClass, AsciiClasses, ByteClasses, StreamGroupByKey};
+use slice_group_by::{AsciiClasses, StreamGroups};
 use std::io;
 use std::io::Read;
 
-/// Prints each word and number of an input with the byte at which it begins. A token may go on over several blocks; in memory stands
-/// one.
+/// Prints each token of an input, whole, also one that goes on over several blocks: words, numbers and marks, each on a
+/// line. In memory stand one block and one token.
 pub fn print_tokens<R: Read>(rt: &(impl Print + AllocGlobal), input: &mut R) -> io::Result<()> {
-    let mut block = vec![in rt.alloc(); 0u8; 65536]?;
-    let mut tokens = StreamGroupByKey::new(
-        0u64,
-        |len: u64, part: &[u8]| len.saturating_add(part.len() as u64),
-        |byte: &u8| AsciiClasses::class(*byte),
-    );
-    let mut start = 0u64;
+    let mut stream = StreamGroups::new();
+    let (mut block, mut token) = ([0; 4096], Vec::new(rt.alloc()));
     for _ in 0..u64::MAX {
         let len = input.read(&mut block)?;
         if len == 0 {
             break;
         }
-        let mut rest = &block[..len];
-        for _ in 0..u64::MAX {
-            let Some((last, len)) = tokens.next(&mut rest) else {
-                break;
-            };
-            print_token(rt, last, start)?;
-            start = start.saturating_add(len);
+        for (begins, part) in stream.class_parts::<AsciiClasses>(&block[..len]) {
+            if begins {
+                print_token(rt, &token)?;
+                token.clear();
+            }
+            token.extend_from_slice(part)?;
         }
     }
-    match tokens.finish() {
-        Some((last, _)) => print_token(rt, last, start),
-        None => Ok(()),
-    }
+    print_token(rt, &token)
 }
 
-// The token that begins there, by its last byte.
-fn print_token(rt: &impl Print, last: u8, start: u64) -> io::Result<()> {
-    match AsciiClasses::class(last) {
-        AsciiClass::Letter => println!(rt; "word at {start}"),
-        AsciiClass::Digit => println!(rt; "number at {start}"),
-        AsciiClass::Space | AsciiClass::Other => Ok(()),
+// A token, but for white space.
+fn print_token(rt: &impl Print, token: &[u8]) -> io::Result<()> {
+    match str::from_utf8(token) {
+        Ok(text) if !text.trim().is_empty() => println!(rt; "token {text}"),
+        _ => Ok(()),
     }
 }
 
 /// Prints what these give.
 pub fn print_all(rt: &(impl Print + AllocGlobal)) -> io::Result<()> {
-    let mut input: &[u8] = b"port 8080;";
-    print_tokens(rt, &mut input)
+    let first: &[u8] = b"po";
+    let second: &[u8] = b"rt 80";
+    let third: &[u8] = b"80;";
+    print_tokens(rt, &mut first.chain(second).chain(third))
 }

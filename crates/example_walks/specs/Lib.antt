@@ -1,2 +1,4 @@
 pub mod LongGroups
 pub mod Runs
+pub mod Totals
+pub mod Words

@@ -13,4 +13,6 @@ pub mod offsets;
 pub mod streams;
 pub mod texts;
 pub mod tokens;
+pub mod totals;
+pub mod words;
 pub mod writers;

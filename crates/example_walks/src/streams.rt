@@ -1,67 +1,55 @@
-//! Groups of a stream that comes in blocks.
-ghost use Rattle.std.specs.Prelude.{ℕ, ◌++◌, List, flat_map, nat_eq, IfOk, OnOk};
-ghost use Rattle.slice_group_by.specs.Numbers.{by_number};
-ghost use Rattle.slice_group_by.specs.Split.{split};
-ghost use Rattle.slice_group_by.specs.Streams.{AreGivenAs, Folds, GivesAll, HasOpen, MayGoOn};
-ghost use Rattle.example_walks.specs.Runs.{longer};
+//! Groups of streams that come in blocks, with the theorem that the blocks do not matter: a run-length code.
+ghost use Rattle.std.specs.Prelude.{◌≡◌, ◌≢◌, List, [], ◌++◌, ℕ, flat_map, map, nat_eq, IfOk, OnOk};
+ghost use Rattle.slice_group_by.specs.Split.{last, split};
+ghost use Rattle.slice_group_by.specs.Streams.{add_part, kept_of};
+ghost use Rattle.example_walks.specs.Runs.{longer_run, run_of};
 
-use slice_group_by::StreamNumberGroup;
-use slice_group_by::laws::{folds_add_up, streams_give};
+use slice_group_by::StreamGroups;
+use slice_group_by::laws::{last_changes, parts_fold, parts_join};
 use std::alloc::{AllocError, Global};
 
-type Runs<F> = StreamNumberGroup<u8, usize, F>;
-
-/// The runs of bytes that come in blocks, each as its byte and its length.
+/// The runs of bytes that come in blocks, each as its byte and its length: those of all bytes.
 pub fn runs_of_blocks(alloc: Global, blocks: &[&[u8]]) -> Result<Vec<(u8, usize)>, AllocError>
-    ensures { IfOk result (λ runs. AreGivenAs nat_eq longer 0
-        (split nat_eq (flat_map (λ block. block.now) blocks.now)) runs.items) }
+    ensures { IfOk result (λ runs. runs.items ≡ map run_of (split nat_eq (flat_map (λ block. block.now) blocks.now))) }
 {
-    runs_folded(alloc, blocks, |len, part: &[u8]| {
-        len.saturating_add(part.len())
-    })
-}
-
-// The same, with the function that adds a part to the length of a run.
-fn runs_folded<F: FnMut(usize, &[u8]) -> usize>(
-    alloc: Global,
-    blocks: &[&[u8]],
-    fold: F,
-) -> Result<Vec<(u8, usize)>, AllocError>
-    requires may { F.IsAlwaysCallable fold }
-    requires folds { Folds F.FnMut longer fold }
-    ensures { IfOk result (λ runs. AreGivenAs nat_eq longer 0
-        (split nat_eq (flat_map (λ block. block.now) blocks.now)) runs.items) }
-{
-    folds_add_up::<u8>();
-    streams_give::<u8, usize>();
-    let mut stream = StreamNumberGroup::new(0, fold);
+    let mut stream = StreamGroups::new();
     let mut runs = Vec::new(alloc);
     for block in blocks {
-        push_ended(&mut stream, block, &mut runs)?;
-    }
-    if let Some(run) = stream.finish() {
-        runs.push(run)?;
+        add_block(&mut stream, block, &mut runs)?;
     }
     Ok(runs)
 }
 
-// Pushes the runs that end in the block.
-fn push_ended<F: FnMut(usize, &[u8]) -> usize>(
-    stream: &mut Runs<F>,
+// Adds what a block has of the runs.
+fn add_block(
+    stream: &mut StreamGroups<u8>,
     block: &[u8],
     runs: &mut Vec<(u8, usize)>,
 ) -> Result<(), AllocError>
-    requires { MayGoOn (by_number nat_eq) F.FnMut stream.old }
-    ensures may_go_on { MayGoOn (by_number nat_eq) F.FnMut stream.new }
-    ensures gives { OnOk result ((before left : List ℕ) → HasOpen (by_number nat_eq) F.FnMut nat_eq longer 0 stream.old left
-        → GivesAll nat_eq longer 0 before left runs.old.items
-        → (next : List ℕ) × HasOpen (by_number nat_eq) F.FnMut nat_eq longer 0 stream.new next
-        × GivesAll nat_eq longer 0 (before ++ block.now) next runs.new.items) }
+    ensures { OnOk result ((came : List ℕ) → kept_of stream.old ≡ last came → runs.old.items
+        ≡ map run_of (split nat_eq came)
+        → (kept_of stream.new ≡ last (came ++ block.now))
+        × (runs.new.items ≡ map run_of (split nat_eq (came ++ block.now)))) }
 {
-    streams_give::<u8, usize>();
-    let mut rest = block;
-    while let Some(run) = stream.next(&mut rest) {
-        runs.push(run)?;
+    let parts = stream.number_parts(block);
+    parts_join(&parts);
+    parts_fold::<_, (u8, usize)>(&parts);
+    for (begins, part) in parts {
+        add_run(runs, begins, part)?;
+    }
+    Ok(())
+}
+
+// Adds a part: a run more, or more of the last.
+fn add_run(runs: &mut Vec<(u8, usize)>, begins: bool, part: &[u8]) -> Result<(), AllocError>
+    requires { part.now ≢ [] }
+    ensures { OnOk result (runs.new.items ≡ add_part run_of longer_run runs.old.items (begins, part.now)) }
+{
+    last_changes::<(u8, usize)>();
+    if begins {
+        runs.push((part[0], part.len()))?;
+    } else if let Some(run) = runs.last_mut() {
+        run.1 = run.1.saturating_add(part.len());
     }
     Ok(())
 }

@@ -1,67 +1,59 @@
--- Runs that are given one after another, and what they are coded as.
-use Rattle.std.proofs.Common.{◌≡◌, ℕ, ◌+◌, ◌^◌, nat_eq, nat_lt, true, false, cond, List, [], ◌∷◌, ◌++◌, length, flat_map, codes, decimal}
-use Rattle.std.proofs.Common.{Option, None, Some, refl, ap, sym, ◌∙◌, append_assoc, append-nil, subst, arith}
-use Rattle.std.proofs.lemmas.Bool.{eqb-true}
+-- Lines of runs that are written one after another.
+use Rattle.std.proofs.Common.{◌≡◌, ℕ, nat_eq, List, [], ◌∷◌, ◌++◌, flat_map, map, Option, Some, refl, ap, sym, ◌∙◌, append_assoc, append-nil, subst}
+use Rattle.std.specs.Prelude.{option_map}
+use Rattle.std.proofs.lemmas.List.Folds.{flat_map-map}
 use Rattle.std.specs.Io.KnownBytes.{Appends}
 use Rattle.std.proofs.KnownBytes.{Appends-nil, Appends-trans}
-use Rattle.slice_group_by.specs.Split.{last, split, IsAccepted}
-use Rattle.slice_group_by.specs.Streams.{GivesFirst, IsGivenAs}
-use Rattle.run_length_coder.specs.Coding.{line, coded, longer_len, Codes}
+use Rattle.slice_group_by.specs.Split.{last, split, without_last}
+use Rattle.slice_group_by.specs.Streams.{change_last}
+use Rattle.run_length_coder.specs.Coding.{coded, line_of, run_if, run_line, run_of, Written}
 
-pub Codes-none : (a : Option (List ℕ)) (bytes : List ℕ) → Codes a a bytes bytes
-Codes-none a bytes = record { text = []; writes = Appends-nil a; goes_on = λ more. refl }
+pub Written-same : (a b : Option (List ℕ)) (runs others : List (ℕ × ℕ)) (byte count : ℕ) → runs ≡ others
+    → Written a b runs byte count → Written a b others byte count
+Written-same a b runs others byte count e w = subst (λ l. Written a b l byte count) e w
 
-pub Codes-trans : (a b c : Option (List ℕ)) (xs ys zs : List ℕ) → Codes a b xs ys → Codes b c ys zs → Codes a c xs zs
-Codes-trans a b c xs ys zs p q = record {
-  text = p.text ++ q.text;
-  writes = Appends-trans a b c p.text q.text p.writes q.writes;
-  goes_on = λ more. p.goes_on more ∙ ap (λ l. p.text ++ l) (q.goes_on more) ∙ sym (append_assoc p.text q.text (coded (zs ++ more)));
-}
+pub Written-none : (a : Option (List ℕ)) → Written a a [] 0 0
+Written-none a = record { writes = Appends-nil a; is = refl }
 
-pub Codes-more : (a b : Option (List ℕ)) (xs ys block : List ℕ) → Codes a b xs ys → Codes a b (xs ++ block) (ys ++ block)
-Codes-more a b xs ys block p = record {
-  text = p.text;
-  writes = p.writes;
-  goes_on =
-      λ more. ap coded (append_assoc xs block more) ∙ p.goes_on (block ++ more)
-      ∙ ap (λ l. p.text ++ coded l) (sym (append_assoc ys block more));
-}
+-- a run more
+pushed : (runs : List (ℕ × ℕ)) (run : ℕ × ℕ) → (without_last (runs ++ run ∷ []) ≡ runs) × (last (runs ++ run ∷ []) ≡ Some run)
+pushed [] run = (refl, refl)
+pushed (r ∷ []) run = (refl, refl)
+pushed (r ∷ s ∷ rs) run = let h = pushed (s ∷ rs) run in (ap (λ l. r ∷ l) h.0, h.1)
 
--- the line of the first run is written
-pub Codes-first : (a b : Option (List ℕ)) (xs ys : List ℕ) (run : ℕ × Option ℕ) → (g : GivesFirst nat_eq longer_len (Some 0) xs ys run)
-    → Appends a b (line g.group) → Codes a b xs ys
-Codes-first a b xs ys run g w = record { text = line g.group; writes = w; goes_on = λ more. ap (flat_map line) (g.first more) }
+pub Written-begins : (a b : Option (List ℕ)) (runs : List (ℕ × ℕ)) (part : List ℕ) (byte count : ℕ) → Appends a b (flat_map run_line runs)
+    → run_if byte count ≡ Some (run_of part) → Written a b (runs ++ run_of part ∷ []) byte count
+Written-begins a b runs part byte count w e = let h = pushed runs (run_of part) in record { writes = rw h.0 w; is = e ∙ sym h.1 }
 
--- at the end all is coded once what is open is written
-pub coded_at_end : (a b c : Option (List ℕ)) (bytes left : List ℕ) → Codes a b bytes left → Appends b c (coded left)
-    → Appends a c (coded bytes)
-coded_at_end a b c bytes left p q =
-    let whole : coded bytes ≡ p.text ++ coded left =
-    ap coded (sym (append-nil bytes)) ∙ p.goes_on [] ∙ ap (λ l. p.text ++ coded l) (append-nil left) in
-    subst (Appends a c) (sym whole) (Appends-trans a b c p.text (coded left) p.writes q)
+-- the last run changed
+changed : (h : ℕ × ℕ → ℕ × ℕ) (runs : List (ℕ × ℕ))
+    → (without_last (change_last h runs) ≡ without_last runs) × (last (change_last h runs) ≡ option_map h (last runs))
+changed h [] = (refl, refl)
+changed h (r ∷ []) = (refl, refl)
+changed h (r ∷ s ∷ []) = (refl, refl)
+changed h (r ∷ s ∷ t ∷ rs) = let k = changed h (s ∷ t ∷ rs) in (ap (λ l. r ∷ l) k.0, k.1)
 
--- a run is one byte, some times, and its line has that byte and their number
-same_byte : (x : ℕ) (xs : List ℕ) (y : ℕ) → IsAccepted nat_eq (x ∷ xs) → last (x ∷ xs) ≡ Some y → x ≡ y
-same_byte x [] y a e = cc e
-same_byte x (z ∷ zs) y a e = eqb-true x z a.0 ∙ same_byte z zs y a.1 e
+pub Written-goes_on : (a b : Option (List ℕ)) (runs : List (ℕ × ℕ)) (byte count more : ℕ) (h : ℕ × ℕ → ℕ × ℕ)
+    → Written a b runs byte count → run_if byte more ≡ option_map h (run_if byte count) → Written a b (change_last h runs) byte more
+Written-goes_on a b runs byte count more h w e =
+    let k = changed h runs in record { writes = rw k.0 w.writes; is = e ∙ ap (option_map h) w.is ∙ sym k.1 }
 
-counted : (m n : ℕ) → Some n ≡ cond (nat_lt m (2 ^ 64)) (Some m) None → n ≡ m
-counted m n e = by (nat_lt m (2 ^ 64)) e
-  where
-    by : (b : _) → Some n ≡ cond b (Some m) None → n ≡ m
-    by true e = cc e
-    by false e = cc e
+-- all runs are written with the one that is open
+lines : (runs : List (ℕ × ℕ)) → flat_map run_line (without_last runs) ++ line_of (last runs) ≡ flat_map run_line runs
+lines [] = refl
+lines (r ∷ []) = sym (append-nil (run_line r))
+lines (r ∷ s ∷ rs) =
+    append_assoc (run_line r) (flat_map run_line (without_last (s ∷ rs))) (line_of (last (s ∷ rs)))
+    ∙ ap (λ l. run_line r ++ l) (lines (s ∷ rs))
 
-in_one : (a b : List ℕ) → a ++ (32 ∷ (b ++ 10 ∷ [])) ≡ a ++ codes " " ++ b ++ 10 ∷ []
-in_one a b = sym (append_assoc (a ++ 32 ∷ []) b (10 ∷ []) ∙ append_assoc a (32 ∷ []) (b ++ 10 ∷ []))
+pub Written-all : (a b c : Option (List ℕ)) (runs : List (ℕ × ℕ)) (byte count : ℕ) → Written a b runs byte count
+    → Appends b c (line_of (run_if byte count)) → Appends a c (flat_map run_line runs)
+Written-all a b c runs byte count w more =
+    subst (Appends a c) (ap (λ o. flat_map run_line (without_last runs) ++ line_of o) w.is ∙ lines runs)
+    (Appends-trans a b c (flat_map run_line (without_last runs)) (line_of (run_if byte count)) w.writes more)
 
-pub line_of : (group : List ℕ) (run : ℕ × Option ℕ) (len : ℕ) → run.1 ≡ Some len → IsGivenAs nat_eq longer_len (Some 0) group run
-    → decimal len ++ (32 ∷ (decimal run.0 ++ 10 ∷ [])) ≡ line group
-line_of [] run len is g = cc g.element
-line_of (x ∷ xs) run len is g =
-    let n : len ≡ length (x ∷ xs) = omega (arith, counted (0 + length (x ∷ xs)) len (sym is ∙ g.value)) in
-    rw (n, ← same_byte x xs run.0 g.accepted g.element) (in_one (decimal (length (x ∷ xs))) (decimal x))
-
--- and a run alone is coded as its line
-pub coded_alone : (group : List ℕ) → split nat_eq group ≡ group ∷ [] → line group ≡ coded group
-coded_alone group e = sym (append-nil (line group)) ∙ ap (flat_map line) (sym e)
+pub Written-coded : (a b c : Option (List ℕ)) (bytes : List ℕ) (byte count : ℕ) → Written a b (map run_of (split nat_eq bytes)) byte count
+    → Appends b c (line_of (run_if byte count)) → Appends a c (coded bytes)
+Written-coded a b c bytes byte count w more =
+    subst (Appends a c) (flat_map-map run_line run_of (split nat_eq bytes))
+    (Written-all a b c (map run_of (split nat_eq bytes)) byte count w more)

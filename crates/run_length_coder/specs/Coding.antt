@@ -1,8 +1,8 @@
 -- What is written of bytes: a line for each of their runs.
-use Rattle.std.specs.Prelude.{◌≡◌, ℕ, List, [], ◌∷◌, ◌++◌, length, flat_map, replicate, codes, decimal, nat_eq, slice_index, Option, ◌^◌}
+use Rattle.std.specs.Prelude.{◌≡◌, ℕ, ◌+◌, List, [], ◌∷◌, ◌++◌, length, flat_map, replicate, codes, decimal, nat_eq, slice_index}
+use Rattle.std.specs.Prelude.{Option, None, Some, cond}
 use Rattle.std.specs.Io.KnownBytes.{Appends}
-use Rattle.slice_group_by.specs.Split.{split}
-use Rattle.slice_group_by.specs.Streams.{checked_add}
+use Rattle.slice_group_by.specs.Split.{last, split, without_last}
 use Rattle.run_length_coder.specs.declared.runs.Run.{Run}
 
 -- the bytes of a run
@@ -17,12 +17,26 @@ line group = decimal (length group) ++ codes " " ++ decimal (slice_index group 0
 abbrev pub coded : List ℕ → List ℕ
 coded bytes = flat_map line (split nat_eq bytes)
 
--- bytes are coded up to those that are left: whatever follows, this text is written of them, and what is left comes after it
-pub record Codes (before after : Option (List ℕ)) (bytes left : List ℕ) : Type 0 where
-  pub text : List ℕ
-  pub writes : Appends before after text
-  pub goes_on : (more : List ℕ) → coded (bytes ++ more) ≡ text ++ coded (left ++ more)
+-- the byte of a group and its length, and both with a part more
+abbrev pub run_of : List ℕ → ℕ × ℕ
+run_of group = (slice_index group 0, length group)
 
--- the length with that of a part more, where it is a number of 64 bits
-abbrev pub longer_len : Option ℕ → List ℕ → Option ℕ
-longer_len len part = checked_add (2 ^ 64) len (length part)
+abbrev pub longer_run : ℕ × ℕ → List ℕ → ℕ × ℕ
+longer_run run part = (run.0, run.1 + length part)
+
+-- the line of a run, and of the one that is open
+abbrev pub run_line : ℕ × ℕ → List ℕ
+run_line run = decimal run.1 ++ codes " " ++ decimal run.0 ++ 10 ∷ []
+
+abbrev pub line_of : Option (ℕ × ℕ) → List ℕ
+line_of None = []
+line_of (Some run) = run_line run
+
+-- the run that is open, where the count is not 0
+abbrev pub run_if : ℕ → ℕ → Option (ℕ × ℕ)
+run_if byte count = cond (nat_eq count 0) None (Some (byte, count))
+
+-- of the runs the lines of all are written but that of the last, which is open
+pub record Written (before after : Option (List ℕ)) (runs : List (ℕ × ℕ)) (byte count : ℕ) : Type 0 where
+  pub writes : Appends before after (flat_map run_line (without_last runs))
+  pub is : run_if byte count ≡ last runs

@@ -102,6 +102,15 @@ impl<'a, T, J, W> SliceGroups<'a, T, J, W> {
     {
         self.remainder_len() == 0
     }
+
+    /// The judge, with its closure as the calls have left it. The iterator is given up.
+    #[inline]
+    pub fn into_judge(self) -> J
+        ensures { result ≡ (groups_of self.entry).judge }
+    {
+        let SliceGroups { judge, slice: _, low: _, high: _, way: _ } = self;
+        judge
+    }
 }
 
 impl<'a, T, J: Judge<T> + Drop, W: Way> Iterator for SliceGroups<'a, T, J, W> {

@@ -1,5 +1,4 @@
-pub mod Calls
-pub mod Folds
-pub mod GivenGroups
-pub mod Parts
+pub mod Ends
+pub mod FoldedParts
+pub mod JoinedParts
 pub mod States

@@ -1,35 +1,38 @@
--- What questions and a call of the fold leave as it is.
-use Rattle.std.proofs.Common.{◌≡◌, Bool, List, [], ◌∷◌, refl}
+-- What a call of a closure says of a function that it computes.
+use Rattle.std.proofs.Common.{◌≡◌, Bool, [], ◌∷◌, refl, ap, ◌∙◌}
+use Rattle.std.proofs.Common.{not, Some}
+use Rattle.std.specs.Borrow.{Bor}
 use Rattle.std.specs.Prelude.{⊤}
-use Rattle.std.specs.Fn.{AlwaysReturns, Called, Mut}
-use denote.Param.Always.{always_mut, mut_next}
-use Rattle.std.specs.List.{AllByRecursion}
-use Rattle.sgb_search.specs.declared.judge.Judge.{Ghosts}
-use Rattle.sgb_search.specs.Judges.{IsRun, IsCallable, Computes}
-use Rattle.sgb_search.specs.Split.{on_pairs}
-use Rattle.sgb_search.proofs.Questions.Runs.{may_after, answers_after}
+use Rattle.std.specs.Fn.{CalledAt, CalledAtTwo, ComputesKey, ComputesOnPairs, Mut}
+use denote.Param.Always.{always_mut}
+use Rattle.sgb_search.specs.Judges.{by_predicate, predicate_judge}
+use Rattle.sgb_search.proofs.Questions.Closures.{predicate_callable}
+use Rattle.sgb_search.proofs.Questions.Runs.{may_now}
+use Rattle.sgb_stream_group.specs.Streams.{AsksAcross}
+use Rattle.sgb_stream_group.proofs.Ends.{not_not}
 
-all_allowed : {X : Type 0} (rs : List X) → AllByRecursion (λ r. ⊤) rs
-all_allowed [] = tt
-all_allowed (r ∷ rs) = (tt, all_allowed rs)
+-- of a key function
+module _ {F T K : Type 0} (g : Mut F (Bor T × Unit {0}) K) (k : T → K) where
+  pub key_after : (f : F) (x : T) (r : K) (f' : F) → ComputesKey g k f → CalledAt g f x r f' → (r ≡ k x) × ComputesKey g k f'
+  key_after f x r f' h c =
+      ((h.at ((c.shown, tt) ∷ []) r f' c.called).0 ∙ ap k c.shows, record { at = λ xs. (h.at ((c.shown, tt) ∷ xs) r f' c.called).1 })
 
--- after questions
-module _ {T J : Type 0} (g : Ghosts J T) (j k : J) (rs : List ((T × T) × Bool)) (run : IsRun g.may_ask g.answers j rs k) where
-  pub callable_after : IsCallable g.may_ask g.answers (λ q. ⊤) j → IsCallable g.may_ask g.answers (λ q. ⊤) k
-  callable_after h = may_after g.may_ask g.answers (λ q. ⊤) (λ q. ⊤) (λ q a. a) j rs k run (all_allowed rs) h
+-- of a predicate
+module _ {P T : Type 0} (g : Mut P (Bor T × (Bor T × Unit {0})) Bool) (p : T → T → Bool) where
+  pub test_after : (f : P) (x y : T) (b : Bool) (f' : P) → ComputesOnPairs g p f → CalledAtTwo g f x y b f'
+      → (b ≡ p x y) × ComputesOnPairs g p f'
+  test_after f x y b f' h c = (
+    (h.at ((c.first, (c.second, tt)) ∷ []) b f' c.called).0 ∙ rw (c.shows.0, c.shows.1) refl,
+    record { at = λ xs. (h.at ((c.first, (c.second, tt)) ∷ xs) b f' c.called).1 },
+  )
 
-  module _ (p : T → T → Bool) (h : Computes g.may_ask g.answers (λ q. ⊤) (on_pairs p) j) where
-    pub computes_after : Computes g.may_ask g.answers (λ q. ⊤) (on_pairs p) k
-    computes_after = answers_after g.may_ask g.answers (λ q. ⊤) (λ q. ⊤) (λ q a. a) (on_pairs p) j rs k run (all_allowed rs) h
-
-    -- what they answered
-    pub answered : AllByRecursion (λ r. r.1 ≡ on_pairs p r.0) rs
-    answered = h.at rs k run (all_allowed rs)
-
--- after a call
-module _ {F X R : Type 0} (g : Mut F X R) (f : F) (a : X) (r : R) (f' : F) (call : Called g f a r f') where
-  pub takes_after : always_mut g f → always_mut g f'
-  takes_after h = mut_next g f a r f' f' call refl h
-
-  pub returns_after : (P : X → R → Type 0) → AlwaysReturns g P f → P a r × AlwaysReturns g P f'
-  returns_after P h = ((h.at (a ∷ []) r f' call).0, record { at = λ xs. (h.at (a ∷ xs) r f' call).1 })
+module _ {P T : Type 0} (g : Mut P (Bor T × (Bor T × Unit {0})) Bool) where
+  -- one call about the pair across
+  pub asks_two : (f : P) (q : T × T) (b : Bool) (f' : P) → always_mut g f → CalledAtTwo g f q.0 q.1 b f' → AsksAcross g (Some q) f (not b) f'
+  asks_two f q b f' may called = record {
+    run = (
+      may_now (by_predicate g).may_ask (by_predicate g).answers (λ q. ⊤) (predicate_judge f) q (predicate_callable g (λ q. ⊤) f may) tt,
+      (predicate_judge f', rw (not_not b) called, refl),
+    );
+    alone = λ none. cc none;
+  }

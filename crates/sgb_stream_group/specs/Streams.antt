@@ -1,118 +1,114 @@
--- Groups that go on over the blocks of a stream. A group is given as its last element and a fold over its elements.
-use Rattle.std.specs.Prelude.{◌≡◌, ℕ, ◌+◌, ◌-◌, cond, nat_lt, Bool, true, List, [], ◌∷◌, ◌++◌, length, take, drop}
-use Rattle.std.specs.Prelude.{Option, None, Some, IfSome, ⊤}
+-- Groups that go on over the blocks of a stream. A part is what a group has in one block, with whether a group begins there.
+use Rattle.std.specs.Prelude.{◌≡◌, Bool, true, not, cond, List, [], ◌∷◌, ◌++◌, Option, None, Some, map, option_map, MatchOption}
 use Rattle.std.specs.Borrow.{Bor}
-use Rattle.std.specs.Fn.{AlwaysReturns, Mut, always_mut}
+use Rattle.std.specs.Fn.{CalledAt, Mut}
+use Rattle.std.specs.List.{fold}
 use Rattle.sgb_search.specs.declared.judge.Judge.{Ghosts}
-use Rattle.sgb_search.specs.declared.end.End.TheVariants.{Front}
-use Rattle.sgb_search.specs.Judges.{IsRun, IsCallable, Computes}
-use Rattle.sgb_search.specs.Questions.{questions}
-use Rattle.sgb_search.specs.Split.{IsAccepted, IsRefusedAcross, first, last, on_pairs, split}
-use Rattle.sgb_stream_group.specs.declared.stream_group.StreamGroups.{StreamGroups}
+use Rattle.sgb_search.specs.Judges.{IsRun, by_predicate, predicate_judge}
+use Rattle.sgb_search.specs.Split.{first, last, neighbours}
+use Rattle.sgb_stream_group.specs.declared.parts.Parts.{Parts}
+use Rattle.sgb_stream_group.specs.declared.stream.StreamGroups.{StreamGroups}
 
-module _ {T V : Type 0} (p : T → T → Bool) (f : V → List T → V) (start : V) where
-  -- a group, or the part of one that has come, is given so
-  pub record IsGivenAs (group : List T) (given : T × V) : Type 0 where
-    pub accepted : IsAccepted p group
-    pub element : last group ≡ Some given.0
-    pub value : given.1 ≡ f start group
+-- the last value, if there is one, is changed
+abbrev pub change_last : {V : Type 0} → (V → V) → List V → List V
+change_last change [] = []
+change_last change (v ∷ []) = change v ∷ []
+change_last change (v ∷ w ∷ vs) = v ∷ change_last change (w ∷ vs)
 
-  -- these are the elements of the open group, of which the stream keeps what would be given
-  abbrev pub IsOpen : List T → Option (T × V) → Type 0
-  IsOpen group None = group ≡ []
-  IsOpen group (Some kept) = IsGivenAs group kept
+-- of each group a value: a part that begins one adds the value that `first` gives of it, and another changes the last value by `more`
+abbrev pub add_part : {A V : Type 0} → (first : List A → V) (more : V → List A → V) → List V → Bool × List A → List V
+add_part first more vs part = cond part.0 (vs ++ first part.1 ∷ []) (change_last (λ v. more v part.1) vs)
 
-  -- the first piece of the elements before is given, and those after are left, whatever more comes
-  pub record GivesFirst (before after : List T) (given : T × V) : Type 0 where
-    pub group : List T
-    pub is_given : IsGivenAs group given
-    pub cut : before ≡ group ++ after
-    pub first : (more : List T) → split p (before ++ more) ≡ group ∷ split p (after ++ more)
+module _ {A : Type 0} where
+  -- groups, and a part more: one that begins a group is a group, and another goes on with the last
+  abbrev pub with_part : List (List A) → Bool × List A → List (List A)
+  with_part = add_part (λ part. part) (λ group part. group ++ part)
 
-  -- the groups are given so, in their order
-  abbrev pub AreGivenAs : List (List T) → List (T × V) → Type 0
-  AreGivenAs [] [] = ⊤
-  AreGivenAs (group ∷ groups) (g ∷ given) = IsGivenAs group g × AreGivenAs groups given
-  AreGivenAs groups given = ⊥
+  -- groups, and parts more, in their order
+  abbrev pub with_parts : List (List A) → List (Bool × List A) → List (List A)
+  with_parts = fold with_part
 
-  -- the first pieces of the elements before are given, call after call, and those after are left, whatever more comes
-  pub record GivesAll (before after : List T) (given : List (T × V)) : Type 0 where
-    pub groups : List (List T)
-    pub are_given : AreGivenAs groups given
-    pub first : (more : List T) → split p (before ++ more) ≡ groups ++ split p (after ++ more)
+  -- groups of a block as parts: a group of the stream begins with each, or with each but the first
+  abbrev pub as_parts : Bool → List (List A) → List (Bool × List A)
+  as_parts begins [] = []
+  as_parts begins (g ∷ gs) = (begins, g) ∷ map (λ h. (true, h)) gs
 
-  -- what is left behind the last block: a piece of its own, or nothing
-  abbrev pub GivesLast : List T → Option (T × V) → Type 0
-  GivesLast group None = group ≡ []
-  GivesLast group (Some given) = (split p group ≡ group ∷ []) × IsGivenAs group given
+  -- the last element, or the one that came before where there is none
+  abbrev pub or_before : Option A → Option A → Option A
+  or_before None before = before
+  or_before (Some x) before = Some x
 
--- the block, behind the last element of the open group, if there is one
-abbrev pub behind_kept : {T V : Type 0} → Option (T × V) → List T → List T
-behind_kept None block = block
-behind_kept (Some kept) block = kept.0 ∷ block
+  abbrev pub last_after : Option A → List A → Option A
+  last_after before block = or_before (last block) before
 
--- how many questions are left to ask up to the end of the block: one about each neighbouring pair
-abbrev pub due : {T V : Type 0} → Option (T × V) → List T → ℕ
-due kept block = length (behind_kept kept block) - 1
+  -- the element before a block, and the block's first, if there are both
+  abbrev pub both : Option A → Option A → Option (A × A)
+  both (Some x) (Some y) = Some (x, y)
+  both x y = None
 
--- a fold over a list is one over a part of it and then over the rest
-abbrev pub AddsUp : {T V : Type 0} → (V → List T → V) → Type 0
-AddsUp {T} {V} f = (v : V) (xs ys : List T) → f v (xs ++ ys) ≡ f (f v xs) ys
+  abbrev pub across : Option A → List A → Option (A × A)
+  across before block = both before (first block)
 
--- the sum, where it is below the limit
-abbrev pub checked_add : ℕ → Option ℕ → ℕ → Option ℕ
-checked_add limit None k = None
-checked_add limit (Some n) k = cond (nat_lt (n + k) limit) (Some (n + k)) None
+  -- whether a group begins between the two: where there are none, or the test refuses them
+  abbrev pub begins_at : (A → A → Bool) → Option (A × A) → Bool
+  begins_at p None = true
+  begins_at p (Some q) = not (p q.0 q.1)
 
--- each call of the fold, from now on, gives what f does
-abbrev pub Folds : {T V F : Type 0} → Mut F (V × (Bor (List T) × Unit {0})) V → (V → List T → V) → F → Type 0
-Folds h f fold = AlwaysReturns h (λ a r. r ≡ f a.0 a.1.0.now) fold
+  -- the pairs that are asked about: of each block the pair across, then its neighbours
+  abbrev pub pair_list : Option (A × A) → List (A × A)
+  pair_list None = []
+  pair_list (Some q) = q ∷ []
 
-module _ {T V J F : Type 0} (g : Ghosts J T) where
-  -- Whatever the judge answers, a call takes some elements off the block behind the one that is kept, and asks what a linear call asks
-  -- that takes as many; what it gives has the last of them.
-  pub record Asks (s : StreamGroups T V J F) (block : List T) (given : Option (T × V)) (after : List T) (t : StreamGroups T V J F)
-      : Type 0 where
-    pub taken : ℕ
-    pub run : IsRun g.may_ask g.answers s.judge (questions Front (behind_kept s.kept block) taken) t.judge
-    pub cut : after ≡ drop taken (behind_kept s.kept block)
-    pub element : IfSome given (λ x. last (take taken (behind_kept s.kept block)) ≡ Some x.0)
-    pub counted : length (questions Front (behind_kept s.kept block) taken) + due t.kept after ≡ due s.kept block
+  abbrev pub asked_pairs : Option A → List (List A) → List (A × A)
+  asked_pairs before [] = []
+  asked_pairs before (block ∷ blocks) =
+      pair_list (across before block) ++ (neighbours block ++ asked_pairs (last_after before block) blocks)
 
-module _ {T V J F : Type 0} (g : Ghosts J T) (h : Mut F (V × (Bor (List T) × Unit {0})) V) where
-  -- the judge may be asked about any two elements, and the fold called, from now on
-  pub record MayGoOn (s : StreamGroups T V J F) : Type 0 where
-    pub judge : IsCallable g.may_ask g.answers (λ q. ⊤) s.judge
-    pub fold : always_mut h s.fold
+-- the last element that has come, or its key
+abbrev pub kept_of : {K : Type 0} → StreamGroups K → Option K
+kept_of s = s.kept
 
-  -- the judge answers p, and the fold is f, from now on
-  pub record IsSettled (p : T → T → Bool) (f : V → List T → V) (s : StreamGroups T V J F) : Type 0 where
-    pub judge : Computes g.may_ask g.answers (λ q. ⊤) (on_pairs p) s.judge
-    pub fold : Folds h f s.fold
-    pub adds_up : AddsUp f
+-- whether the next part begins a group, and the groups of the block
+abbrev pub begins_of : {I : Type 0} → Parts I → Bool
+begins_of s = s.begins
 
-  module _ (p : T → T → Bool) (f : V → List T → V) (start : V) where
-    -- the judge answers p, the fold adds to `start` as f does, and these are the elements of the open group
-    pub record HasOpen (s : StreamGroups T V J F) (group : List T) : Type 0 where
-      pub settled : IsSettled p f s
-      pub begins : s.start ≡ start
-      pub is_open : IsOpen p f start group s.kept
+abbrev pub groups_in : {I : Type 0} → Parts I → I
+groups_in s = s.groups
 
-    -- a call on the elements of the open group and those of the block: it gives their first piece, and then none is open; or the block is
-    -- at its end, and all are open
-    abbrev pub Gives : List T → Option (T × V) → List T → StreamGroups T V J F → Type 0
-    Gives before None after s = (after ≡ []) × HasOpen s before
-    Gives before (Some given) after s = GivesFirst p f start before after given × HasOpen s []
+-- what a call gives: a group of the block, with whether it begins there, which all but the first do
+abbrev pub GivesPart : {I X : Type 0} → (I → Option X → I → Type 0) → Parts I → Option (Bool × X) → Parts I → Type 0
+GivesPart gives s part t =
+    gives s.groups (option_map (λ x. x.1) part) t.groups
+    × MatchOption part (t.begins ≡ s.begins) (λ x. (x.0 ≡ s.begins) × (t.begins ≡ true))
 
--- The two steps of a call: whether the block goes on with the open group, if there are both.
-abbrev pub GoesOn : {T V : Type 0} → (T → T → Bool) → Option (T × V) → List T → Type 0
-GoesOn p None block = ⊤
-GoesOn p (Some kept) block = (x : _) → first block ≡ Some x → p kept.0 x ≡ true
+-- The predicate is called on the pair across, if there is one, and answers whether no group begins there.
+pub record AsksAcross {P T : Type 0} (g : Mut P (Bor T × (Bor T × Unit {0})) Bool) (pair : Option (T × T)) (f : P) (begins : Bool) (f' : P)
+    : Type 0 where
+  pub run : IsRun (by_predicate g).may_ask (by_predicate g).answers (predicate_judge f) (map (λ q. (q, not begins)) (pair_list pair))
+      (predicate_judge f')
+  pub alone : pair ≡ None → begins ≡ true
 
--- And the part at its front that then goes to the open group, which is refused towards what is left.
-pub record TakesPart {T V : Type 0} (p : T → T → Bool) (f : V → List T → V) (start : V) (group block after : List T)
-    (kept : Option (T × V)) : Type 0 where
-  pub part : List T
-  pub cut : block ≡ part ++ after
-  pub is_open : IsOpen p f start (group ++ part) kept
-  pub refused : IsRefusedAcross p (group ++ part, after)
+module _ {T J : Type 0} (g : Ghosts J T) where
+  -- a run of questions about just these pairs, in their order
+  pub record AsksPairs (pairs : List (T × T)) (j k : J) : Type 0 where
+    pub questions : List ((T × T) × Bool)
+    pub run : IsRun g.may_ask g.answers j questions k
+    pub are : map (λ r. r.0) questions ≡ pairs
+
+  -- from j to k the judge is asked, of each block, about the pair across and then about its neighbours
+  abbrev pub AsksBlocks : Option T → List (List T) → J → J → Type 0
+  AsksBlocks before [] j k = k ≡ j
+  AsksBlocks before (block ∷ blocks) j k =
+      (l : J) × AsksPairs (pair_list (across before block) ++ neighbours block) j l × AsksBlocks (last_after before block) blocks l k
+
+-- the key function is called on the one element, and then on the other
+pub record CallsTwice {F T K : Type 0} (g : Mut F (Bor T × Unit {0}) K) (first last : T) (f f' : F) : Type 0 where
+  pub between : F
+  pub first_key : K
+  pub last_key : K
+  pub first_call : CalledAt g f first first_key between
+  pub last_call : CalledAt g between last last_key f'
+
+-- it is called on the first element of a block and on the last, if there are any
+abbrev pub AsksEnds : {F T K : Type 0} → Mut F (Bor T × Unit {0}) K → List T → F → F → Type 0
+AsksEnds g block f f' = MatchOption (both (first block) (last block)) (f' ≡ f) (λ q. CallsTwice g q.0 q.1 f f')

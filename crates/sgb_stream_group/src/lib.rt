@@ -1,5 +1,6 @@
 //! Groups of a stream that comes in blocks.
 #![tactic(auto)]
 
-mod by;
-pub mod stream_group;
+mod asking;
+pub mod parts;
+pub mod stream;

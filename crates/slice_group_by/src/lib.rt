@@ -70,9 +70,8 @@ pub use sgb_search::search::{
     exponential_search, exponential_search_by, exponential_search_by_key,
     exponential_search_by_key_ref, exponential_search_by_ref,
 };
-pub use sgb_stream_group::stream_group::{
-    StreamGroup, StreamGroupBy, StreamGroupByKey, StreamNumberGroup,
-};
+pub use sgb_stream_group::parts::Parts;
+pub use sgb_stream_group::stream::StreamGroups;
 pub use traits::group_by::GroupBy;
 pub use traits::group_by_mut::GroupByMut;
 pub use traits::holders::{AsMutSlice, Elements};

@@ -2,8 +2,8 @@
 use slice_group_by::laws::*;
 use slice_group_by::{
     BinaryGroupBy, DedupWithCount, ExponentialGroupByKeyMut, GroupQueue, Keyed, LinearGroupBy,
-    LinearStrGroupByKeyMut, MergeJoin, MergeJoinBy, Offsets, RemainderLen, SliceQueue, WithKeys,
-    WithOffsets,
+    LinearGroupByKey, LinearStrGroupByKeyMut, MergeJoin, MergeJoinBy, Offsets, Parts, RemainderLen, SliceQueue,
+    WithKeys, WithOffsets,
 };
 use std::cmp::Ordering;
 use std::iter::Map;
@@ -20,8 +20,8 @@ pub fn of_lists<T, U>() {
     pairs_are_elements::<T>();
     equal_pieces_are_copies::<T>();
     pieces_add_up::<T>();
-    folds_add_up::<T>();
-    streams_give::<T, T>();
+    parts_begin_by_keys::<T, U>();
+    last_changes::<T>();
     merge_is_unique::<T, U>();
     semi_joins_are_filters::<T, U>();
     joins_find_partners::<T, U>();
@@ -114,6 +114,19 @@ pub fn of_counts<'a, T: 'a, Q: RemainderLen + SliceQueue<'a, T>>(
     groups: &DedupWithCount<'a, T, Q>,
 ) {
     sees_counts(groups);
+}
+
+pub fn of_streams<T, P: FnMut(&T, &T) -> bool, F: FnMut(&T) -> K, K: PartialEq + Drop, Q: GroupQueue>(
+    parts: &Parts<Q>,
+    linear: &Parts<LinearGroupBy<'_, T, P>>,
+    by_key: &Parts<LinearGroupByKey<'_, T, F, K>>,
+) {
+    parts_join(parts);
+    parts_fold::<_, T>(parts);
+    streams_ask(parts);
+    parts_ask(linear);
+    streams_count(linear);
+    streams_count_keys(by_key);
 }
 
 pub fn of_chunks<T, P: FnMut(&T, &T) -> bool, Q: GroupQueue<Element = T>>(

@@ -1,51 +1,92 @@
 //! Groups of streams.
-use slice_group_by::{Lanes, StreamGroup, StreamGroupBy, StreamGroupByKey, StreamNumberGroup};
+use slice_group_by::{ByteClasses, Lanes, LinearGroup, Parts, StreamGroups};
 
-pub fn by_equality<T, V: Copy, F>(start: V, fold: F, mut block: &[T])
-where
-    T: PartialEq + Copy,
-    F: FnMut(V, &[T]) -> V,
-    requires { F.IsAlwaysCallable fold }
-{
-    let mut groups = StreamGroup::new(start, fold);
-    let _ = groups.next(&mut block);
-    let _ = groups.finish();
+pub fn by_equality<T: PartialEq + Copy>(block: &[T]) {
+    let mut stream = StreamGroups::new();
+    let _ = stream.parts(block).next();
 }
 
-pub fn of_numbers<T, V: Copy, F>(start: V, fold: F, mut block: &[T])
-where
-    T: Lanes + Copy,
-    F: FnMut(V, &[T]) -> V,
-    requires { F.IsAlwaysCallable fold }
-{
-    let mut groups = StreamNumberGroup::new(start, fold);
-    let _ = groups.next(&mut block);
-    let _ = groups.finish();
+pub fn of_numbers<T: Lanes + Copy>(block: &[T]) {
+    let mut stream = StreamGroups::new();
+    let _ = stream.number_parts(block).next();
 }
 
-pub fn by_predicate<T, V: Copy, F, P>(start: V, fold: F, predicate: P, mut block: &[T])
-where
-    T: Copy,
-    F: FnMut(V, &[T]) -> V,
-    P: FnMut(&T, &T) -> bool,
-    requires fold { F.IsAlwaysCallable fold }
-    requires predicate { P.IsAlwaysCallable predicate }
-{
-    let mut groups = StreamGroupBy::new(start, fold, predicate);
-    let _ = groups.next(&mut block);
-    let _ = groups.finish();
+pub fn of_classes<C: ByteClasses>(block: &[u8]) {
+    let mut stream = StreamGroups::new();
+    let _ = stream.class_parts::<C>(block).next();
 }
 
-pub fn by_key<T, V: Copy, F, G, K>(start: V, fold: F, key: G, mut block: &[T])
-where
-    T: Copy,
-    F: FnMut(V, &[T]) -> V,
-    G: FnMut(&T) -> K,
-    K: PartialEq + Drop,
-    requires fold { F.IsAlwaysCallable fold }
-    requires key { G.IsAlwaysCallable key }
+pub fn by_predicate<T: Copy, P: FnMut(&T, &T) -> bool>(predicate: P, block: &[T])
+    requires { P.IsAlwaysCallable predicate }
 {
-    let mut groups = StreamGroupByKey::new(start, fold, key);
-    let _ = groups.next(&mut block);
-    let _ = groups.finish();
+    let mut stream = StreamGroups::new();
+    let _ = stream.parts_by(block, predicate).next();
+}
+
+pub fn by_key<T, F: FnMut(&T) -> K, K: PartialEq + Drop>(key: F, block: &[T])
+    requires { F.IsAlwaysCallable key }
+{
+    let mut stream = StreamGroups::new();
+    let _ = stream.parts_by_key(block, key).next();
+}
+
+pub fn by_hand<T: PartialEq>(begins: bool, block: &[T]) {
+    let _ = Parts::new(begins, LinearGroup::new(block)).next();
+}
+
+pub fn by_lent_closure(blocks: &[&[u8]]) -> usize {
+    let mut stream = StreamGroups::new();
+    let mut groups = 0usize;
+    let mut same = |a: &u8, b: &u8| a == b;
+    for block in blocks {
+        for (begins, _) in stream.parts_by(block, &mut same) {
+            if begins {
+                groups = groups.saturating_add(1);
+            }
+        }
+    }
+    groups
+}
+
+pub fn by_handed_predicate<T: Copy, P: FnMut(&T, &T) -> bool>(
+    mut predicate: P,
+    blocks: &[&[T]],
+) -> usize
+    requires { (state : P) → P.IsAlwaysCallable state }
+{
+    let mut stream = StreamGroups::new();
+    let mut groups = 0usize;
+    for block in blocks {
+        let mut parts = stream.parts_by(block, predicate);
+        for (begins, _) in parts.by_ref() {
+            if begins {
+                groups = groups.saturating_add(1);
+            }
+        }
+        predicate = parts.into_predicate();
+    }
+    groups
+}
+
+pub fn by_handed_key<T, F: FnMut(&T) -> K, K: PartialEq + Drop>(mut key: F, blocks: &[&[T]])
+    requires { (state : F) → F.IsAlwaysCallable state }
+{
+    let mut stream = StreamGroups::new();
+    for block in blocks {
+        let mut parts = stream.parts_by_key(block, key);
+        let _ = parts.next();
+        key = parts.into_key();
+    }
+}
+
+pub fn by_counting_closure(blocks: &[&[u8]]) -> (usize, usize) {
+    let mut count = 0usize;
+    let groups = by_handed_predicate(
+        |a: &u8, b: &u8| {
+            count = count.saturating_add(1);
+            a == b
+        },
+        blocks,
+    );
+    (groups, count)
 }

@@ -1,5 +1,5 @@
 -- What the pieces of a list share with the list, and with each other.
-use Rattle.std.specs.Prelude.{◌≡◌, ℕ, ◌+◌, ◌⊎◌, Bool, true, false, cond, List, [], ◌∷◌, ◌++◌, length, get_or, map, flat_map, replicate, sum_by, Some}
+use Rattle.std.specs.Prelude.{◌≡◌, ◌≢◌, ℕ, ◌+◌, ◌⊎◌, Bool, true, false, cond, List, [], ◌∷◌, ◌++◌, length, get_or, map, flat_map, replicate, sum_by, Some}
 use Rattle.std.proofs.Common.{refl, sym, ap, ◌∙◌, subst, length-append, arith, inl, inr}
 use Rattle.std.proofs.lemmas.List.{append-nil}
 use Rattle.std.proofs.lemmas.List.Elements.{filter-append}
@@ -289,3 +289,10 @@ module _ {K : Type 0} (cmp : K → K → Ordering) (o : IsTotalOrder cmp) (eq : 
       → IsStrictlySortedBy cmp (map key (dedup same xs))
   firsts_climb per xs h =
       heads_climb (split same xs) (dedup same xs) (firsts same (by_keys eq per key) xs) (split_ascends cmp key o eq ties xs h)
+
+-- groups that are not empty, with the keys of their first elements
+pub keyed_by_first : {T K : Type 0} (key : T → K) (d : T) (gs : List (List T)) → AllByRecursion (λ g. g ≢ []) gs
+    → map {B = K × List T} (λ g. (key (get_or g 0 d), g)) gs ≡ keyed key gs
+keyed_by_first key d [] some = refl
+keyed_by_first key d ([] ∷ gs) some = absurd (some.0 refl)
+keyed_by_first key d ((x ∷ xs) ∷ gs) some = ap (λ l. (key x, x ∷ xs) ∷ l) (keyed_by_first key d gs some.1)

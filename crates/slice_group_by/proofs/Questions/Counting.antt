@@ -31,7 +31,7 @@ module _ {S Q A : Type 0} (may : S → Q → Type 0) (gives : S → Q → A → 
   pub run_of_keeps : (n m : ℕ) (s t : S) → P n s → IsRunOf may gives m s t → P (n + m) t
   run_of_keeps n m s t p r = subst (λ (k : ℕ). P (n + k) t) r.2 (run_keeps r.0 n s t p r.1)
 
-times_due : (each n d e : ℕ) → n + d ≡ e → each * n + each * d ≡ each * e
+pub times_due : (each n d e : ℕ) → n + d ≡ e → each * n + each * d ≡ each * e
 times_due each n d e h = omega (arith, ap (λ m. each * m) h)
 
 times_most : (each n d e : ℕ) → n + d ≤ e → each * n + each * d ≤ each * e

@@ -24,12 +24,15 @@ pub fn pieces_by_key<T, K: Ord>()
 
 /// In a list that ascends by a key, a piece holds all elements of its key: a filter of the list by the key of any of its elements
 /// gives the piece (`each`). The pieces with their keys, as `sees_keys` has them, are then the keys in order, each once, and with
-/// each all elements that have it (`keyed`).
+/// each all elements that have it (`keyed`, `by_first`).
 pub fn pieces_are_filters<T, K: Ord>()
     ensures each { (key : T → K) (xs g : List T) (x : T) → NeverDescends K.cmp (map key xs)
         → Contains (split (λ a b. K.eq (key a) (key b)) xs) g → Contains g x → g ≡ filter (λ y. K.eq (key y) (key x)) xs }
     ensures keyed { (key : T → K) (xs : List T) → NeverDescends K.cmp (map key xs)
         → keyed key (split (λ a b. K.eq (key a) (key b)) xs)
+        ≡ map (λ k. (k, filter (λ y. K.eq (key y) k) xs)) (dedup K.eq (map key xs)) }
+    ensures by_first { (key : T → K) (d : T) (xs : List T) → NeverDescends K.cmp (map key xs)
+        → map {B = K × List T} (λ g. (key (get_or g 0 d), g)) (split (λ a b. K.eq (key a) (key b)) xs)
         ≡ map (λ k. (k, filter (λ y. K.eq (key y) k) xs)) (dedup K.eq (map key xs)) }
 {}
 

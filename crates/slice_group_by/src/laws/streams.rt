@@ -1,33 +1,151 @@
 //! Laws of groups that go on over the blocks of a stream.
-ghost use Rattle.std.specs.Prelude.{ℕ, ◌+◌, Bool, List, [], ◌∷◌, ◌++◌, Option, None, Some, length, min, sum_by};
-ghost use Rattle.sgb_search.specs.Split.{split};
-ghost use Rattle.sgb_stream_group.specs.Streams.{AddsUp, AreGivenAs, GivesAll, GivesFirst, GivesLast, checked_add};
+ghost use Rattle.std.specs.Prelude.{◌≡◌, ◌≢◌, ℕ, ◌+◌, ◌-◌, ◌*◌, ◌<◌, Bool, true, false, ◌&&◌, List, [], ◌∷◌, ◌++◌};
+ghost use Rattle.std.specs.Prelude.{length, Option, None, Some, count_by, map, option_map, slice_index_or, slice_set};
+ghost use Rattle.std.specs.Borrow.{MutBor};
+ghost use Rattle.std.specs.Fn.{CalledAt};
+ghost use Rattle.std.specs.Iterator.{Drains, Yields};
+ghost use Rattle.std.specs.List.{fold};
+ghost use Rattle.sgb_search.specs.Judges.{AsksWithin, IsRun};
+ghost use Rattle.sgb_search.specs.Split.{concat, last, neighbours, split};
+ghost use Rattle.sgb_search.specs.declared.end.End.TheVariants.{Front};
+ghost use Rattle.sgb_stream_group.specs.declared.parts.Parts.{Parts};
+ghost use Rattle.sgb_stream_group.specs.Streams.{AsksBlocks, AsksEnds, AsksPairs, GivesPart, across, add_part};
+ghost use Rattle.sgb_stream_group.specs.Streams.{as_parts, asked_pairs, begins_at, begins_of, change_last, groups_in};
+ghost use Rattle.sgb_stream_group.specs.Streams.{last_after, pair_list, with_part, with_parts};
+ghost use Rattle.slice_group_by.specs.Counts.{RaisesJust};
 
-/// Folds of a stream that add up: folding over a list is folding over one part of it and then over the rest. They add the length of a
-/// part, or a sum over its elements, without a limit, up to a limit, or to `None` behind one.
-pub fn folds_add_up<T>()
-    ensures lengths { AddsUp (λ (n : ℕ) (xs : List T). n + length xs) }
-    ensures lengths_saturating { (limit : ℕ) → AddsUp (λ (n : ℕ) (xs : List T). min (n + length xs) limit) }
-    ensures lengths_checked { (limit : ℕ) → AddsUp (λ (n : Option ℕ) (xs : List T). checked_add limit n (length xs)) }
-    ensures sums { (f : T → ℕ) → AddsUp (λ (n : ℕ) (xs : List T). n + sum_by f xs) }
-    ensures sums_saturating { (f : T → ℕ) (limit : ℕ) → AddsUp (λ (n : ℕ) (xs : List T). min (n + sum_by f xs) limit) }
-    ensures sums_checked { (f : T → ℕ) (limit : ℕ)
-        → AddsUp (λ (n : Option ℕ) (xs : List T). checked_add limit n (sum_by f xs)) }
+use crate::laws::judged::Judged;
+use crate::laws::queue::GroupQueue;
+use sgb_linear_group::linear_group::Linear;
+use sgb_search::judge::{Judge, KeyJudge};
+use sgb_stream_group::parts::Parts;
+
+/// The parts of a block, joined, are the block, and a group begins with each but perhaps the first, whatever the judge
+/// answers: `whole`, `begin`. If it computes a test, the parts make the groups of what has come before and of the
+/// block: `block`, where `before` are the elements before. How many of these pass a test that their first elements
+/// decide, `count` says, part by part.
+///
+/// `kept` says which element the stream keeps. A loop that keeps more than `parts_fold` says keeps it of `with_parts`
+/// of the parts so far: `turn` and `goes_on` say what a part more changes, and each is `nonempty`.
+pub fn parts_join<Q: GroupQueue>(_parts: &Parts<Q>)
+    ensures whole { (s : Parts Q) (parts : List (Bool × Q.Item)) → Drains (GivesPart (Q.gives Front)) s parts
+        → concat (map (λ x. Q.shows x.1) parts) ≡ Q.remainder (groups_in s) }
+    ensures begin { (s t : Parts Q) (parts : List (Bool × Q.Item)) → Yields (GivesPart (Q.gives Front)) s parts t
+        → map (λ x. (x.0, Q.shows x.1)) parts ≡ as_parts (begins_of s) (map (λ x. Q.shows x.1) parts) }
+    ensures block { (p : Q.Element → Q.Element → Bool) (before block : List Q.Element)
+        (s : Parts Q) (parts : List (Bool × Q.Item))
+        → Q.is_settled (groups_in s) p → Q.remainder (groups_in s) ≡ block
+        → begins_of s ≡ begins_at p (across (last before) block)
+        → Drains (GivesPart (Q.gives Front)) s parts
+        → with_parts (split p before) (map (λ x. (x.0, Q.shows x.1)) parts) ≡ split p (before ++ block) }
+    ensures count { (test : List Q.Element → Bool)
+        → ((group part : List Q.Element) → group ≢ [] → test (group ++ part) ≡ test group)
+        → (p : Q.Element → Q.Element → Bool) (before block : List Q.Element)
+        (s : Parts Q) (parts : List (Bool × Q.Item))
+        → Q.is_settled (groups_in s) p → Q.remainder (groups_in s) ≡ block
+        → begins_of s ≡ begins_at p (across (last before) block)
+        → Drains (GivesPart (Q.gives Front)) s parts
+        → count_by test (split p (before ++ block))
+        ≡ count_by test (split p before) + count_by (λ x. x.0 && test (Q.shows x.1)) parts }
+    ensures kept { (before block : List Q.Element) → last (before ++ block) ≡ last_after (last before) block }
+    ensures turn { (groups : List (List Q.Element)) (parts : List (Bool × Q.Item)) (part : Bool × Q.Item)
+        → with_parts groups (map (λ x. (x.0, Q.shows x.1)) (parts ++ part ∷ []))
+        ≡ with_part (with_parts groups (map (λ x. (x.0, Q.shows x.1)) parts)) (part.0, Q.shows part.1) }
+    ensures goes_on { (closed : List (List Q.Element)) (group part : List Q.Element)
+        → with_part (closed ++ group ∷ []) (false, part) ≡ closed ++ (group ++ part) ∷ [] }
+    ensures nonempty { (s t : Parts Q) (part : Bool × Q.Item) → GivesPart (Q.gives Front) s (Some part) t
+        → Q.shows part.1 ≢ [] }
 {}
 
-/// A stream gives the pieces of all its elements, call after call and block after block. A loop keeps `GivesAll` of the elements that
-/// have come, those that are open, and what was given so far; behind it `last` and `no_last` say what all that was given is.
-pub fn streams_give<T, V>()
-    ensures none { (p : T → T → Bool) (f : V → List T → V) (start : V) (before : List T) → GivesAll p f start before before [] }
-    ensures more { (p : T → T → Bool) (f : V → List T → V) (start : V) (before mid after : List T) (given : List (T × V)) (s : T × V)
-        → GivesAll p f start before mid given → GivesFirst p f start mid after s
-        → GivesAll p f start before after (given ++ s ∷ []) }
-    ensures block { (p : T → T → Bool) (f : V → List T → V) (start : V) (before after block : List T) (given : List (T × V))
-        → GivesAll p f start before after given → GivesAll p f start (before ++ block) (after ++ block) given }
-    ensures last { (p : T → T → Bool) (f : V → List T → V) (start : V) (before after : List T) (given : List (T × V)) (s : T × V)
-        → GivesAll p f start before after given → GivesLast p f start after (Some s)
-        → AreGivenAs p f start (split p before) (given ++ s ∷ []) }
-    ensures no_last { (p : T → T → Bool) (f : V → List T → V) (start : V) (before after : List T) (given : List (T × V))
-        → GivesAll p f start before after given → GivesLast p f start after None
-        → AreGivenAs p f start (split p before) given }
+/// A fold over parts is a fold over groups. Of each group a value is kept, which `first` computes of its elements. If
+/// `more` computes from the value of a part of a group, and from the elements that follow, the value of both, then the
+/// values of the groups before, changed by `add_part` part by part, are those of the groups of all elements so far.
+pub fn parts_fold<Q: GroupQueue, V>(_parts: &Parts<Q>)
+    ensures { (first : List Q.Element → V) (more : V → List Q.Element → V)
+        → ((group part : List Q.Element) → group ≢ [] → part ≢ [] → more (first group) part ≡ first (group ++ part))
+        → (p : Q.Element → Q.Element → Bool) (before block : List Q.Element) (values : List V)
+        (s : Parts Q) (parts : List (Bool × Q.Item))
+        → values ≡ map first (split p before)
+        → Q.is_settled (groups_in s) p → Q.remainder (groups_in s) ≡ block
+        → begins_of s ≡ begins_at p (across (last before) block)
+        → Drains (GivesPart (Q.gives Front)) s parts
+        → fold (λ values x. add_part first more values (x.0, Q.shows x.1)) values parts
+        ≡ map first (split p (before ++ block)) }
+{}
+
+/// What `add_part` makes of a part that goes on, where the last value stands in a vector and is changed there, as by
+/// `last_mut`.
+pub fn last_changes<V>()
+    ensures { (change : V → V) (values : List V) (place : ℕ) (value : V) → place + 1 ≡ length values
+        → value ≡ slice_index_or values place value
+        → slice_set values place (change value) ≡ change_last change values }
+{}
+
+/// What a stream by a key says of the keys is what `parts_join` takes of the elements.
+pub fn parts_begin_by_keys<T, K>()
+    ensures begins { (k : T → K) (eq : K → K → Bool) (before block : List T)
+        → begins_at eq (across (option_map k (last before)) (map k block))
+        ≡ begins_at (λ x y. eq (k x) (k y)) (across (last before) block) }
+    ensures kept { (k : T → K) (before block : List T)
+        → last_after (option_map k (last before)) (map k block) ≡ option_map k (last (before ++ block)) }
+{}
+
+/// The questions of all blocks, the pair across and the neighbours of each, are those of one linear walk, in its order:
+/// n - 1 of n elements. A block's groups ask just what they take off those due (`calls`).
+pub fn streams_ask<Q: GroupQueue>(_parts: &Parts<Q>)
+    ensures once { (blocks : List (List Q.Element)) → asked_pairs None blocks ≡ neighbours (concat blocks) }
+    ensures calls { (s t : Parts Q) (parts : List (Bool × Q.Item)) → Yields (GivesPart (Q.gives Front)) s parts t
+        → AsksWithin Q.asked Q.due Q.exact (groups_in s) (groups_in t) }
+{}
+
+/// The questions of a judge that is asked about one block after another are those of one linear walk over all of them,
+/// in its order: n - 1 for n elements (`walk`). The parts of a block of linear groups ask about its neighbouring pairs
+/// (`block`), behind the question about the pair across (`more`), which is that of `AsksAcross`.
+pub fn parts_ask<T, J: Judge<T>, S: Judged<T, J, Linear>>(_parts: &Parts<S>)
+    ensures block { (s t : Parts S) (parts : List (Bool × S.Item))
+        → Yields (GivesPart (S.GroupQueue.gives Front)) s parts t
+        → (S.groups (groups_in t)).remainder ≡ []
+        → AsksPairs J.Judge (neighbours (S.groups (groups_in s)).remainder)
+        (S.groups (groups_in s)).judge (S.groups (groups_in t)).judge }
+    ensures more { (ps qs : List (T × T)) (j k l : J) → AsksPairs J.Judge ps j k → AsksPairs J.Judge qs k l
+        → AsksPairs J.Judge (ps ++ qs) j l }
+    ensures walk { (blocks : List (List T)) (j k : J) → AsksBlocks J.Judge None blocks j k
+        → AsksPairs J.Judge (neighbours (concat blocks)) j k }
+{}
+
+/// What a block of a stream does to a counter that the predicate captured by `&mut`, which each question raises by just
+/// `each`: behind a walk over the elements before, `each * (n - 1)` for n elements, it leads to that of a walk over the
+/// block too. So over all blocks of a stream it counts what `linear_counts` says of one slice. `j` is the judge of the
+/// predicate that is passed, and the run that which `parts_by` ensures.
+pub fn streams_count<T, J: Judge<T>, S: Judged<T, J, Linear>>(_parts: &Parts<S>)
+    ensures { (counter : J → MutBor ℕ) (each limit : ℕ)
+        → RaisesJust J.answers (λ j. (counter j).now) (λ j. (counter j).ghost_name) each limit
+        → (before block : List T) (answer : Bool) (j : J) (s t : Parts S) (parts : List (Bool × S.Item))
+        → IsRun J.may_ask J.answers j (map (λ q. (q, answer)) (pair_list (across (last before) block)))
+        (S.groups (groups_in s)).judge
+        → (S.groups (groups_in s)).remainder ≡ block
+        → Yields (GivesPart (S.GroupQueue.gives Front)) s parts t → (S.groups (groups_in t)).remainder ≡ []
+        → (each * (length before - 1) < limit → (counter j).now ≡ each * (length before - 1))
+        → ((counter (S.groups (groups_in t)).judge).ghost_name ≡ (counter j).ghost_name)
+        × (each * (length (before ++ block) - 1) < limit
+        → (counter (S.groups (groups_in t)).judge).now ≡ each * (length (before ++ block) - 1)) }
+{}
+
+/// The same of a key function: a block of m elements calls it 2 * m times, so all blocks call it twice on each element.
+/// `f` is the function that is passed, and `g` that of the parts, which `parts_by_key` ensures.
+pub fn streams_count_keys<
+    T,
+    K: PartialEq + Drop,
+    F: FnMut(&T) -> K,
+    S: Judged<T, KeyJudge<F, K>, Linear>,
+>(_parts: &Parts<S>)
+    ensures { (counter : F → MutBor ℕ) (each limit : ℕ)
+        → RaisesJust (CalledAt F.FnMut) (λ f. (counter f).now) (λ f. (counter f).ghost_name) each limit
+        → (elements : ℕ) (block : List T) (f : F) (s t : Parts S) (parts : List (Bool × S.Item))
+        → AsksEnds F.FnMut block f (S.groups (groups_in s)).judge.func → (S.groups (groups_in s)).remainder ≡ block
+        → Yields (GivesPart (S.GroupQueue.gives Front)) s parts t → (S.groups (groups_in t)).remainder ≡ []
+        → (each * (2 * elements) < limit → (counter f).now ≡ each * (2 * elements))
+        → ((counter (S.groups (groups_in t)).judge.func).ghost_name ≡ (counter f).ghost_name)
+        × (each * (2 * (elements + length block)) < limit
+        → (counter (S.groups (groups_in t)).judge.func).now ≡ each * (2 * (elements + length block))) }
 {}

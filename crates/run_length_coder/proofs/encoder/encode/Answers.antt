@@ -1,6 +1,27 @@
-use Rattle.std.proofs.Common.{rules}
-use Rattle.std.proofs.lemmas.Fn.{always_returns_same}
+use Rattle.std.proofs.lemmas.Grind.{common_steps}
+use Rattle.std.proofs.Common.{◌≡◌, [], append-nil, arith}
+use Rattle.std.proofs.lemmas.Result.{on_ok_weaker}
+use Rattle.std.specs.Io.KnownBytes.{Appends}
+use Rattle.std.proofs.KnownBytes.{Consumes-trans, Consumes-whole}
+use Rattle.run_length_coder.specs.Coding.{coded}
+use Rattle.run_length_coder.proofs.CodedRuns.{Written-coded}
 use Rattle.run_length_coder.proofs.encoder.encode.Goals as goal
 
-pub encode_runs-requires-clause-folds : goal.encode_runs-requires-clause-folds
-encode_runs-requires-clause-folds g c = always_returns_same _ _ _ (λ a r f' k. search rules)
+pub loop-preserved : goal.loop-preserved
+loop-preserved g c =
+    let (bytes, read, kept, written, room) = c.loop.invariant in
+    let same : c.deref.result.now ≡ c.read_block.new.buffer = grind (arith, common_steps) in
+    let step = c.in_ok-byte.ensures _ bytes kept written in
+    (_, Consumes-trans _ _ _ _ _ read c.in_ok-len.ensures.bytes.0, rw same at step.0, rw same at step.1, room)
+
+pub returns-then-len-eq0 : goal.returns-then-len-eq0
+returns-then-len-eq0 g c =
+    let (bytes, read, kept, so_far, room) = c.loop.invariant in
+    let (block, end) = c.in_ok-len.ensures.bytes in
+    let none = c.if-len-eq0.true in
+    on_ok_weaker c.write_run.result
+    (λ written. Consumes-whole _ _ bytes
+    (λ l. Appends (g.W.Write.contents c.args.out.now) (g.W.Write.contents c.write_run.new.out) (coded l))
+    (rw append-nil at (Consumes-trans _ _ _ bytes [] read (rw none at block))) (end none (omega (arith, room)))
+    (Written-coded _ _ _ bytes _ _ so_far written))
+    c.write_run.ensures

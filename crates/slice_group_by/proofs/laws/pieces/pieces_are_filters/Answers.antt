@@ -1,4 +1,6 @@
-use Rattle.slice_group_by.proofs.Pieces.PiecesOfLists.{piece_filter, keyed_filters}
+use Rattle.std.proofs.Common.{◌∙◌}
+use Rattle.slice_group_by.proofs.Pieces.PiecesOfLists.{piece_filter, keyed_by_first, keyed_filters}
+use Rattle.slice_group_by.proofs.Queues.StreamParts.{pieces_some}
 use Rattle.slice_group_by.proofs.laws.pieces.pieces_are_filters.Goals as goal
 
 pub returns-clause-each : goal.returns-clause-each
@@ -8,3 +10,8 @@ returns-clause-each g c key xs group x ascends =
 pub returns-clause-keyed : goal.returns-clause-keyed
 returns-clause-keyed g c key xs ascends =
     keyed_filters g.K.Ord.cmp g.met.K.Ord.total g.K.PartialEq.eq g.met.K.Ord.matches_eq key g.met.K.PartialEq.laws xs ascends
+
+pub returns-clause-by_first : goal.returns-clause-by_first
+returns-clause-by_first g c key d xs ascends =
+    keyed_by_first key d _ (pieces_some _ xs)
+    ∙ keyed_filters g.K.Ord.cmp g.met.K.Ord.total g.K.PartialEq.eq g.met.K.Ord.matches_eq key g.met.K.PartialEq.laws xs ascends

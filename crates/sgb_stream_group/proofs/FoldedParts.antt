@@ -1,0 +1,66 @@
+-- A fold over parts is a fold over the groups that they make.
+use Rattle.std.proofs.Common.{◌≡◌, ◌≢◌, ℕ, zero, suc, ◌+◌, length, get_or, Bool, true, false, cond, ◌&&◌, List, [], ◌∷◌, ◌++◌, map, refl, sym, ap, ◌∙◌, arith}
+use Rattle.std.specs.List.{AllByRecursion, count_by, fold}
+use Rattle.std.proofs.Math.ListN.{set}
+use Rattle.std.proofs.lemmas.List.{map-append}
+use Rattle.std.proofs.lemmas.List.Sums.{sum_by-append}
+use Rattle.sgb_stream_group.specs.Streams.{add_part, change_last, with_part, with_parts}
+
+module _ {A : Type 0} where
+  abbrev pub AllSome : List (List A) → Type 0
+  AllSome gs = AllByRecursion (λ g. g ≢ []) gs
+
+  longer_some : (g part : List A) → g ≢ [] → g ++ part ≢ []
+  longer_some [] part n = absurd (n refl)
+  longer_some (x ∷ xs) part n = λ e. cc e
+
+  still_some : (gs : List (List A)) (b : Bool) (part : List A) → AllSome gs → part ≢ [] → AllSome (with_part gs (b, part))
+  still_some [] true part h n = (n, tt)
+  still_some (g ∷ gs) true part h n = (h.0, still_some gs true part h.1 n)
+  still_some [] false part h n = tt
+  still_some (g ∷ []) false part h n = (longer_some g part h.0, tt)
+  still_some (g ∷ k ∷ ks) false part h n = (h.0, still_some (k ∷ ks) false part h.1 n)
+
+module _ {A V : Type 0} (f : List A → V) (more : V → List A → V)
+    (adds : (g part : List A) → g ≢ [] → part ≢ [] → more (f g) part ≡ f (g ++ part)) where
+  one_added : (gs : List (List A)) (b : Bool) (part : List A) → AllSome gs → part ≢ []
+      → add_part f more (map f gs) (b, part) ≡ map f (with_part gs (b, part))
+  one_added gs true part h n = sym (map-append f gs (part ∷ []))
+  one_added [] false part h n = refl
+  one_added (g ∷ []) false part h n = ap (λ v. v ∷ []) (adds g part h.0 n)
+  one_added (g ∷ k ∷ ks) false part h n = ap (λ l. f g ∷ l) (one_added (k ∷ ks) false part h.1 n)
+
+  pub folded : (gs : List (List A)) (parts : List (Bool × List A)) → AllSome gs → AllSome (map (λ x. x.1) parts)
+      → fold (add_part f more) (map f gs) parts ≡ map f (with_parts gs parts)
+  folded gs [] h n = refl
+  folded gs (x ∷ xs) h n =
+      ap (λ vs. fold (add_part f more) vs xs) (one_added gs x.0 x.1 h n.0)
+      ∙ folded (with_part gs x) xs (still_some gs x.0 x.1 h n.0) n.1
+
+module _ {A : Type 0} (q : List A → Bool) (stays : (g part : List A) → g ≢ [] → q (g ++ part) ≡ q g) where
+  count_first : (g : List A) (gs : List (List A)) → count_by q (g ∷ gs) ≡ cond (q g) 1 0 + count_by q gs
+  count_first g gs = omega (arith, sum_by-append (λ (h : List A). cond (q h) 1 0) (g ∷ []) gs)
+
+  one_counted : (gs : List (List A)) (b : Bool) (part : List A) → AllSome gs
+      → count_by q (with_part gs (b, part)) ≡ count_by q gs + cond (b && q part) 1 0
+  one_counted gs true part h = omega (arith, sum_by-append (λ (g : List A). cond (q g) 1 0) gs (part ∷ []))
+  one_counted [] false part h = refl
+  one_counted (g ∷ []) false part h = rw (stays g part h.0) (omega arith)
+  one_counted (g ∷ k ∷ ks) false part h =
+      let others = one_counted (k ∷ ks) false part h.1 in
+      omega (arith, count_first g (with_part (k ∷ ks) (false, part)), count_first g (k ∷ ks), others)
+
+  pub counted : (gs : List (List A)) (parts : List (Bool × List A)) → AllSome gs → AllSome (map (λ x. x.1) parts)
+      → count_by q (with_parts gs parts) ≡ count_by q gs + count_by (λ x. x.0 && q x.1) parts
+  counted gs [] h n = omega arith
+  counted gs (x ∷ xs) h n =
+      counted (with_part gs x) xs (still_some gs x.0 x.1 h n.0) n.1
+      ∙ omega (arith, one_counted gs x.0 x.1 h, sum_by-append (λ (y : Bool × List A). cond (y.0 && q y.1) 1 0) (x ∷ []) xs)
+
+-- the last value, changed where it stands
+pub last_set : {V : Type 0} (h : V → V) (vs : List V) (i : ℕ) (v : V) → i + 1 ≡ length vs → v ≡ get_or vs i v → set vs i (h v) ≡ change_last h vs
+last_set h [] i v e is = absurd (omega arith)
+last_set h (w ∷ []) zero v e is = ap (λ x. h x ∷ []) is
+last_set h (w ∷ []) (suc i) v e is = absurd (omega arith)
+last_set h (w ∷ x ∷ xs) zero v e is = absurd (omega arith)
+last_set h (w ∷ x ∷ xs) (suc i) v e is = ap (λ l. w ∷ l) (last_set h (x ∷ xs) i v (omega arith) is)
