@@ -1,15 +1,15 @@
 -- How the keys of an index stand to a key.
-use Rattle.std.proofs.Common.{◌≡◌, ℕ, ◌+◌, ◌≤◌, not, nat_eq, nat_lt, List, arith}
+use Rattle.std.proofs.Common.{◌≡◌, ℕ, ◌≤◌, nat_eq, nat_lt, List, arith}
 use Rattle.std.proofs.lemmas.Bool.Decides.{nat_tests}
 use Rattle.std.proofs.Math.ListN.{get_or-map}
 use Rattle.std.proofs.lemmas.List.{length-map}
 use Rattle.std.specs.List.{filter}
-use Rattle.std.specs.Ordering.{nat_cmp, ordering_index, is_lt, is_eq, is_gt}
+use Rattle.std.specs.Ordering.{nat_cmp, ordering_index, is_lt, is_eq}
 use Rattle.std.specs.Prelude.{length, map}
 use Rattle.std.specs.declared.cmp.Ordering.{Ordering}
 use Rattle.slice_group_by.specs.Search.{IsLessEqualGreater}
 use Rattle.index_reader.specs.declared.entry.Entry.{Entry}
-use Rattle.index_reader.specs.Keys.{IsAscending, of_key, lower, at_least}
+use Rattle.index_reader.specs.Keys.{IsAscending, of_key, lower}
 
 -- the index of a rank rises with the number
 rank_rises : (a b k : ℕ) → a ≤ b → ordering_index (nat_cmp a k) ≤ ordering_index (nat_cmp b k)
@@ -20,9 +20,6 @@ less a k = grind (arith, nat_tests)
 
 equal : (a k : ℕ) → is_eq (nat_cmp a k) ≡ nat_eq a k
 equal a k = grind (arith, nat_tests)
-
-greater : (a k : ℕ) → is_gt (nat_cmp a k) ≡ not (nat_lt a (k + 1))
-greater a k = grind (arith, nat_tests)
 
 module _ (key : ℕ) where
   -- how an entry stands to the key
@@ -44,6 +41,3 @@ module _ (key : ℕ) where
 
   pub of_key_is : (xs : List Entry) → filter (λ e. is_eq (stands e)) xs ≡ of_key key xs
   of_key_is xs i = filter (λ e. equal e.key key i) xs
-
-  pub at_least_is : (xs : List Entry) → filter (λ e. is_gt (stands e)) xs ≡ at_least (key + 1) xs
-  at_least_is xs i = filter (λ e. greater e.key key i) xs

@@ -1,5 +1,5 @@
 -- What is said of the keys of entries.
-use Rattle.std.specs.Prelude.{◌≡◌, ℕ, ◌-◌, ◌<◌, List, [], ◌∷◌, length, not, nat_eq, nat_lt, Option, Some}
+use Rattle.std.specs.Prelude.{◌≡◌, ℕ, ◌-◌, ◌<◌, List, [], ◌∷◌, length, nat_eq, nat_lt, Option, Some}
 use Rattle.std.specs.List.{filter, slice_get}
 use Rattle.std.specs.Option.{option_map}
 use Rattle.std.specs.List.Sorted.{IsNonDecreasingBy}
@@ -27,10 +27,6 @@ of_key key entries = filter (λ entry. nat_eq entry.key key) entries
 -- those of lower keys
 abbrev pub lower : ℕ → List Entry → List Entry
 lower key entries = filter (λ entry. nat_lt entry.key key) entries
-
--- the others: those of this key and of higher ones
-abbrev pub at_least : ℕ → List Entry → List Entry
-at_least key entries = filter (λ entry. not (nat_lt entry.key key)) entries
 
 -- the greatest key of entries that ascend: the last one
 abbrev pub greatest : List Entry → Option ℕ

@@ -1,9 +1,11 @@
 //! Looks keys up in a sorted index: `program.rt` has what is read and what is written.
 //!
-//! What is kept in memory is the index and the longest line. A query takes time in proportion to the logarithm of the length of
-//! the index, and to what it finds.
+//! What is kept in memory is the index, a block of queries and the longest line. A query takes time in proportion to the logarithm
+//! of the length of the index, and to what it finds.
 #![tactic(auto)]
 
+mod answer;
+mod block;
 mod entry;
 mod index;
 mod lookup;

@@ -1,34 +1,33 @@
 //! The lines that answer queries.
 ghost use Rattle.std.specs.Prelude.{OnOk};
 ghost use Rattle.std.specs.Io.KnownBytes.{Appends};
-ghost use Rattle.index_reader.specs.Keys.{of_key};
-ghost use Rattle.index_reader.specs.Answers.{place_text, places_text, answer_line};
+ghost use Rattle.index_reader.specs.Answers.{line, place_text, places_text};
+ghost use Rattle.index_reader.specs.Blocks.{places_of};
 
-use crate::index::Index;
-use crate::lookup::places_of;
+use crate::answer::Answer;
 use std::io;
 use std::io::Write;
 
-/// Writes the places of all entries of the key, in the order of the index, or that there are none.
-pub fn write_answer<W: Write>(index: &Index, key: u32, out: &mut W) -> io::Result<()>
+/// Writes the key, and the places of the answer in their order, or that there are none.
+pub fn write_answer<W: Write>(answer: &Answer<'_>, out: &mut W) -> io::Result<()>
     ensures { OnOk result
-        (Appends (W.contents out.old) (W.contents out.new) (answer_line key (of_key key index.now))) }
+        (Appends (W.contents out.old) (W.contents out.new) (line answer.now.key (places_of answer.now))) }
 {
-    let places = places_of(index, key).places;
-    write!(out, "{key}")?;
+    write!(out, "{}", answer.key)?;
     out.write_all(b":")?;
-    write_places(places, out)?;
+    write_places(answer, out)?;
     out.write_all(b"\n")
 }
 
 // The places, or that there are none.
-fn write_places<W: Write>(places: &[u64], out: &mut W) -> io::Result<()>
-    ensures { OnOk result (Appends (W.contents out.old) (W.contents out.new) (places_text places.now)) }
+fn write_places<W: Write>(answer: &Answer<'_>, out: &mut W) -> io::Result<()>
+    ensures { OnOk result (Appends (W.contents out.old) (W.contents out.new) (places_text (places_of answer.now))) }
 {
-    if places.is_empty() {
+    let Some(first) = answer.first else {
         return out.write_all(b" none");
-    }
-    for place in places {
+    };
+    write_place(first, out)?;
+    for place in answer.others {
         write_place(*place, out)?;
     }
     Ok(())

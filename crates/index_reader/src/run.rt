@@ -5,9 +5,9 @@ ghost use Rattle.program_parts.specs.Read.{AreRead};
 ghost use Rattle.index_reader.specs.Runs.{Answers, IsNoEntry, IsNoQuery, SaysEntry, SaysQuery, answers, count_line, count_text};
 ghost use Rattle.index_reader.specs.Words.{words};
 
+use crate::block::{answer_block, answer_if_full};
 use crate::entry::{next_entry, parse_query};
 use crate::index::Index;
-use crate::output::write_answer;
 use program_parts::lines::Lines;
 use program_parts::omitted::Omitted;
 use std::alloc::Global;
@@ -35,7 +35,14 @@ pub fn answer_all<I: BufRead + Drop, Q: BufRead + Drop, W: Write, E: Write>(
     let mut entry_lines = Lines::new(alloc, index);
     let (index, are_entries) = read_index(alloc, index_name, &mut entry_lines, complaints)?;
     let mut query_lines = Lines::new(alloc, queries);
-    let are_queries = answer_queries(&index, queries_name, &mut query_lines, out, complaints)?;
+    let are_queries = answer_queries(
+        alloc,
+        &index,
+        queries_name,
+        &mut query_lines,
+        out,
+        complaints,
+    )?;
     out.flush()?;
     Ok(are_entries && are_queries)
 }
@@ -68,6 +75,7 @@ fn read_index<R: BufRead, E: Write>(
 
 // Answers the queries up to the end, and writes how many there were. Whether each line was one.
 fn answer_queries<R: BufRead, W: Write, E: Write>(
+    alloc: Global,
     index: &Index,
     name: &str,
     lines: &mut Lines<R>,
@@ -81,16 +89,19 @@ fn answer_queries<R: BufRead, W: Write, E: Write>(
         is_whole (E.contents complaints.old) (E.contents complaints.new))) }
 {
     let mut queries = 0u64;
+    let mut keys = Vec::new(alloc);
     let mut omitted = Omitted::none(name);
     for _ in 0..u64::MAX {
         if !lines.advance()? {
+            answer_block(alloc, index, &keys, out)?;
             omitted.finish(complaints)?;
             write_count(queries, out)?;
             return Ok(omitted.is_empty());
         }
         match parse_query(&lines.line) {
             Ok(key) => {
-                write_answer(index, key, out)?;
+                answer_if_full(alloc, index, &mut keys, out)?;
+                keys.push(key)?;
                 queries = queries.saturating_add(1);
             }
             Err(problem) => omitted.say(complaints, lines.number, problem)?,

@@ -1,63 +1,69 @@
 use Rattle.std.proofs.Common.{arith, refl, ◌∙◌, ◌∷◌, [], ◌++◌, length-append}
 use Rattle.std.proofs.KnownBytes.{Appends-nil}
-use Rattle.program_parts.proofs.Appended.{appends_both, appends_last}
+use Rattle.program_parts.proofs.Appended.{appends_both}
 use Rattle.program_parts.proofs.Given.{none_found, some_found}
 use Rattle.program_parts.proofs.KeptSoFar.{none_so_far, one_kept, one_left, are_read}
-use Rattle.index_reader.specs.Answers.{answer_line}
-use Rattle.index_reader.specs.Keys.{of_key}
+use Rattle.index_reader.proofs.Answered.{answers_both, then_more}
 use Rattle.index_reader.specs.Runs.{SaysQuery, IsNoQuery, answers, count_line}
 use Rattle.index_reader.specs.Words.{words}
 use Rattle.index_reader.proofs.run.answer_queries.Goals as goal
-use Rattle.index_reader.proofs.run.answer_queries.Goals.{in-Ok+in_ok-write_answer-in-Ok, in-Err+in_ok-say-in-Err}
+use Rattle.index_reader.proofs.run.answer_queries.Goals.{in-Ok+in_ok-answer_if_full-in-Ok+in_ok-push-in-Ok, in-Err+in_ok-say-in-Err}
 
 pub loop-init : goal.loop-init
 loop-init g c = (
   [],
   Appends-nil _,
   c.none-omitted.ensures.name,
-  refl,
-  rw (c.requires, c.none-omitted.ensures.count) (none_so_far SaysQuery IsNoQuery _ words _ _),
+  rw c.new-keys.ensures.items refl,
+  rw (c.requires, c.none-omitted.ensures.count, c.new-keys.ensures.items) (none_so_far SaysQuery IsNoQuery _ words _ _),
 )
 
 pub returns-then-not-branch : goal.returns-then-not-branch
 returns-then-not-branch g c =
-    let (keys, writes, named, queries, s) = c.loop.invariant in
+    let (done, writes, named, queries, s) = c.loop.invariant in
+    let keys = done ++ c.loop.keys.items in
+    let index = c.args.index.now in
+    let last = rw c.deref.ensures.value at c.in_ok-answer_block.ensures in
+    let all = answers_both index done c.loop.keys.items _ _ _ writes last in
     let end = none_found _ c.in_ok-advance.field-0 c.in_ok-advance.ensures.found c.if-not-branch.true in (
       keys,
-      appends_both _ _ _ (answers c.args.index.now keys) (count_line keys) writes
-          (rw queries at c.in_ok-write_count.ensures),
+      appends_both _ _ _ (answers index keys) (count_line keys) all (rw queries at c.in_ok-write_count.ensures),
       rw c.is_empty.ensures
           (are_read SaysQuery IsNoQuery _ words _ _ _ _ _ _ keys c.loop.omitted.count s end (rw named at c.in_ok-finish.ensures)),
     )
 
 pub loop-preserved : goal.loop-preserved
 loop-preserved g c =
-    let (keys, writes, named, queries, s) = c.loop.invariant in
+    let (done, writes, named, queries, s) = c.loop.invariant in
+    let keys = done ++ c.loop.keys.items in
     let found = c.in_ok-advance.ensures in
     let some = some_found _ c.in_ok-advance.field-0 found.found c.if-not-branch.false in
     let line = c.advance.new.self.line.items in
     let count = c.loop.omitted.count in
     let counts = found.number c.if-not-branch.false in
     elim c.match-parse_query.branch [
-      | in-Ok+in_ok-write_answer-in-Ok w ↦
-          rw (w.out-is, w.complaints-is, w.queries-is, w.omitted-is) (
-            keys ++ w.in-Ok.key ∷ [],
-            appends_last _ _ _ (λ key. answer_line key (of_key key c.args.index.now)) keys w.in-Ok.key writes
-                w.in_ok-write_answer-in-Ok.ensures,
+      | in-Ok+in_ok-answer_if_full-in-Ok+in_ok-push-in-Ok w ↦
+          let key = w.in-Ok.key in
+          let (more, split, wrote) = w.in_ok-answer_if_full-in-Ok.ensures in
+          let same = then_more done more _ c.loop.keys.items _ key split w.in_ok-push-in-Ok.ensures.items in
+          rw (w.out-is, w.complaints-is, w.queries-is, w.omitted-is, w.keys-is) (
+            done ++ more,
+            answers_both c.args.index.now done more _ _ _ writes wrote,
             named,
-            (let added = w.saturating_add-queries.ensures in omega (arith, queries, added, length-append keys (w.in-Ok.key ∷ []))),
-            one_kept SaysQuery IsNoQuery _ words _ _ _ _ _ _ _ keys count line s some found.line found.rest counts w.in-Ok.key
-                (rw c.deref.ensures.value at w.in-Ok.ensures.read),
+            (let added = w.saturating_add-queries.ensures in
+                rw same (omega (arith, queries, added, length-append keys (key ∷ [])))),
+            rw same (one_kept SaysQuery IsNoQuery _ words _ _ _ _ _ _ _ keys count line s some found.line found.rest counts key
+                (rw c.deref-in-loop.ensures.value at w.in-Ok.ensures.read)),
           )
       | in-Err+in_ok-say-in-Err w ↦
           let said = w.in_ok-say-in-Err.ensures in
-          rw (w.out-is, w.complaints-is, w.queries-is, w.omitted-is) (
-            keys,
+          rw (w.out-is, w.complaints-is, w.queries-is, w.omitted-is, w.keys-is) (
+            done,
             writes,
             said.name ∙ named,
             queries,
             one_left SaysQuery IsNoQuery _ words _ _ _ _ _ _ _ keys count line s some found.line found.rest counts _ w.in-Err.problem _
-                (rw c.deref.ensures.value at w.in-Err.ensures.wrong)
+                (rw c.deref-in-loop.ensures.value at w.in-Err.ensures.wrong)
                 said.count (rw named at said.said) said.silent,
           )
     ]
