@@ -8,7 +8,8 @@ use crate::index::Index;
 use slice_group_by::exponential_equal_places_by_ref;
 use slice_group_by::laws::{always_computes, range_calls_count, range_places};
 
-/// The places of the entries of a key, how many entries stand before those, and how many comparisons it took to find them.
+/// The places of the entries of a key, how many entries at the front are lower, and how many comparisons it took to find
+/// them.
 #[derive(Clone, Copy)]
 pub struct Found<'a> {
     pub places: &'a [u64],
