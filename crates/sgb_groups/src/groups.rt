@@ -108,7 +108,13 @@ impl<'a, T, J, W> SliceGroups<'a, T, J, W> {
     pub fn into_judge(self) -> J
         ensures { result ≡ (groups_of self.entry).judge }
     {
-        let SliceGroups { judge, slice: _, low: _, high: _, way: _ } = self;
+        let SliceGroups {
+            judge,
+            slice: _,
+            low: _,
+            high: _,
+            way: _,
+        } = self;
         judge
     }
 }

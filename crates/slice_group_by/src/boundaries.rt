@@ -118,7 +118,11 @@ pub fn linear_boundary_by<T, P: FnMut(&T, &T) -> bool>(
         × LinearQuestions (by_predicate P.FnMut) Front (drop (index - 1) slice.now) (result - (index - 1))
         (predicate_judge predicate) t }
 {
-    first_boundary(slice, index, LinearGroupBy::new(from_before(slice, index), predicate))
+    first_boundary(
+        slice,
+        index,
+        LinearGroupBy::new(from_before(slice, index), predicate),
+    )
 }
 
 /// `linear_boundary` by a key, for the groups of `LinearGroupByKey`: it asks what one call of it asks (`questions`).
@@ -144,7 +148,11 @@ pub fn linear_boundary_by_key<T, K: PartialEq + Drop, F: FnMut(&T) -> K>(
     ensures questions { 0 < index → index ≤ length slice.now → (t : KeyJudge F K)
         × LinearQuestions (by_key F.FnMut K.eq) Front (drop (index - 1) slice.now) (result - (index - 1)) (key_judge func) t }
 {
-    first_boundary(slice, index, LinearGroupByKey::new(from_before(slice, index), func))
+    first_boundary(
+        slice,
+        index,
+        LinearGroupByKey::new(from_before(slice, index), func),
+    )
 }
 
 /// `linear_boundary` by galloping, for a slice that is grouped for `==`, such as a sorted one. It compares at most
@@ -162,7 +170,11 @@ pub fn exponential_boundary<T: PartialEq>(slice: &[T], index: usize) -> usize
     ensures zero { index ≡ 0 → result ≡ 0 }
     ensures first { IsGrouped T.eq slice.now → (n : ℕ) → index ≤ n → PartsAt T.eq slice.now n → result ≤ n }
 {
-    first_boundary(slice, index, ExponentialGroup::new(from_before(slice, index)))
+    first_boundary(
+        slice,
+        index,
+        ExponentialGroup::new(from_before(slice, index)),
+    )
 }
 
 /// `exponential_boundary` by a predicate, for a slice that is grouped for it and the groups of `ExponentialGroupBy`. It asks what
@@ -187,7 +199,11 @@ pub fn exponential_boundary_by<T, P: FnMut(&T, &T) -> bool>(
         × SearchQuestions (by_predicate P.FnMut) exponential Front (drop (index - 1) slice.now) (result - (index - 1))
         (predicate_judge predicate) t }
 {
-    first_boundary(slice, index, ExponentialGroupBy::new(from_before(slice, index), predicate))
+    first_boundary(
+        slice,
+        index,
+        ExponentialGroupBy::new(from_before(slice, index), predicate),
+    )
 }
 
 /// `exponential_boundary` by a key, for a slice that is grouped by it, such as one that ascends by it, and the groups of
@@ -213,5 +229,9 @@ pub fn exponential_boundary_by_key<T, K: PartialEq + Drop, F: FnMut(&T) -> K>(
         × SearchQuestions (by_key F.FnMut K.eq) exponential Front (drop (index - 1) slice.now) (result - (index - 1))
         (key_judge func) t }
 {
-    first_boundary(slice, index, ExponentialGroupByKey::new(from_before(slice, index), func))
+    first_boundary(
+        slice,
+        index,
+        ExponentialGroupByKey::new(from_before(slice, index), func),
+    )
 }

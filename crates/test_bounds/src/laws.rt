@@ -2,8 +2,8 @@
 use slice_group_by::laws::*;
 use slice_group_by::{
     BinaryGroupBy, DedupWithCount, ExponentialGroupByKeyMut, GroupQueue, Keyed, LinearGroupBy,
-    LinearGroupByKey, LinearStrGroupByKeyMut, MergeJoin, MergeJoinBy, Offsets, Parts, RemainderLen, SliceQueue,
-    WithKeys, WithOffsets,
+    LinearGroupByKey, LinearStrGroupByKeyMut, MergeJoin, MergeJoinBy, Offsets, Parts, RemainderLen,
+    SliceQueue, WithKeys, WithOffsets,
 };
 use std::cmp::Ordering;
 use std::iter::Map;
@@ -116,7 +116,13 @@ pub fn of_counts<'a, T: 'a, Q: RemainderLen + SliceQueue<'a, T>>(
     sees_counts(groups);
 }
 
-pub fn of_streams<T, P: FnMut(&T, &T) -> bool, F: FnMut(&T) -> K, K: PartialEq + Drop, Q: GroupQueue>(
+pub fn of_streams<
+    T,
+    P: FnMut(&T, &T) -> bool,
+    F: FnMut(&T) -> K,
+    K: PartialEq + Drop,
+    Q: GroupQueue,
+>(
     parts: &Parts<Q>,
     linear: &Parts<LinearGroupBy<'_, T, P>>,
     by_key: &Parts<LinearGroupByKey<'_, T, F, K>>,

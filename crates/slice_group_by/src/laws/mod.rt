@@ -55,10 +55,10 @@ use queue::GroupQueue;
 pub use ranks::rank_groups;
 use sgb_linear_group::linear_group::Linear;
 pub use sgb_merge_join::laws::{
-    always_compares, joins_find_partners, joins_in_parts, merge_is_unique, merge_parts_join, merges_ask,
-    merges_count, merges_exist, merges_interleave, merges_may_go_on, partners_are_equal,
-    parts_or_empty, sees_merge, sees_merge_by_keys, sees_merge_in_order, semi_joins_are_filters,
-    unions_ascend,
+    always_compares, joins_find_partners, joins_in_parts, merge_is_unique, merge_parts_join,
+    merges_ask, merges_count, merges_exist, merges_interleave, merges_may_go_on,
+    partners_are_equal, parts_or_empty, sees_merge, sees_merge_by_keys, sees_merge_in_order,
+    semi_joins_are_filters, unions_ascend,
 };
 pub use sgb_number_group::class_counts::class_counts_add_up;
 use sgb_search::judge::Judge;
