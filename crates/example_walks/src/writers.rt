@@ -109,6 +109,7 @@ pub fn reverse_groups(slice: &mut [u8])
 pub fn reverse_groups_of(vec: &mut Vec<u8>)
     ensures { vec.new.items ≡ concat (map reverse (split nat_eq vec.old.items)) }
 {
+    one_split::<u8>();
     resolve_in(vec, |part| reversed(part));
 }
 
