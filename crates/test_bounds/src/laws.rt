@@ -129,7 +129,6 @@ pub fn of_streams<
 ) {
     parts_join(parts);
     parts_fold::<_, T>(parts);
-    streams_ask(parts);
     parts_ask(linear);
     streams_count(linear);
     streams_count_keys(by_key);

@@ -74,8 +74,8 @@ pub use sgb_search::laws::{
 };
 pub use sorted::{is_sorted_for_groups, sorted_by_key_ascends, sorts_ascend};
 pub use streams::{
-    last_changes, parts_ask, parts_begin_by_keys, parts_fold, parts_join, streams_ask,
-    streams_count, streams_count_keys,
+    last_changes, parts_ask, parts_begin_by_keys, parts_fold, parts_join, streams_count,
+    streams_count_keys,
 };
 
 /// One call on a queue that is settled for a test: it gives the outermost piece of the split of what remained, or `None`

@@ -5,12 +5,12 @@ ghost use Rattle.std.specs.Borrow.{MutBor};
 ghost use Rattle.std.specs.Fn.{CalledAt};
 ghost use Rattle.std.specs.Iterator.{Drains, Yields};
 ghost use Rattle.std.specs.List.{fold};
-ghost use Rattle.sgb_search.specs.Judges.{AsksWithin, IsRun};
+ghost use Rattle.sgb_search.specs.Judges.{IsRun};
 ghost use Rattle.sgb_search.specs.Split.{concat, last, neighbours, split};
 ghost use Rattle.sgb_search.specs.declared.end.End.TheVariants.{Front};
 ghost use Rattle.sgb_stream_group.specs.declared.parts.Parts.{Parts};
 ghost use Rattle.sgb_stream_group.specs.Streams.{AsksBlocks, AsksEnds, AsksPairs, GivesPart, across, add_part};
-ghost use Rattle.sgb_stream_group.specs.Streams.{as_parts, asked_pairs, begins_at, begins_of, change_last, groups_in};
+ghost use Rattle.sgb_stream_group.specs.Streams.{as_parts, begins_at, begins_of, change_last, groups_in};
 ghost use Rattle.sgb_stream_group.specs.Streams.{last_after, pair_list, with_part, with_parts};
 ghost use Rattle.slice_group_by.specs.Counts.{RaisesJust};
 
@@ -88,14 +88,6 @@ pub fn parts_begin_by_keys<T, K>()
         ≡ begins_at (λ x y. eq (k x) (k y)) (across (last before) block) }
     ensures kept { (k : T → K) (before block : List T)
         → last_after (option_map k (last before)) (map k block) ≡ option_map k (last (before ++ block)) }
-{}
-
-/// The questions of all blocks, the pair across and the neighbours of each, are those of one linear walk, in its order:
-/// n - 1 of n elements. A block's groups ask just what they take off those due (`calls`).
-pub fn streams_ask<Q: GroupQueue>(_parts: &Parts<Q>)
-    ensures once { (blocks : List (List Q.Element)) → asked_pairs None blocks ≡ neighbours (concat blocks) }
-    ensures calls { (s t : Parts Q) (parts : List (Bool × Q.Item)) → Yields (GivesPart (Q.gives Front)) s parts t
-        → AsksWithin Q.asked Q.due Q.exact (groups_in s) (groups_in t) }
 {}
 
 /// The questions of a judge that is asked about one block after another are those of one linear walk over all of them,
