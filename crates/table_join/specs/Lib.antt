@@ -1,7 +1,7 @@
 pub mod Input
 pub mod Joins
 pub mod Kinds
-pub mod Merging
+pub mod Merged
 pub mod Rows
 pub mod Runs
 pub mod Tables

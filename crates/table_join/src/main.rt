@@ -1,12 +1,11 @@
 //! Joins two tables that are sorted by their keys. The keys are texts that ascend byte by byte, and one may stand
 //! several times. `program.rt` has what is read and what is written.
 //!
-//! Each line of the join goes out as it is found. What is kept in memory is a block of each table, a row of each and the right
-//! rows of one key, or one of these where the join writes no right rows.
+//! The tables are read in blocks. What is kept in memory is a block of each table, and the right rows of one key, or one of these if the
+//! join writes no right rows.
 #![tactic(auto)]
 
 mod excerpt;
-mod group;
 mod join;
 mod kind;
 mod output;
