@@ -11,4 +11,5 @@ invariant-loop g l =
     (done : List ℕ) × Appends (g.W.Write.contents l.initial.out) (g.W.Write.contents l.out) (answers l.index done)
     × (source_of l.omitted ≡ source_of_file l.name) × (l.queries ≡ min (length (done ++ l.keys.items)) (2 ^ 64 - 1))
     × KeptSoFar SaysQuery IsNoQuery (source_of_file l.name) words (g.R.Read.remaining l.initial.lines.reader)
-    (g.R.Read.remaining l.lines.reader) l.lines.number (g.E.Write.contents l.initial.complaints) (g.E.Write.contents l.complaints) (done ++ l.keys.items) l.omitted.count
+    (g.R.Read.remaining l.lines.reader) l.lines.number (g.E.Write.contents l.initial.complaints) (g.E.Write.contents l.complaints)
+    (done ++ l.keys.items) l.omitted.count

@@ -9,4 +9,5 @@ abbrev pub invariant-loop : goal.invariant-loop
 invariant-loop g l =
     (source_of l.omitted ≡ source_of_file l.name)
     × KeptSoFar SaysEntry IsNoEntry (source_of_file l.name) words (g.R.Read.remaining l.initial.lines.reader)
-    (g.R.Read.remaining l.lines.reader) l.lines.number (g.E.Write.contents l.initial.complaints) (g.E.Write.contents l.complaints) l.index l.omitted.count
+    (g.R.Read.remaining l.lines.reader) l.lines.number (g.E.Write.contents l.initial.complaints) (g.E.Write.contents l.complaints)
+    l.index l.omitted.count
