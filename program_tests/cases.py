@@ -1,19 +1,19 @@
 """What the programs write and say, written out by hand: the program, its arguments, its input, its status, what it writes, and what it
 says on standard error. Of two inputs the first is a file `first`, and the second standard input."""
 
-LEFT_OUT = b"%s: line %d is left out: %s\n"
+LEFT_OUT = b"%s: %s: line %d is left out: %s\n"
 NO_COMMA = b"it has no comma"
 NO_TEXT = b"it is not UTF-8"
 
 
-def said(*lines, file=b"-"):
-    """The complaints of these lines of a file: a number and why each is left out."""
-    return b"".join(LEFT_OUT % (file, *line) for line in lines)
+def said(program, *lines, file=b"-"):
+    """The complaints of a program about these lines of a file: a number and why each is left out."""
+    return b"".join(LEFT_OUT % (program.encode(), file, *line) for line in lines)
 
 
-def first(*lines):
-    """Those of the first file, of texts that need not be ASCII."""
-    return said(*((number, why.encode()) for number, why in lines), file=b"first")
+def first(program, *lines):
+    """Those about the first file, of texts that need not be ASCII."""
+    return said(program, *((number, why.encode()) for number, why in lines), file=b"first")
 
 
 def hundred(why):
@@ -21,19 +21,25 @@ def hundred(why):
     return [(number, why) for number in range(1, 101)]
 
 
+def tokens(*counts):
+    """The lines of token_counter."""
+    return b"runs of letters: %d\nruns of digits: %d\nruns of white space: %d\nruns of other bytes: %d\n" % counts
+
+
 NAMES = ["run_length_coder", "uniq_count", "token_counter", "grouped_report", "table_join", "index_reader"]
-NO_RUN = b"it is no run: two numbers with a space between them"
+NO_RUN = b"it is not two numbers with a space between them"
 NO_BYTE = b"its byte is no number up to 255"
 NO_COUNT = b"its count is no number of 64 bits"
 RUNS = b"2 97\n0 98\n3\n\n1 256\nx 1\n18446744073709551616 1\n\xff 1\n1 98 \n1 99\r\n3 100"
 WRONG_RUNS = said(
+    "run_length_coder",
     (2, b"its count is 0"), (3, NO_RUN), (4, NO_RUN), (5, NO_BYTE), (6, NO_COUNT), (7, NO_COUNT), (8, NO_RUN), (9, NO_BYTE)
 )
 
 LOWER = 'its key %s is lower than %s, the greatest before it'
 TABLES = (b"a,1\nb,2\n", b"b,3\nc,4\n")
 WRONG_TABLES = (b"a,1\nno\nb,2\n", b"b,3\nnone\nc,4")
-WRONG_LINES = said((2, NO_COMMA)) + first((2, "it has no comma"))
+WRONG_LINES = said("table_join", (2, NO_COMMA)) + first("table_join", (2, "it has no comma"))
 JOINED = {"inner": b"b,2,3\n", "left": b"a,1,\nb,2,3\n", "full": b"a,1,\nb,2,3\nc,,4\n", "semi": b"b,2\n", "anti": b"a,1\n"}
 
 CASES = [
@@ -45,9 +51,9 @@ CASES = [
     ("run_length_coder", ["decode"], b"65537 7\n1 8\n", 0, b"\x07" * 65537 + b"\x08", b""),
     ("uniq_count", [], b"", 0, b"", b""),
     ("uniq_count", [], b"a\na\nb\r\nb\n\n\n\0\n\xff\n\xff", 0, b"2 a\n1 b\r\n1 b\n2 \n1 \0\n2 \xff\n", b""),
-    ("token_counter", [], b"", 0, b"letters: 0\ndigits: 0\nspace: 0\nother: 0\n", b""),
-    ("token_counter", [], b"let x1 = \xe9\xa5\xb0\xff;\r\n\0", 0, b"letters: 2\ndigits: 1\nspace: 4\nother: 3\n", b""),
-    ("token_counter", [], b"aZ09 \t\n\x0b\x0c\r[`{@/:", 0, b"letters: 1\ndigits: 1\nspace: 2\nother: 2\n", b""),
+    ("token_counter", [], b"", 0, tokens(0, 0, 0, 0), b""),
+    ("token_counter", [], b"let x1 = \xe9\xa5\xb0\xff;\r\n\0", 0, tokens(2, 1, 4, 3), b""),
+    ("token_counter", [], b"aZ09 \t\n\x0b\x0c\r[`{@/:", 0, tokens(1, 1, 2, 2), b""),
     ("grouped_report", [], b"", 0, b"total: 0\n", b""),
     (
         "grouped_report", [], b"9,1\r\n7,18446744073709551615\n9,2\n7,+1", 0,
@@ -55,7 +61,7 @@ CASES = [
     ),
     (
         "grouped_report", [], b"5,6\nno\n\xff,2\n4294967296,3\n5,7\n1,\x00\n", 1, b"department 5: 13\ntotal: 13\n",
-        said((2, NO_COMMA), (3, NO_TEXT), (4, b"its department is no number of 32 bits"), (6, b"its amount is no number of 64 bits")),
+        said("grouped_report", (2, NO_COMMA), (3, NO_TEXT), (4, b"its department is no number of 32 bits"), (6, b"its amount is no number of 64 bits")),
     ),
     ("table_join", ["full"], (b"a,1\nb,2\nb,x,y", b"b,3\r\nb,4\nc,5"), 0, b"a,1,\nb,2,3\nb,2,4\nb,x,y,3\nb,x,y,4\nc,,5\n", b""),
     *(("table_join", [kind], TABLES, 0, rows, b"") for kind, rows in JOINED.items()),
@@ -63,17 +69,18 @@ CASES = [
     ("table_join", [], TABLES, 0, JOINED["inner"], b""),
     (
         "table_join", ["semi"], (b"b,1\nno\n\xff,2\na\"\0,3\n", b"b,4\nwrong\n"), 1, b"b,1\n",
-        said((2, NO_COMMA)) + first((2, "it has no comma"), (3, "it is not UTF-8"), (4, LOWER % (r'"a\"\0"', '"b"'))),
+        said("table_join", (2, NO_COMMA))
+        + first("table_join", (2, "it has no comma"), (3, "it is not UTF-8"), (4, LOWER % (r'"a\"\0"', '"b"'))),
     ),
     # a key is written as `{:?}` writes it, up to 80 bytes
     (
         "table_join", ["anti"], ("é,1\nä,2\na,3\nà\"\t\u200b,4\n".encode(), b"z,5\n"), 1, "é,1\n".encode(),
-        first((2, LOWER % ('"ä"', '"é"')), (3, LOWER % ('"a"', '"é"')), (4, LOWER % (r'"à\"\t\u{200b}"', '"é"'))),
+        first("table_join", (2, LOWER % ('"ä"', '"é"')), (3, LOWER % ('"a"', '"é"')), (4, LOWER % (r'"à\"\t\u{200b}"', '"é"'))),
     ),
-    ("table_join", ["anti"], ("é\"\x1b,1\na,2\n".encode(), b""), 1, "é\"\x1b,1\n".encode(), first((2, LOWER % ('"a"', r'"é\"\u{1b}"')))),
+    ("table_join", ["anti"], ("é\"\x1b,1\na,2\n".encode(), b""), 1, "é\"\x1b,1\n".encode(), first("table_join", (2, LOWER % ('"a"', r'"é\"\u{1b}"')))),
     (
         "table_join", ["semi"], (b"b" * 80 + b",1\n" + b"a" * 81 + b",2\n" + "é".encode() * 41 + b",3\n" + b"c,4\n", b""), 1, b"",
-        first((2, LOWER % (f'"{"a" * 80}"..', f'"{"b" * 80}"')), (4, LOWER % ('"c"', f'"{"é" * 40}"..'))),
+        first("table_join", (2, LOWER % (f'"{"a" * 80}"..', f'"{"b" * 80}"')), (4, LOWER % ('"c"', f'"{"é" * 40}"..'))),
     ),
     ("table_join", [], (b"", b""), 0, b"", b""),
     ("table_join", ["-", "-"], b"", 2, b"", b"table_join: both files cannot be standard input\n"),
@@ -84,23 +91,23 @@ CASES = [
     (
         "index_reader", [], (b"5,1\nno\n\xff,2\n-5,3\n6,x\n4,4\n--\n", b"--\n\xff\n"), 1, b"0 queries\n",
         first(
-            (2, "it has no comma"), (3, "it is not UTF-8"), (4, "its key is no number of 32 bits"), (5, "its place is no number of 64 bits"),
+            "index_reader", (2, "it has no comma"), (3, "it is not UTF-8"), (4, "its key is no number of 32 bits"), (5, "its place is no number of 64 bits"),
             (6, LOWER % (4, 5)), (7, "it has no comma"),
-        ) + said((1, b"the query is no number of 32 bits"), (2, b"the query is not UTF-8")),
+        ) + said("index_reader", (1, b"the query is no number of 32 bits"), (2, b"the query is not UTF-8")),
     ),
     *((name, ["\udcff"], b"", 2, b"", b"%s: an argument is not UTF-8\n" % name.encode()) for name in NAMES),
     # of a hundred lines of a file each is complained of, and the others are counted
-    ("run_length_coder", ["decode"], b"\n" * 100, 1, b"", said(*hundred(NO_RUN))),
-    ("grouped_report", [], b"\n" * 101, 1, b"total: 0\n", said(*hundred(NO_COMMA)) + b"-: 1 more line is left out\n"),
+    ("run_length_coder", ["decode"], b"\n" * 100, 1, b"", said("run_length_coder", *hundred(NO_RUN))),
+    ("grouped_report", [], b"\n" * 101, 1, b"total: 0\n", said("grouped_report", *hundred(NO_COMMA)) + b"grouped_report: -: 1 more line is left out\n"),
     (
         "table_join", [], (b"\n" * 101, b"\n" * 112), 1, b"",
-        said(*hundred(NO_COMMA), file=b"first") + said(*hundred(NO_COMMA))
-        + b"first: 1 more line is left out\n-: 12 more lines are left out\n",
+        said("table_join", *hundred(NO_COMMA), file=b"first") + said("table_join", *hundred(NO_COMMA))
+        + b"table_join: first: 1 more line is left out\ntable_join: -: 12 more lines are left out\n",
     ),
     (
         "index_reader", [], (b"\n" * 102, b"\n" * 101), 1, b"0 queries\n",
-        said(*hundred(NO_COMMA), file=b"first") + b"first: 2 more lines are left out\n"
-        + said(*hundred(b"the query is no number of 32 bits")) + b"-: 1 more line is left out\n",
+        said("index_reader", *hundred(NO_COMMA), file=b"first") + b"index_reader: first: 2 more lines are left out\n"
+        + said("index_reader", *hundred(b"the query is no number of 32 bits")) + b"index_reader: -: 1 more line is left out\n",
     ),
     # lines are read without their end, of which the last has none
     ("table_join", ["anti"], (b"a,\r\r\nb,\xc3\xa9", b""), 0, b"a,\r\nb,\xc3\xa9\n", b""),
@@ -112,7 +119,7 @@ ROWS = b"".join(b"%08d,a value of some length\n" % key for key in range(780_000)
 UNREADABLE = [("miss\ning\x1b\x7fé", r"miss\ning\u{1b}\u{7f}é", 2), (".", ".", 21)]
 
 # A file whose name has control characters, and what is said of it.
-NAMED_LINES = ("grouped_report", "a\r\nb\x85é", b"no\n", r"a\r\nb\u{85}é: line 1 is left out: it has no comma".encode() + b"\n")
+NAMED_LINES = ("grouped_report", "a\r\nb\x85é", b"no\n", r"grouped_report: a\r\nb\u{85}é: line 1 is left out: it has no comma".encode() + b"\n")
 
 # Long inputs, and what is written of them.
 LONG = [
@@ -123,4 +130,20 @@ LONG = [
     ("table_join", ["semi"], (b"k,v\n", b"k,w\n" * 4_000_000), b"k,v\n"),
     # 25 MB and 25 MB
     ("table_join", ["semi"], (ROWS, ROWS), ROWS),
+]
+
+# Arguments that are wrong, and what is said of them before the usage. The files that they name do not exist.
+WRONG_ARGUMENTS = [
+    *((name, [*words, "-x"], 'unknown argument: "-x"') for name in NAMES for words in ([], ["nofile"])),
+    *((name, ["huh", "nofile"], 'unknown argument: "huh"') for name in NAMES[:4]),
+    ("run_length_coder", ["decode", "nofile", "none\n"], 'unknown argument: "nofile"'),
+    ("index_reader", [], "INDEX is missing"),
+    ("index_reader", ["nofile", "nofile", "more\n"], r'one argument too many: "more\n"'),
+    ("table_join", [], "LEFT is missing"),
+    ("table_join", ["anti"], "LEFT is missing"),
+    ("table_join", ["nofile"], "RIGHT is missing"),
+    ("table_join", ["anti", "nofile"], "RIGHT is missing"),
+    ("table_join", ["left", "inner", "nofile"], 'a kind of join stands in the place of a file: "inner"'),
+    ("table_join", ["outer", "nofile", "nofile"], 'no kind of join is named: "outer"'),
+    ("table_join", ["full", "nofile", "nofile", "more"], 'one argument too many: "more"'),
 ]

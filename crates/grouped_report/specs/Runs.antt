@@ -6,7 +6,7 @@ use Rattle.program_parts.specs.Pairs.{Says, IsWrong}
 use Rattle.program_parts.specs.declared.pairs.PairError.{PairError}
 use Rattle.grouped_report.specs.Departments.{IsReport, SaysTheSame}
 use Rattle.grouped_report.specs.Report.{sum_line, total_line}
-use Rattle.grouped_report.specs.Words.{words}
+use Rattle.grouped_report.specs.Words.{source_of_file, words}
 use Rattle.grouped_report.specs.declared.entry.Entry.{Entry}
 
 -- a line says a row, whatever rows stand before it, or this is wrong with it
@@ -18,7 +18,7 @@ IsNoRow before line problem = IsWrong line problem
 
 -- these are the rows that the lines of a file of this name say; each other line is complained of, and `is_whole` says whether there is none
 abbrev pub AreRows : List ℕ → List ℕ → List Entry → Bool → Option (List ℕ) → Option (List ℕ) → Type 0
-AreRows name = AreRead SaysRow IsNoRow name words
+AreRows name = AreRead SaysRow IsNoRow (source_of_file name) words
 
 -- the report of these rows is written
 pub record Reports (name bytes : List ℕ) (is_whole : Bool) (before after said_before said_after : Option (List ℕ)) : Type 0 where

@@ -13,26 +13,33 @@ mod row;
 mod run;
 mod sums;
 
-use program_parts::arguments::arguments;
+use crate::program::USAGE;
+use program_parts::arguments::{arguments, explain, one_file};
 use program_parts::input::{Input, NamedFile};
 use std::io;
 use std::io::{BufReader, BufWriter};
 use std::process::ExitCode;
 
 fn main(rt: HostRuntime) -> io::Result<ExitCode> {
-    let Some(mut words) = arguments(&rt, "grouped_report")? else {
+    let Some(words) = arguments(&rt, "grouped_report")? else {
         return Ok(ExitCode::from(2));
     };
-    let file = NamedFile::take(rt.alloc(), &mut words, &[])?;
+    let mut out = BufWriter::new(rt.alloc(), io::writer(&rt))?;
+    let mut complaints = BufWriter::new(rt.alloc(), rt.stderr())?;
+    let name = match one_file(&words) {
+        Ok(name) => name,
+        Err(refusal) => {
+            let status = explain("grouped_report", USAGE, refusal, &mut out, &mut complaints);
+            return Ok(ExitCode::from(status));
+        }
+    };
+    let file = NamedFile::new(rt.alloc(), name)?;
     let Some(input) = Input::open(&rt, "grouped_report", &file) else {
         return Ok(ExitCode::from(1));
     };
     let input = BufReader::new(rt.alloc(), input)?;
-    let mut out = BufWriter::new(rt.alloc(), io::writer(&rt))?;
-    let mut complaints = BufWriter::new(rt.alloc(), rt.stderr())?;
     let status = program::run(
         rt.alloc(),
-        &words,
         &file.shown,
         input,
         &[&file],

@@ -47,7 +47,7 @@ fn read_rows<R: BufRead, E: Write>(
         × IfSome (R.remaining lines.old.reader) (λ bytes. AreRows name.now bytes rows is_whole
         (E.contents complaints.old) (E.contents complaints.new))) }
 {
-    let mut omitted = Omitted::none(name);
+    let mut omitted = Omitted::none("grouped_report", name);
     for _ in 0..u64::MAX {
         if !lines.advance()? {
             omitted.finish(complaints)?;

@@ -5,7 +5,7 @@ use Rattle.program_parts.specs.Read.{AreRead}
 use Rattle.program_parts.specs.Pairs.{Says, IsNumber}
 use Rattle.index_reader.specs.Keys.{IsAscending, IsWrong, IsWrongQuery, of_key}
 use Rattle.index_reader.specs.Answers.{answer_line}
-use Rattle.index_reader.specs.Words.{words}
+use Rattle.index_reader.specs.Words.{source_of_file, words}
 use Rattle.index_reader.specs.declared.entry.Entry.{Entry}
 use Rattle.index_reader.specs.declared.entry.Problem.{Problem}
 
@@ -43,7 +43,7 @@ pub record Answers (index_name entries queries_name queries : List ℕ) (is_whol
     pub are_entries : Bool
     pub are_queries : Bool
     pub said : Option (List ℕ)
-    pub reads_index : AreRead SaysEntry IsNoEntry index_name words entries index are_entries said_before said
-    pub reads_queries : AreRead SaysQuery IsNoQuery queries_name words queries keys are_queries said said_after
+    pub reads_index : AreRead SaysEntry IsNoEntry (source_of_file index_name) words entries index are_entries said_before said
+    pub reads_queries : AreRead SaysQuery IsNoQuery (source_of_file queries_name) words queries keys are_queries said said_after
     pub writes : Appends before after (answers index keys ++ count_line keys)
     pub whole : is_whole ≡ (are_entries && are_queries)

@@ -1,5 +1,6 @@
 -- What is said of a line that is left out.
 use Rattle.std.specs.Prelude.{ℕ, List, ◌++◌, codes, decimal, Option, Some}
+use Rattle.program_parts.specs.Complaints.{source}
 use Rattle.program_parts.specs.declared.pairs.PairError.TheVariants.{NoText, NoComma, First, Second}
 use Rattle.index_reader.specs.declared.entry.Problem.{Problem}
 use Rattle.index_reader.specs.declared.entry.Problem.TheVariants.{NoEntry, Lower, NoQuery, QueryNoText}
@@ -14,3 +15,7 @@ words (Lower key most) =
     Some (codes "its key " ++ (decimal key ++ (codes " is lower than " ++ (decimal most ++ codes ", the greatest before it"))))
 words NoQuery = Some (codes "the query is no number of 32 bits")
 words QueryNoText = Some (codes "the query is not UTF-8")
+
+-- what complaints about a file of this name begin with
+abbrev pub source_of_file : List ℕ → List ℕ
+source_of_file name = source (codes "index_reader") name

@@ -13,7 +13,8 @@ mod output;
 mod program;
 mod run;
 
-use program_parts::arguments::{arguments, has_word};
+use crate::program::USAGE;
+use program_parts::arguments::{Refusal, arguments, explain, refusal_of};
 use program_parts::input::{Input, NamedFile};
 use std::io;
 use std::io::{BufReader, BufWriter, Write};
@@ -25,9 +26,12 @@ fn main(rt: HostRuntime) -> io::Result<ExitCode> {
     };
     let mut out = BufWriter::with_capacity(rt.alloc(), 65536, rt.stdout())?;
     let mut complaints = BufWriter::new(rt.alloc(), rt.stderr())?;
-    let Some((index_name, queries_name)) = named(&words) else {
-        let status = program::explain(&words, &mut out, &mut complaints);
-        return Ok(ExitCode::from(status));
+    let (index_name, queries_name) = match named(&words) {
+        Ok(named) => named,
+        Err(refusal) => {
+            let status = explain("index_reader", USAGE, refusal, &mut out, &mut complaints);
+            return Ok(ExitCode::from(status));
+        }
     };
     let index_file = NamedFile::new(rt.alloc(), index_name)?;
     let queries_file = NamedFile::new(rt.alloc(), queries_name)?;
@@ -59,14 +63,15 @@ fn main(rt: HostRuntime) -> io::Result<ExitCode> {
     Ok(ExitCode::from(status))
 }
 
-// The index and the queries that the arguments name, unless help is asked for.
-fn named(words: &[String]) -> Option<(&str, &str)> {
-    if has_word(words, "--help") {
-        return None;
+// The index and the queries that the arguments name.
+fn named(words: &[String]) -> Result<(&str, &str), Refusal<'_>> {
+    if let Some(refusal) = refusal_of(words) {
+        return Err(refusal);
     }
     match words {
-        [index] if !index.starts_with("--") => Some((index.as_str(), "-")),
-        [index, queries] => Some((index.as_str(), queries.as_str())),
-        _ => None,
+        [] => Err(Refusal::Missing("INDEX")),
+        [index] => Ok((index.as_str(), "-")),
+        [index, queries] => Ok((index.as_str(), queries.as_str())),
+        [_, _, other, ..] => Err(Refusal::Wrong("one argument too many", other.as_str())),
     }
 }

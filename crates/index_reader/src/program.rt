@@ -1,21 +1,16 @@
 //! What the program does, what it says, and its status.
-ghost use Rattle.std.specs.Prelude.{◌≡◌, true, IfSome, codes};
-ghost use Rattle.std.specs.Io.KnownBytes.{Appends};
-ghost use Rattle.program_parts.specs.Arguments.{HasWord};
+ghost use Rattle.std.specs.Prelude.{◌≡◌, true, IfSome};
 ghost use Rattle.index_reader.specs.Runs.{Answers};
-ghost use Rattle.index_reader.specs.declared.program.TheConstants.{USAGE};
 
 use crate::run::answer_all;
-use program_parts::arguments::has_word;
 use program_parts::input::NamedFile;
 use program_parts::status::status_of;
-use program_parts::texts::write_all;
 use std::alloc::Global;
 use std::io::{BufRead, Write};
 
 /// What `--help` writes.
 pub const USAGE: &str = "\
-usage: index_reader [--help] INDEX [QUERIES]
+usage: index_reader [-h | --help] INDEX [QUERIES]
 
 Reads a sorted index from the file INDEX, a line `key,place` for each entry, and queries from the
 file QUERIES, a key a line. A dash is standard input, and so it is where QUERIES is not named.
@@ -27,7 +22,7 @@ stand several times. The queries come in any order. A `\\r` before a line feed i
 A line that is no entry, or whose key is lower than a key before it, or that is no query, is left
 out; so is one that is not UTF-8. Standard error says why for each of the first hundred of a file,
 and how many more there are. The status is then 1, and so it is where reading or writing fails. It
-is 2 where an argument is not known. The index must fit in memory, and so must a line.
+is 2 where an argument is wrong. The index must fit in memory, and so must a line.
 ";
 
 /// Answers the queries by the index, and gives back the status: 0, or 1 where it failed or a line is left out. What went
@@ -56,20 +51,4 @@ pub fn run<I: BufRead + Drop, Q: BufRead + Drop, W: Write, E: Write>(
         complaints,
     );
     status_of("index_reader", done, files, complaints)
-}
-
-/// Writes what `--help` asks for, and gives back the status: 0, or 1 where it failed. Of other arguments it is 2, and the same
-/// goes to the complaints.
-pub fn explain<W: Write, E: Write>(words: &[String], out: &mut W, complaints: &mut E) -> u8
-    ensures help { HasWord words.now (codes "--help") → result ≡ 0
-        → Appends (W.contents out.old) (W.contents out.new) USAGE.now }
-    ensures unknown { (HasWord words.now (codes "--help") → ⊥)
-        → (result ≡ 2) × (W.contents out.new ≡ W.contents out.old) }
-{
-    if !has_word(words, "--help") {
-        let _ = write_all(complaints, USAGE);
-        return 2;
-    }
-    let done = write_all(out, USAGE).and(Ok(true));
-    status_of("index_reader", done, &[], complaints)
 }

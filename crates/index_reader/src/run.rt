@@ -3,7 +3,7 @@ ghost use Rattle.std.specs.Prelude.{◌≡◌, ℕ, List, ◌++◌, IfOk, IfSome
 ghost use Rattle.std.specs.Io.KnownBytes.{Appends};
 ghost use Rattle.program_parts.specs.Read.{AreRead};
 ghost use Rattle.index_reader.specs.Runs.{Answers, IsNoEntry, IsNoQuery, SaysEntry, SaysQuery, answers, count_line, count_text};
-ghost use Rattle.index_reader.specs.Words.{words};
+ghost use Rattle.index_reader.specs.Words.{source_of_file, words};
 
 use crate::block::{answer_block, answer_if_full};
 use crate::entry::{next_entry, parse_query};
@@ -55,11 +55,11 @@ fn read_index<R: BufRead, E: Write>(
     complaints: &mut E,
 ) -> io::Result<(Index, bool)>
     requires { lines.old.number ≡ 0 }
-    ensures { IfOk result (λ read. IfSome (R.remaining lines.old.reader) (λ bytes. AreRead SaysEntry IsNoEntry name.now words bytes
-        read.0 read.1 (E.contents complaints.old) (E.contents complaints.new))) }
+    ensures { IfOk result (λ read. IfSome (R.remaining lines.old.reader) (λ bytes. AreRead SaysEntry IsNoEntry
+        (source_of_file name.now) words bytes read.0 read.1 (E.contents complaints.old) (E.contents complaints.new))) }
 {
     let mut index = Index::new(alloc);
-    let mut omitted = Omitted::none(name);
+    let mut omitted = Omitted::none("index_reader", name);
     for _ in 0..u64::MAX {
         if !lines.advance()? {
             omitted.finish(complaints)?;
@@ -85,12 +85,12 @@ fn answer_queries<R: BufRead, W: Write, E: Write>(
     requires { lines.old.number ≡ 0 }
     ensures { IfOk result (λ is_whole. (keys : List ℕ)
         × Appends (W.contents out.old) (W.contents out.new) (answers index.now keys ++ count_line keys)
-        × IfSome (R.remaining lines.old.reader) (λ bytes. AreRead SaysQuery IsNoQuery name.now words bytes keys
-        is_whole (E.contents complaints.old) (E.contents complaints.new))) }
+        × IfSome (R.remaining lines.old.reader) (λ bytes. AreRead SaysQuery IsNoQuery
+        (source_of_file name.now) words bytes keys is_whole (E.contents complaints.old) (E.contents complaints.new))) }
 {
     let mut queries = 0u64;
     let mut keys = Vec::new(alloc);
-    let mut omitted = Omitted::none(name);
+    let mut omitted = Omitted::none("index_reader", name);
     for _ in 0..u64::MAX {
         if !lines.advance()? {
             answer_block(alloc, index, &keys, out)?;

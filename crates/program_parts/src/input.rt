@@ -4,7 +4,6 @@ ghost use Rattle.std.specs.Char.{encode_utf8};
 ghost use Rattle.std.specs.Char.Escape.{escape_default};
 ghost use Rattle.program_parts.specs.Shown.{shown_char, shown_text};
 
-use crate::arguments::has_word;
 use std::alloc::{AllocError, Global};
 use std::cell::Cell;
 use std::fs::File;
@@ -30,19 +29,6 @@ impl NamedFile {
             shown: shown(alloc, name)?,
             has_failed: Cell::new(false),
         })
-    }
-
-    /// The file that the last word names, which is taken off the words. It is standard input where that word is a dash,
-    /// begins with `--`, is one of the modes, or there is none, and where help is asked for.
-    pub fn take(
-        alloc: Global,
-        words: &mut Vec<String>,
-        modes: &[&str],
-    ) -> Result<NamedFile, AllocError> {
-        match pop_file(words, modes) {
-            Some(name) => NamedFile::new(alloc, &name),
-            None => NamedFile::new(alloc, "-"),
-        }
     }
 
     /// Whether it is standard input.
@@ -103,18 +89,6 @@ impl<'a> Read for Input<'a> {
         }
         read
     }
-}
-
-// Takes the last word off and gives it back, where it names a file or is a dash, unless help is asked for.
-fn pop_file(words: &mut Vec<String>, modes: &[&str]) -> Option<String> {
-    if has_word(words, "--help") {
-        return None;
-    }
-    let last = words.last()?.as_str();
-    if last.starts_with("--") || modes.contains(&last) {
-        return None;
-    }
-    words.pop()
 }
 
 // The text as complaints show it.

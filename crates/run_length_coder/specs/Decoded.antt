@@ -4,7 +4,7 @@ use Rattle.std.specs.Io.KnownBytes.{Appends}
 use Rattle.program_parts.specs.Read.{AreRead}
 use Rattle.run_length_coder.specs.Coding.{copies}
 use Rattle.run_length_coder.specs.Lines.{Says, IsWrong}
-use Rattle.run_length_coder.specs.Words.{words}
+use Rattle.run_length_coder.specs.Words.{source_of_file, words}
 use Rattle.run_length_coder.specs.declared.line.RunError.{RunError}
 use Rattle.run_length_coder.specs.declared.runs.Run.{Run}
 
@@ -19,5 +19,5 @@ IsNoRun before line error = IsWrong line error
 -- whether there is none.
 pub record Decodes (name bytes : List ℕ) (are_runs : Bool) (before after said_before said_after : Option (List ℕ)) : Type 0 where
   pub runs : List Run
-  pub reads : AreRead SaysRun IsNoRun name words bytes runs are_runs said_before said_after
+  pub reads : AreRead SaysRun IsNoRun (source_of_file name) words bytes runs are_runs said_before said_after
   pub writes : Appends before after (flat_map copies runs)

@@ -31,7 +31,7 @@ pub fn decode<R: BufRead, W: Write, E: Write>(
         → IfOk result (λ are_runs. IsTrue are_runs × Appends (W.contents out.old) (W.contents out.new) bytes) }
 {
     let mut lines = Lines::new(alloc, input);
-    let mut omitted = Omitted::none(name);
+    let mut omitted = Omitted::none("run_length_coder", name);
     for _ in 0..u64::MAX {
         if !lines.advance()? {
             omitted.finish(complaints)?;

@@ -21,7 +21,7 @@ impl fmt::Display for RunError {
 
     fn fmt<W: fmt::Write>(&self, f: &mut fmt::Formatter<W>) -> fmt::Result {
         match self {
-            RunError::NoRun => write!(f, "it is no run: two numbers with a space between them"),
+            RunError::NoRun => write!(f, "it is not two numbers with a space between them"),
             RunError::NoCount => write!(f, "its count is no number of 64 bits"),
             RunError::Zero => write!(f, "its count is 0"),
             RunError::NoByte => write!(f, "its byte is no number up to 255"),

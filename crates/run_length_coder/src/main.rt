@@ -10,26 +10,41 @@ mod line;
 mod program;
 mod runs;
 
-use program_parts::arguments::arguments;
+use crate::program::{Mode, USAGE};
+use program_parts::arguments::{arguments, explain, one_file};
 use program_parts::input::{Input, NamedFile};
 use std::io;
 use std::io::{BufReader, BufWriter};
 use std::process::ExitCode;
 
 fn main(rt: HostRuntime) -> io::Result<ExitCode> {
-    let Some(mut words) = arguments(&rt, "run_length_coder")? else {
+    let Some(words) = arguments(&rt, "run_length_coder")? else {
         return Ok(ExitCode::from(2));
     };
-    let file = NamedFile::take(rt.alloc(), &mut words, &["decode"])?;
+    let mut out = BufWriter::with_capacity(rt.alloc(), 65536, rt.stdout())?;
+    let mut complaints = BufWriter::new(rt.alloc(), rt.stderr())?;
+    let (mode, files) = mode_of(&words);
+    let name = match one_file(files) {
+        Ok(name) => name,
+        Err(refusal) => {
+            let status = explain(
+                "run_length_coder",
+                USAGE,
+                refusal,
+                &mut out,
+                &mut complaints,
+            );
+            return Ok(ExitCode::from(status));
+        }
+    };
+    let file = NamedFile::new(rt.alloc(), name)?;
     let Some(input) = Input::open(&rt, "run_length_coder", &file) else {
         return Ok(ExitCode::from(1));
     };
     let mut input = BufReader::with_capacity(rt.alloc(), 65536, input)?;
-    let mut out = BufWriter::with_capacity(rt.alloc(), 65536, rt.stdout())?;
-    let mut complaints = BufWriter::new(rt.alloc(), rt.stderr())?;
     let status = program::run(
         rt.alloc(),
-        &words,
+        mode,
         &file.shown,
         &mut input,
         &[&file],
@@ -37,4 +52,12 @@ fn main(rt: HostRuntime) -> io::Result<ExitCode> {
         &mut complaints,
     );
     Ok(ExitCode::from(status))
+}
+
+// The mode that the first argument names, and the arguments behind it.
+fn mode_of(words: &[String]) -> (Mode, &[String]) {
+    match words {
+        [first, files @ ..] if first.as_str() == "decode" => (Mode::Decode, files),
+        _ => (Mode::Encode, words),
+    }
 }

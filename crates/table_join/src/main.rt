@@ -15,7 +15,8 @@ mod run;
 mod table;
 
 use crate::kind::{Kind, kind_of};
-use program_parts::arguments::{arguments, has_word};
+use crate::program::USAGE;
+use program_parts::arguments::{Refusal, arguments, explain, refusal_of};
 use program_parts::input::{Input, NamedFile};
 use std::io;
 use std::io::{BufReader, BufWriter, Write};
@@ -27,9 +28,12 @@ fn main(rt: HostRuntime) -> io::Result<ExitCode> {
     };
     let mut out = BufWriter::with_capacity(rt.alloc(), 65536, rt.stdout())?;
     let mut complaints = BufWriter::new(rt.alloc(), rt.stderr())?;
-    let Some((kind, left_name, right_name)) = named(&words) else {
-        let status = program::explain(&words, &mut out, &mut complaints);
-        return Ok(ExitCode::from(status));
+    let (kind, left_name, right_name) = match named(&words) {
+        Ok(named) => named,
+        Err(refusal) => {
+            let status = explain("table_join", USAGE, refusal, &mut out, &mut complaints);
+            return Ok(ExitCode::from(status));
+        }
     };
     let left_file = NamedFile::new(rt.alloc(), left_name)?;
     let right_file = NamedFile::new(rt.alloc(), right_name)?;
@@ -62,14 +66,33 @@ fn main(rt: HostRuntime) -> io::Result<ExitCode> {
     Ok(ExitCode::from(status))
 }
 
-// The kind of the join and the two files that the arguments name, unless help is asked for.
-fn named(words: &[String]) -> Option<(Kind, &str, &str)> {
-    if has_word(words, "--help") {
-        return None;
+// The kind of the join and the two files that the arguments name.
+fn named(words: &[String]) -> Result<(Kind, &str, &str), Refusal<'_>> {
+    if let Some(refusal) = refusal_of(words) {
+        return Err(refusal);
+    }
+    let [first, files @ ..] = words else {
+        return Err(Refusal::Missing("LEFT"));
+    };
+    match kind_of(first) {
+        Some(kind) => files_of(kind, files),
+        None if words.len() > 2 => Err(Refusal::Wrong("no kind of join is named", first.as_str())),
+        None => files_of(Kind::Inner, words),
+    }
+}
+
+// The two files that the words name, behind the kind of the join. A name of a kind is none of a file.
+fn files_of(kind: Kind, words: &[String]) -> Result<(Kind, &str, &str), Refusal<'_>> {
+    if let Some(other) = words.iter().find(|word| kind_of(word).is_some()) {
+        return Err(Refusal::Wrong(
+            "a kind of join stands in the place of a file",
+            other.as_str(),
+        ));
     }
     match words {
-        [left, right] => Some((Kind::Inner, left.as_str(), right.as_str())),
-        [kind, left, right] => Some((kind_of(kind)?, left.as_str(), right.as_str())),
-        _ => None,
+        [] => Err(Refusal::Missing("LEFT")),
+        [_] => Err(Refusal::Missing("RIGHT")),
+        [left, right] => Ok((kind, left.as_str(), right.as_str())),
+        [_, _, other, ..] => Err(Refusal::Wrong("one argument too many", other.as_str())),
     }
 }

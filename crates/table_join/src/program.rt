@@ -1,27 +1,22 @@
 //! What the program does, what it says, and its status.
-ghost use Rattle.std.specs.Prelude.{◌≡◌, true, IfSome, codes};
-ghost use Rattle.std.specs.Io.KnownBytes.{Appends};
-ghost use Rattle.program_parts.specs.Arguments.{HasWord};
+ghost use Rattle.std.specs.Prelude.{◌≡◌, true, IfSome};
 ghost use Rattle.table_join.specs.Runs.{Joins};
-ghost use Rattle.table_join.specs.declared.program.TheConstants.{USAGE};
 
 use crate::kind::Kind;
 use crate::run::join_tables;
-use program_parts::arguments::has_word;
 use program_parts::input::NamedFile;
 use program_parts::status::status_of;
-use program_parts::texts::write_all;
 use std::alloc::Global;
 use std::io::{BufRead, Write};
 
 /// What `--help` writes.
 pub const USAGE: &str = "\
-usage: table_join [--help] [inner|left|full|semi|anti] LEFT RIGHT
+usage: table_join [-h | --help] [inner|left|full|semi|anti] LEFT RIGHT
 
 Writes the join of two tables, each in a file of rows `key,value`. A dash is standard input.
 The key is what stands before the first comma, and the value all that stands after it. The
 keys of a table ascend byte by byte, and one may stand several times. A `\\r` before a line
-feed is dropped.
+feed is dropped. A file whose name is that of a kind is written `./inner`.
 
   inner   a line `key,left value,right value` for each left row and each right row of its
           key (this is what is written where no kind is named)
@@ -34,7 +29,7 @@ feed is dropped.
 A line that is no row, or whose key is lower than a key before it in its table, is left out;
 so is one that is not UTF-8. Standard error says why for each of the first hundred of a file,
 and how many more there are. A key is shown there up to 80 bytes, and then `..`. The status is
-then 1, and so it is where reading or writing fails. It is 2 where an argument is not known. A
+then 1, and so it is where reading or writing fails. It is 2 where an argument is wrong. A
 line must fit in memory, and so must the right rows of one key; `semi` and `anti` keep one row.
 ";
 
@@ -59,20 +54,4 @@ pub fn run<L: BufRead + Drop, R: BufRead + Drop, W: Write, E: Write>(
         alloc, kind, left_name, left, right_name, right, out, complaints,
     );
     status_of("table_join", done, files, complaints)
-}
-
-/// Writes what `--help` asks for, and gives back the status: 0, or 1 where it failed. Of other arguments it is 2, and the same
-/// goes to the complaints.
-pub fn explain<W: Write, E: Write>(words: &[String], out: &mut W, complaints: &mut E) -> u8
-    ensures help { HasWord words.now (codes "--help") → result ≡ 0
-        → Appends (W.contents out.old) (W.contents out.new) USAGE.now }
-    ensures unknown { (HasWord words.now (codes "--help") → ⊥)
-        → (result ≡ 2) × (W.contents out.new ≡ W.contents out.old) }
-{
-    if !has_word(words, "--help") {
-        let _ = write_all(complaints, USAGE);
-        return 2;
-    }
-    let done = write_all(out, USAGE).and(Ok(true));
-    status_of("table_join", done, &[], complaints)
 }

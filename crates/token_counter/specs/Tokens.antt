@@ -8,8 +8,12 @@ use Rattle.slice_group_by.specs.Counted.{class_count}
 abbrev pub token_count : AsciiClass → List ℕ → ℕ
 token_count class text = class_count class None text
 
+-- the line of a class: how many runs of it there are
+abbrev pub line : List ℕ → ℕ → List ℕ
+line runs count = codes "runs of " ++ runs ++ codes ": " ++ decimal count ++ 10 ∷ []
+
 -- what is printed of numbers of tokens: a line for each class
 abbrev pub report : (AsciiClass → ℕ) → List ℕ
 report count =
-    codes "letters: " ++ decimal (count Letter) ++ 10 ∷ [] ++ (codes "digits: " ++ decimal (count Digit) ++ 10 ∷ [])
-    ++ (codes "space: " ++ decimal (count Space) ++ 10 ∷ []) ++ (codes "other: " ++ decimal (count Other) ++ 10 ∷ [])
+    line (codes "letters") (count Letter) ++ line (codes "digits") (count Digit) ++ line (codes "white space") (count Space)
+    ++ line (codes "other bytes") (count Other)

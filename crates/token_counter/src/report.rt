@@ -12,8 +12,8 @@ use std::io::Write;
 pub fn write_report<W: Write>(out: &mut W, counts: &ClassCounts) -> io::Result<()>
     ensures { OnOk result (Appends (W.contents out.old) (W.contents out.new) (report (λ class. count_of class counts.now))) }
 {
-    writeln!(out, "letters: {}", counts.letters)?;
-    writeln!(out, "digits: {}", counts.digits)?;
-    writeln!(out, "space: {}", counts.spaces)?;
-    writeln!(out, "other: {}", counts.others)
+    writeln!(out, "runs of letters: {}", counts.letters)?;
+    writeln!(out, "runs of digits: {}", counts.digits)?;
+    writeln!(out, "runs of white space: {}", counts.spaces)?;
+    writeln!(out, "runs of other bytes: {}", counts.others)
 }

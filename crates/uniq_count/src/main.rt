@@ -8,30 +8,31 @@ mod lines;
 mod program;
 mod repeated;
 
-use program_parts::arguments::arguments;
+use crate::program::USAGE;
+use program_parts::arguments::{arguments, explain, one_file};
 use program_parts::input::{Input, NamedFile};
 use std::io;
 use std::io::{BufReader, BufWriter};
 use std::process::ExitCode;
 
 fn main(rt: HostRuntime) -> io::Result<ExitCode> {
-    let Some(mut words) = arguments(&rt, "uniq_count")? else {
+    let Some(words) = arguments(&rt, "uniq_count")? else {
         return Ok(ExitCode::from(2));
     };
-    let file = NamedFile::take(rt.alloc(), &mut words, &[])?;
+    let mut out = BufWriter::with_capacity(rt.alloc(), 65536, rt.stdout())?;
+    let mut complaints = BufWriter::new(rt.alloc(), rt.stderr())?;
+    let name = match one_file(&words) {
+        Ok(name) => name,
+        Err(refusal) => {
+            let status = explain("uniq_count", USAGE, refusal, &mut out, &mut complaints);
+            return Ok(ExitCode::from(status));
+        }
+    };
+    let file = NamedFile::new(rt.alloc(), name)?;
     let Some(input) = Input::open(&rt, "uniq_count", &file) else {
         return Ok(ExitCode::from(1));
     };
     let mut input = BufReader::with_capacity(rt.alloc(), 65536, input)?;
-    let mut out = BufWriter::with_capacity(rt.alloc(), 65536, rt.stdout())?;
-    let mut complaints = BufWriter::new(rt.alloc(), rt.stderr())?;
-    let status = program::run(
-        rt.alloc(),
-        &words,
-        &mut input,
-        &[&file],
-        &mut out,
-        &mut complaints,
-    );
+    let status = program::run(rt.alloc(), &mut input, &[&file], &mut out, &mut complaints);
     Ok(ExitCode::from(status))
 }

@@ -11,7 +11,7 @@ pub loop-init : goal.loop-init
 loop-init g c = (
   [],
   rw (append-nil c.args.sums.now) (same_self c.args.sums.now),
-  c.none-omitted.ensures.name,
+  c.none-omitted.ensures.source,
   rw (c.requires, c.none-omitted.ensures.count) (none_so_far SaysRow IsNoRow _ words _ _),
 )
 
@@ -48,7 +48,7 @@ loop-preserved g c =
           rw (w.sums-is, w.complaints-is, w.omitted-is) (
             rows,
             same,
-            w.in_ok-say-in-Err.ensures.name ∙ named,
+            said.source ∙ named,
             one_left SaysRow IsNoRow _ words _ _ _ _ _ _ _ rows count line lines some found.line found.rest counts _
                 w.in-Err.problem.0 _ wrong said.count (rw named at said.said) said.silent,
           )

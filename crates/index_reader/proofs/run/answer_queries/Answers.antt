@@ -13,7 +13,7 @@ pub loop-init : goal.loop-init
 loop-init g c = (
   [],
   Appends-nil _,
-  c.none-omitted.ensures.name,
+  c.none-omitted.ensures.source,
   rw c.new-keys.ensures.items refl,
   rw (c.requires, c.none-omitted.ensures.count, c.new-keys.ensures.items) (none_so_far SaysQuery IsNoQuery _ words _ _),
 )
@@ -60,7 +60,7 @@ loop-preserved g c =
           rw (w.out-is, w.complaints-is, w.queries-is, w.omitted-is, w.keys-is) (
             done,
             writes,
-            said.name ∙ named,
+            said.source ∙ named,
             queries,
             one_left SaysQuery IsNoQuery _ words _ _ _ _ _ _ _ keys count line s some found.line found.rest counts _ w.in-Err.problem _
                 (rw c.deref-in-loop.ensures.value at w.in-Err.ensures.wrong)

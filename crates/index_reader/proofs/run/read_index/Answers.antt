@@ -8,7 +8,7 @@ use Rattle.index_reader.proofs.run.read_index.Goals.{in-Ok+in_ok-push-in-Ok, in-
 
 pub loop-init : goal.loop-init
 loop-init g c = (
-  c.none-omitted.ensures.name,
+  c.none-omitted.ensures.source,
   rw (c.new-index.ensures, c.requires, c.none-omitted.ensures.count) (none_so_far SaysEntry IsNoEntry _ words _ _),
 )
 
@@ -41,7 +41,7 @@ loop-preserved g c =
           let wrong = rw c.deref.ensures.value at w.in-Err.ensures.wrong in
           let said = w.in_ok-say-in-Err.ensures in
           rw (w.index-is, w.complaints-is, w.omitted-is) (
-            said.name ∙ named,
+            said.source ∙ named,
             one_left SaysEntry IsNoEntry _ words _ _ _ _ _ _ _ index count line so_far some found.line found.rest counts _
                 w.in-Err.problem _ wrong said.count (rw named at said.said) said.silent,
           )

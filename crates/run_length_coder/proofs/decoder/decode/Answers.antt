@@ -16,7 +16,7 @@ pub loop-init : goal.loop-init
 loop-init g c =
     let none = c.none-omitted.ensures in (
       ([], Appends-nil _, rw (c.new-lines.ensures.number, none.count) (none_so_far SaysRun IsNoRun _ words _ _)),
-      none.name,
+      none.source,
       rw none.count (coded_none _ _),
     )
 
@@ -70,7 +70,7 @@ loop-preserved g c =
               one_left SaysRun IsNoRun _ words _ _ _ _ _ _ _ runs count line s some found.line found.rest counts _ w.in-Err.error _ wrong
                   said.count (rw named at said.said) said.silent,
             ),
-            said.name ∙ named,
+            said.source ∙ named,
             coded_wrong _ _ _ _ _ count line again some found.line found.rest _ _
                 (rw (w.in-Err.is, c.deref.ensures.value) at c.parse.ensures.written),
           )
