@@ -1,5 +1,5 @@
 -- Elements of lists and of filters.
-use Rattle.std.proofs.Common.{◌≡◌, ◌∙◌, Some, ℕ, ◌+◌, ◌<◌, ◌≤◌, append-nil, Bool, true, false, zero, suc, List, [], ◌∷◌, ◌++◌, length, take, drop, flat_map, refl, sym, ap, subst}
+use Rattle.std.proofs.Common.{◌≡◌, ◌∙◌, Some, ℕ, ◌+◌, ◌<◌, ◌≤◌, append-nil, Bool, true, false, zero, suc, List, [], ◌∷◌, ◌++◌, length, take, drop, map, flat_map, refl, sym, ap, subst}
 use Rattle.std.proofs.Common.{arith, inl, inr, ◌⊎◌}
 use Rattle.std.proofs.lemmas.Grind.{flat_map-append}
 use Rattle.std.proofs.lemmas.List.{take_more}
@@ -90,3 +90,12 @@ module _ {X Y : Type 0} (test : X → Bool) (f : X → List Y) (xs : List X) (i 
 
 pub some_same : {X : Type 0} (x y : X) → Some x ≡ Some y → x ≡ y
 some_same x y e = cc
+
+pub of_map : {X Y : Type 0} (f : X → Y) (xs : List X) (y : Y) → Contains (map f xs) y → (x : X) × Contains xs x × (f x ≡ y)
+of_map f [] y c = absurd (omega arith)
+of_map {X} f (x ∷ xs) y c = by (first_or_later (f x) (map f xs) y c) (of_map f xs y)
+  where
+    by : (f x ≡ y) ⊎ Contains (map f xs) y → (Contains (map f xs) y → (z : X) × Contains xs z × (f z ≡ y))
+        → (z : X) × Contains (x ∷ xs) z × (f z ≡ y)
+    by (inl e) more = (x, here x xs, e)
+    by (inr k) more = let (z, d, e) = more k in (z, later x xs z d, e)

@@ -1,4 +1,5 @@
 pub mod Input
+pub mod Joined
 pub mod Joins
 pub mod Kinds
 pub mod Merged
