@@ -1,5 +1,5 @@
 //! Closures that capture, that count and that are handed in, and keys that are owned.
-use slice_group_by::{GroupBy, LinearGroupBy, exponential_equal_range_by, exponential_search_by};
+use slice_group_by::{GroupBy, LinearGroupBy, exponential_equal_places_by, exponential_search_by};
 use std::alloc::{AllocError, Global};
 use std::io;
 
@@ -66,7 +66,7 @@ pub fn find_page(index: &[Entry], word: &str) -> Option<u32> {
 
 /// All entries of the word in a sorted index.
 pub fn entries_of<'a>(index: &'a [Entry], word: &str) -> &'a [Entry] {
-    exponential_equal_range_by(index, |entry| entry.word.as_str().cmp(word))
+    &index[exponential_equal_places_by(index, |entry| entry.word.as_str().cmp(word))]
 }
 
 // Words and the pages that they stand on.

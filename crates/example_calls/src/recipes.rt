@@ -1,6 +1,6 @@
 //! What groups and searches are good for, each in a few lines.
 use slice_group_by::{
-    LinearGroup, LinearGroupBy, LinearGroupByKeyMut, exponential_equal_range_by,
+    LinearGroup, LinearGroupBy, LinearGroupByKeyMut, exponential_equal_places_by,
     exponential_partition_point,
 };
 use std::alloc::{AllocError, Global};
@@ -9,13 +9,14 @@ use std::io;
 
 /// The words that begin so, of words that ascend.
 pub fn with_prefix<'a>(words: &'a [&'a str], prefix: &str) -> &'a [&'a str] {
-    exponential_equal_range_by(words, |word| {
+    let places = exponential_equal_places_by(words, |word| {
         if word.starts_with(prefix) {
             Ordering::Equal
         } else {
             word.cmp(&prefix)
         }
-    })
+    });
+    &words[places]
 }
 
 /// For each time the last row that is not later, of rows and times that ascend: an as-of join.

@@ -1,15 +1,11 @@
 //! Rows of one key in sorted rows.
-use slice_group_by::{
-    exponential_equal_places_by_key, exponential_equal_range_by_key, exponential_partition_point,
-};
+use slice_group_by::exponential_equal_places_by_key;
 use std::io;
 
 /// All rows of the key, and the index at which they begin.
 pub fn rows_of(rows: &[(u32, u64)], key: u32) -> (usize, &[(u32, u64)]) {
-    (
-        exponential_partition_point(rows, |row| row.0 < key),
-        exponential_equal_range_by_key(rows, &key, |row| row.0),
-    )
+    let places = exponential_equal_places_by_key(rows, &key, |row| row.0);
+    (places.start, &rows[places])
 }
 
 /// The rows below the key, those of the key, and those above it.

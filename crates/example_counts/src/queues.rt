@@ -4,8 +4,10 @@ ghost use Rattle.std.specs.Prelude.{◌≡◌, Bool, map, option_copied, IfOk};
 ghost use Rattle.slice_group_by.specs.End.TheVariants.{Front};
 ghost use Rattle.slice_group_by.specs.Split.{split, first, concat};
 
-use slice_group_by::laws::{calls_take_pieces, groups_join, sees_pieces};
-use slice_group_by::{GroupQueue, SliceQueue, SliceQueueMut};
+use slice_group_by::GroupQueue;
+use slice_group_by::laws::{
+    SliceQueue, SliceQueueMut, calls_take_pieces, groups_join, sees_pieces,
+};
 use std::alloc::{AllocError, Global};
 
 /// The first group of what remains, as a slice: of a settled queue its elements are the first piece. The others remain.

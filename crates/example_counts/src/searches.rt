@@ -8,8 +8,8 @@ ghost use Rattle.example_counts.specs.Keys.{key};
 
 use crate::joins::Entry;
 use slice_group_by::laws::{
-    always_computes, ascending_is_searchable, comparisons_count, key_calls_count,
-    searchable_is_partitioned, sorts_ascend,
+    always_computes, ascending_is_searchable, search_counts, searchable_is_partitioned,
+    sorts_ascend,
 };
 use slice_group_by::{
     exponential_partition_point, exponential_search_by, exponential_search_by_key_ref,
@@ -49,7 +49,7 @@ pub fn questions_of_search(xs: &[u32], elem: u32) -> (Result<usize, usize>, usiz
         count = count.wrapping_add(1);
         x.cmp(&elem)
     };
-    comparisons_count(&comparator);
+    search_counts(&comparator);
     always_computes(&comparator);
     let found = exponential_search_by_ref(xs, &mut comparator);
     (found, count)
@@ -66,7 +66,7 @@ pub fn keys_of_search(rows: &[Entry], sought: u32) -> (Result<usize, usize>, usi
         count = count.wrapping_add(1);
         row.0
     };
-    key_calls_count(&key);
+    search_counts(&key);
     always_computes(&key);
     let found = exponential_search_by_key_ref(rows, &sought, &mut key);
     (found, count)

@@ -1,6 +1,6 @@
 //! The families of groups beside each other, and functions over binary and exponential groups.
-ghost use Rattle.std.specs.Prelude.{◌≡◌, ◌↔◌, ◌<◌, ◌-◌, ◌/◌, [], ◌∷◌, not, length, map, option_map, nat_eq, IfSome, IsSome};
-ghost use Rattle.slice_group_by.specs.Split.{IsGrouped, split};
+ghost use Rattle.std.specs.Prelude.{◌≡◌, ◌↔◌, ◌<◌, not, length, map, option_map, IfSome, IsSome};
+ghost use Rattle.slice_group_by.specs.Split.{split};
 ghost use Rattle.slice_group_by.specs.Searching.{IsLocalEnd};
 ghost use Rattle.slice_group_by.specs.Search.{NeverDescends};
 ghost use Rattle.slice_group_by.specs.Queue.{pops};
@@ -75,10 +75,3 @@ pub fn first_len<T: PartialEq>(slice: &[T]) -> usize
         None => 0,
     }
 }
-
-/// The definitions at small cases: unequal elements are grouped for `!=`, and equal ones apart are not for `==`.
-pub fn grouped_at_small_cases()
-    ensures unequal { IsGrouped (λ a b. not (nat_eq a b)) (1 ∷ 2 ∷ 3 ∷ []) }
-    ensures descending { IsGrouped nat_eq (2 ∷ 1 ∷ []) }
-    ensures apart { IsGrouped nat_eq (1 ∷ 2 ∷ 1 ∷ []) → ⊥ }
-{}

@@ -1,5 +1,5 @@
 //! Groups of texts: walks by closures of characters, and the first run.
-ghost use Rattle.std.specs.Prelude.{◌≡◌, ℕ, Bool, List, [], ◌∷◌, ◌++◌, MatchOption, length, map, option_map, nat_eq, nat_lt};
+ghost use Rattle.std.specs.Prelude.{◌≡◌, ℕ, Bool, length, map, option_map, nat_eq, nat_lt};
 ghost use Rattle.std.specs.Str.{chars};
 ghost use Rattle.std.proofs.Math.Utf8.{encodes};
 ghost use Rattle.slice_group_by.specs.Judges.{ComputesOnChars, ComputesCharKey};
@@ -67,14 +67,4 @@ pub fn groups_by_key<'a, F: FnMut(char) -> K, K: PartialEq + Drop>(
     always_callable_char_key::<F, K>();
     let mut groups = LinearStrGroupByKey::new(text, func);
     walk(&mut groups, ends, out);
-}
-
-/// The first run: the text goes on with some rest, and the split of that has the other runs.
-#[tactic(auto, using(std::proofs::lemmas::Grind::common_steps, slice_group_by::proofs::EqualPieces::equal_piece))]
-pub fn first_run(text: &str) -> Option<&str>
-    ensures { MatchOption result (text.now ≡ []) (λ run. (rest : List ℕ) × (text.now ≡ run.now ++ rest)
-        × (split nat_eq (chars text.now) ≡ chars run.now ∷ split nat_eq (chars rest))) }
-{
-    let mut groups = LinearStrGroup::new(text);
-    groups.next()
 }

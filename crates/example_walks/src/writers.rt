@@ -98,13 +98,6 @@ fn reversed(slice: &mut [u8]) -> Ended<'_, u8>
     groups.finish()
 }
 
-/// Reverses each group in place.
-pub fn reverse_groups(slice: &mut [u8])
-    ensures { slice.new ≡ concat (map reverse (split nat_eq slice.old)) }
-{
-    resolve(slice, |part| reversed(part));
-}
-
 /// Reverses each group of a vector in place.
 pub fn reverse_groups_of(vec: &mut Vec<u8>)
     ensures { vec.new.items ≡ concat (map reverse (split nat_eq vec.old.items)) }

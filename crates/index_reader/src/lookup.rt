@@ -6,7 +6,7 @@ ghost use Rattle.index_reader.specs.Keys.{lower, of_key};
 use crate::entry::Entry;
 use crate::index::Index;
 use slice_group_by::exponential_equal_places_by_ref;
-use slice_group_by::laws::{always_computes, range_calls_count, range_places};
+use slice_group_by::laws::{always_computes, range_places, search_counts};
 
 /// The places of the entries of a key, how many entries at the front are lower, and how many comparisons it took to find
 /// them.
@@ -43,7 +43,7 @@ pub fn places_from(index: &Index, before: usize, key: u32) -> Found<'_>
     always_computes(&compare);
     range_places::<u32>();
     range_places::<Entry>();
-    range_calls_count(&compare);
+    search_counts(&compare);
     let found = exponential_equal_places_by_ref(&index.keys()[before..], &mut compare);
     Found {
         before: before + found.start,

@@ -2,10 +2,10 @@
 //! group ends. A family of groups is such a way (`Way`), in a crate of its own.
 #![tactic(auto)]
 
-pub mod by_equality;
-pub mod by_key;
-pub mod by_number;
-pub mod by_predicate;
+mod by_equality;
+mod by_key;
+mod by_number;
+mod by_predicate;
 pub mod debug;
 pub mod groups;
 pub mod groups_mut;

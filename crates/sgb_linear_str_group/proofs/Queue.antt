@@ -12,7 +12,7 @@ use Rattle.sgb_search.specs.Calls.{CallAt, IsCallableBy}
 use Rattle.sgb_search.specs.Linear.{LinearQuestions}
 use Rattle.sgb_search.proofs.Questions.Calls as calls
 use Rattle.sgb_search.proofs.Linear.LinearQueue as list
-use Rattle.sgb_linear_str_group.specs.declared.groups.LinearStrGroups.{LinearStrGroups}
+use Rattle.sgb_linear_str_group.specs.declared.text_groups.LinearStrGroups.{LinearStrGroups}
 use Rattle.sgb_linear_str_group.specs.Texts.{TextGroups, text_groups_of, in_characters, IsSettledText, TextCallAt, GivesText}
 
 module _ {J : Type 0} (g : Ghosts J ℕ) (e : End) where

@@ -8,7 +8,7 @@ use Rattle.sgb_search.specs.declared.end.End.{End}
 use Rattle.sgb_search.specs.Split.{put_at}
 use Rattle.sgb_search.specs.Calls.{IsGroupAt, Groups, Place, place_after, between}
 use Rattle.sgb_search.specs.Linear.{IsSettled, LinearQuestions}
-use Rattle.sgb_linear_str_group.specs.declared.groups.LinearStrGroups.{LinearStrGroups}
+use Rattle.sgb_linear_str_group.specs.declared.text_groups.LinearStrGroups.{LinearStrGroups}
 
 -- the bytes that it has not handed out yet, and its judge
 pub record TextGroups (J : Type 0) : Type 0 where

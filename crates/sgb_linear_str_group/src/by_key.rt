@@ -9,8 +9,8 @@ ghost use Rattle.sgb_linear_str_group.specs.Texts.{text_groups_of, text_place_of
 ghost use Rattle.sgb_linear_str_group.specs.TextsMut.{text_groups_of_mut};
 ghost use Rattle.sgb_loans.specs.Loans.{NothingOut};
 
-use crate::groups::LinearStrGroups;
-use crate::groups_mut::{LinearStrGroupsMut, text_of};
+use crate::text_groups::LinearStrGroups;
+use crate::text_groups_mut::{LinearStrGroupsMut, text_of};
 use sgb_search::judge::CharKeyJudge;
 
 /// An iterator over the groups of a text by a key: a question is a call of the key function on the left character, then one

@@ -8,8 +8,8 @@ ghost use Rattle.sgb_linear_str_group.specs.Texts.{text_groups_of, text_place_of
 ghost use Rattle.sgb_linear_str_group.specs.TextsMut.{text_groups_of_mut};
 ghost use Rattle.sgb_loans.specs.Loans.{NothingOut};
 
-use crate::groups::LinearStrGroups;
-use crate::groups_mut::LinearStrGroupsMut;
+use crate::text_groups::LinearStrGroups;
+use crate::text_groups_mut::LinearStrGroupsMut;
 use sgb_search::judge::CharPredicateJudge;
 
 /// An iterator over the groups of a text by a predicate, which is asked about neighbouring characters, the left one first

@@ -1,6 +1,5 @@
 pub mod Values
 pub mod Merge
 pub mod Asking
-pub mod Examples
 pub mod JoinKinds
 pub mod Blocks

@@ -1,8 +1,7 @@
-mod Codes
-pub mod OneByOne
 pub mod Pairs
 mod Sixteen
 mod SignedBits
-mod Neighbours
-mod Vectors
+pub mod Asked
+pub mod Scanned
+pub mod Vectors
 pub mod Judged

@@ -1,5 +1,5 @@
 -- A signed number that fits its type, and the bits that a vector holds of it.
-use Rattle.std.proofs.Common.{◌≡◌, ℕ, ◌+◌, ◌-◌, ◌%◌, ◌^◌, ◌<◌, ◌≤◌, not, cond, List, [], ◌∷◌, ◌++◌, length, map, get_or, replicate, eqb, int_eq, ℤ, pos, of_z, to_z, refl, sym, ap, ap₂, ◌∙◌, arith, inl, inr}
+use Rattle.std.proofs.Common.{◌≡◌, ℕ, ◌+◌, ◌-◌, ◌%◌, ◌^◌, ◌<◌, ◌≤◌, not, cond, List, [], ◌∷◌, length, map, get_or, replicate, eqb, int_eq, ℤ, pos, of_z, to_z, refl, sym, ap, ap₂, ◌∙◌, arith, inl, inr}
 use Rattle.std.proofs.lemmas.Bool.{eqb-true, eq-eqb, false_from_ne_true, cases_Bool, false≢true}
 use Rattle.std.proofs.lemmas.Bool.Decides.{Decides-int_eq}
 use Rattle.std.proofs.lemmas.Int.{to_z-of_z}
@@ -7,11 +7,10 @@ use Rattle.std.proofs.lemmas.List.{length-map}
 use Rattle.std.proofs.lemmas.Simd.{map-map, length-chunk, get_or-chunk, bitmask_splat, Each1-from_get_or}
 use Rattle.std.specs.Int.{Width}
 use Rattle.std.specs.Int.RustNames.{FitsSigned}
-use Rattle.std.specs.Simd.Lanes.{Each1, zip2, chunk, mask_l, top, pick_l}
-use Rattle.std.specs.Prelude.{reverse}
+use Rattle.std.specs.Simd.Lanes.{Each1, zip2, chunk, mask_l, top}
 use mir.Val.{bits, hbits}
-use Rattle.sgb_numbers.specs.Boundaries.{boundaries}
-use Rattle.sgb_numbers.proofs.Vectors.{down, unequal, lanes_mask, boundaries-chunk, mask_of, mask_of_turned}
+use Rattle.sgb_numbers.specs.Neighbours.{boundaries}
+use Rattle.sgb_numbers.proofs.Vectors.{unequal, lanes_mask, boundaries-chunk, mask_of}
 
 module _ (w : Width) (e : ℤ) (here : FitsSigned w e) where
   same_bits : (x : ℤ) → FitsSigned w x → not (eqb (of_z w x) (of_z w e)) ≡ not (int_eq x e)
@@ -72,10 +71,4 @@ module _ (w : Width) where
 
     pub signed_cuts : lanes_mask w (unequal eqb) (held at) (held (at + 1)) ≡ mask_l (chunk at 16 (boundaries int_eq xs))
     signed_cuts =
-        mask_of 0 w (unequal eqb) (held at) (held (at + 1)) (long_of at (omega arith)) (long_of (at + 1) (omega arith)) ∙ ap mask_l tests_are
-
-    pub signed_cuts_back : lanes_mask w (unequal eqb) (pick_l 0 (held at ++ held at) (down 16)) (pick_l 0 (held (at + 1) ++ held (at + 1)) (down 16))
-        ≡ mask_l (reverse (chunk at 16 (boundaries int_eq xs)))
-    signed_cuts_back =
-        mask_of_turned 0 w (unequal eqb) (held at) (held (at + 1)) (long_of at (omega arith)) (long_of (at + 1) (omega arith))
-        ∙ ap (λ bs. mask_l (reverse bs)) tests_are
+        mask_of w (unequal eqb) (held at) (held (at + 1)) (long_of at (omega arith)) (long_of (at + 1) (omega arith)) ∙ ap mask_l tests_are

@@ -1,13 +1,11 @@
--- The mask of two vectors of neighbours, and of the same two turned around.
-use Rattle.std.proofs.Common.{◌≡◌, ℕ, zero, suc, ◌+◌, ◌-◌, ◌%◌, ◌^◌, ◌<◌, ◌≤◌, not, cond, Bool, List, [], ◌∷◌, ◌++◌, length, map, take, drop, get_or, refl, sym, ap, ap₂, ◌∙◌, arith}
-use Rattle.std.specs.Prelude.{reverse}
-use Rattle.std.proofs.lemmas.List.{length-reverse, reverse-append, take_more, drop-drop}
-use Rattle.std.proofs.Math.Seq.{take-length}
-use Rattle.std.proofs.lemmas.Simd.{length-chunk, length-zip2, tops_compared, mask_l-mod, pick_l_left}
+-- The mask of two vectors of neighbours.
+use Rattle.std.proofs.Common.{◌≡◌, ℕ, zero, suc, ◌+◌, ◌-◌, ◌%◌, ◌^◌, ◌<◌, not, cond, Bool, List, [], ◌∷◌, length, map, take, drop, refl, sym, ap, ◌∙◌, arith}
+use Rattle.std.proofs.lemmas.List.{drop-drop}
+use Rattle.std.proofs.lemmas.Simd.{length-chunk, length-zip2, tops_compared, mask_l-mod}
 use Rattle.std.specs.Int.{Width}
-use Rattle.std.specs.Simd.Lanes.{zip2, chunk, mask_l, top, pick_l}
+use Rattle.std.specs.Simd.Lanes.{zip2, chunk, mask_l, top}
 use mir.Val.{bits, hbits}
-use Rattle.sgb_numbers.specs.Boundaries.{boundaries}
+use Rattle.sgb_numbers.specs.Neighbours.{boundaries}
 
 module _ {X Y Z : Type 0} (f : X → Y → Z) where
   zip2-take : (n : ℕ) (xs : List X) (ys : List Y) → take n (zip2 f xs ys) ≡ zip2 f (take n xs) (take n ys)
@@ -25,40 +23,6 @@ module _ {X Y Z : Type 0} (f : X → Y → Z) where
   zip2-drop (suc n) [] ys = refl
   zip2-drop (suc n) (x ∷ xs) [] = sym (zip2_none (drop n xs))
   zip2-drop (suc n) (x ∷ xs) (y ∷ ys) = zip2-drop n xs ys
-
-  zip2-append : (xs us : List X) (ys vs : List Y) → length xs ≡ length ys → zip2 f (xs ++ us) (ys ++ vs) ≡ zip2 f xs ys ++ zip2 f us vs
-  zip2-append [] us [] vs e = refl
-  zip2-append [] us (y ∷ ys) vs e = absurd (omega arith)
-  zip2-append (x ∷ xs) us [] vs e = absurd (omega arith)
-  zip2-append (x ∷ xs) us (y ∷ ys) vs e = ap (λ zs. f x y ∷ zs) (zip2-append xs us ys vs (omega arith))
-
-  pub zip2-reverse : (xs : List X) (ys : List Y) → length xs ≡ length ys → zip2 f (reverse xs) (reverse ys) ≡ reverse (zip2 f xs ys)
-  zip2-reverse [] [] e = refl
-  zip2-reverse [] (y ∷ ys) e = absurd (omega arith)
-  zip2-reverse (x ∷ xs) [] e = absurd (omega arith)
-  zip2-reverse (x ∷ xs) (y ∷ ys) e =
-      ap₂ (λ us vs. zip2 f us vs) (reverse-append (x ∷ []) xs) (reverse-append (y ∷ []) ys)
-      ∙ zip2-append (reverse xs) (x ∷ []) (reverse ys) (y ∷ []) (omega (arith, length-reverse xs, length-reverse ys))
-      ∙ ap (λ zs. zs ++ f x y ∷ []) (zip2-reverse xs ys (omega arith))
-      ∙ sym (reverse-append (f x y ∷ []) (zip2 f xs ys))
-
--- the places below n, the last one first
-abbrev pub down : ℕ → List ℕ
-down zero = []
-down (suc n) = n ∷ down n
-
-picked_down : {X : Type 0} (d : X) (xs : List X) (n : ℕ) → n ≤ length xs → pick_l d xs (down n) ≡ reverse (take n xs)
-picked_down d xs zero l = refl
-picked_down d xs (suc n) l =
-    ap (λ zs. get_or xs n d ∷ zs) (picked_down d xs n (omega arith))
-    ∙ sym (reverse-append (take n xs) (get_or xs n d ∷ []))
-    ∙ ap reverse (sym (take_more xs n d (omega arith)) ∙ ap (λ (k : ℕ). take k xs) {x = n + 1} {y = suc n} (omega arith))
-
--- sixteen lanes turned around
-pub turned : {X : Type 0} (d : X) (v : List X) → length v ≡ 16 → pick_l d (v ++ v) (down 16) ≡ reverse v
-turned d v long =
-    pick_l_left d v v 16 (down 16) long tt ∙ picked_down d v 16 (omega arith)
-    ∙ ap (λ (n : ℕ). reverse (take n v)) (sym long) ∙ ap reverse (take-length v)
 
 module _ {T : Type 0} (eq : T → T → Bool) where
   abbrev pub unequal : T → T → Bool
@@ -79,22 +43,15 @@ module _ {T : Type 0} (eq : T → T → Bool) where
 abbrev pub lanes_mask : {X : Type 0} → Width → (X → X → Bool) → List X → List X → ℕ
 lanes_mask w t xs ys = mask_l (map (top (hbits w)) (zip2 (λ a b. cond (t a b) (2 ^ bits w - 1) 0) xs ys)) % 2 ^ 64
 
--- the mask of two vectors, and of the same two turned around
-module _ {X : Type 0} (d : X) (w : Width) (t : X → X → Bool) (us vs : List X) (first : length us ≡ 16) (second : length vs ≡ 16) where
+-- the mask of two vectors
+module _ {X : Type 0} (w : Width) (t : X → X → Bool) (us vs : List X) (first : length us ≡ 16) (second : length vs ≡ 16) where
   pub mask_of : lanes_mask w t us vs ≡ mask_l (zip2 t us vs)
   mask_of =
       ap (λ bs. mask_l bs % 2 ^ 64) (tops_compared w t us vs)
       ∙ mask_l-mod (zip2 t us vs) 64 (omega (arith, length-zip2 t us vs (first ∙ sym second), first))
 
-  pub mask_of_turned : lanes_mask w t (pick_l d (us ++ us) (down 16)) (pick_l d (vs ++ vs) (down 16)) ≡ mask_l (reverse (zip2 t us vs))
-  mask_of_turned =
-      ap₂ (lanes_mask w t) (turned d us first) (turned d vs second)
-      ∙ ap (λ bs. mask_l bs % 2 ^ 64) (tops_compared w t (reverse us) (reverse vs) ∙ zip2-reverse t us vs (first ∙ sym second))
-      ∙ mask_l-mod (reverse (zip2 t us vs)) 64
-      (omega (arith, length-reverse (zip2 t us vs), length-zip2 t us vs (first ∙ sym second), first))
-
 -- numbers that a vector holds as they are
-module _ {X : Type 0} (d : X) (w : Width) (eq : X → X → Bool) (xs : List X) (at : ℕ) (room : at + 16 < length xs) where
+module _ {X : Type 0} (w : Width) (eq : X → X → Bool) (xs : List X) (at : ℕ) (room : at + 16 < length xs) where
   abbrev first_of : List X
   first_of = chunk at 16 xs
 
@@ -108,11 +65,4 @@ module _ {X : Type 0} (d : X) (w : Width) (eq : X → X → Bool) (xs : List X) 
   long_second = length-chunk (at + 1) 16 xs (omega arith)
 
   pub mask_is : lanes_mask w (unequal eq) first_of second_of ≡ mask_l (chunk at 16 (boundaries eq xs))
-  mask_is = mask_of d w (unequal eq) first_of second_of long_first long_second ∙ ap mask_l (sym (boundaries-chunk eq at 16 xs))
-
-  pub mask_is_turned : lanes_mask w (unequal eq) (pick_l d (first_of ++ first_of) (down 16))
-      (pick_l d (second_of ++ second_of) (down 16))
-      ≡ mask_l (reverse (chunk at 16 (boundaries eq xs)))
-  mask_is_turned =
-      mask_of_turned d w (unequal eq) first_of second_of long_first long_second
-      ∙ ap (λ bs. mask_l (reverse bs)) (sym (boundaries-chunk eq at 16 xs))
+  mask_is = mask_of w (unequal eq) first_of second_of long_first long_second ∙ ap mask_l (sym (boundaries-chunk eq at 16 xs))

@@ -1,5 +1,3 @@
 pub mod Alike
-pub mod AsciiBytes
-pub mod Boundaries
-pub mod Classes
+pub mod Neighbours
 pub mod Numbers

@@ -1,7 +1,7 @@
 //! The types of numbers that are compared by vectors.
-ghost use Rattle.std.specs.Prelude.{◌≡◌, ◌+◌, ◌<◌, ◌≤◌, not, length, map, reverse};
+ghost use Rattle.std.specs.Prelude.{◌≡◌, ◌+◌, ◌<◌, ◌≤◌, not, length, map};
 ghost use Rattle.std.specs.Simd.Lanes.{mask_l, chunk};
-ghost use Rattle.sgb_numbers.specs.Boundaries.{boundaries};
+ghost use Rattle.sgb_numbers.specs.Neighbours.{boundaries};
 
 use crate::signed::{Signed, read_all};
 use std::simd::prelude::*;
@@ -17,11 +17,6 @@ pub trait Lanes: PartialEq {
     fn cuts(slice: &[Self], at: usize) -> u64
         requires { at + 16 < length slice.now }
         ensures { result ≡ mask_l (chunk at 16 (boundaries Self.eq slice.now)) };
-
-    /// The same pairs, the last one first.
-    fn cuts_back(slice: &[Self], at: usize) -> u64
-        requires { at + 16 < length slice.now }
-        ensures { result ≡ mask_l (reverse (chunk at 16 (boundaries Self.eq slice.now))) };
 }
 
 impl Lanes for u8 {
@@ -36,13 +31,6 @@ impl Lanes for u8 {
     fn cuts(slice: &[u8], at: usize) -> u64 {
         let first = u8x16::from_slice(&slice[at..]);
         let second = u8x16::from_slice(&slice[at + 1..]);
-        first.simd_ne(second).to_bitmask()
-    }
-
-    #[inline(always)]
-    fn cuts_back(slice: &[u8], at: usize) -> u64 {
-        let first = u8x16::from_slice(&slice[at..]).reverse();
-        let second = u8x16::from_slice(&slice[at + 1..]).reverse();
         first.simd_ne(second).to_bitmask()
     }
 }
@@ -61,13 +49,6 @@ impl Lanes for u16 {
         let second = u16x16::from_slice(&slice[at + 1..]);
         first.simd_ne(second).to_bitmask()
     }
-
-    #[inline(always)]
-    fn cuts_back(slice: &[u16], at: usize) -> u64 {
-        let first = u16x16::from_slice(&slice[at..]).reverse();
-        let second = u16x16::from_slice(&slice[at + 1..]).reverse();
-        first.simd_ne(second).to_bitmask()
-    }
 }
 
 impl Lanes for u32 {
@@ -82,13 +63,6 @@ impl Lanes for u32 {
     fn cuts(slice: &[u32], at: usize) -> u64 {
         let first = u32x16::from_slice(&slice[at..]);
         let second = u32x16::from_slice(&slice[at + 1..]);
-        first.simd_ne(second).to_bitmask()
-    }
-
-    #[inline(always)]
-    fn cuts_back(slice: &[u32], at: usize) -> u64 {
-        let first = u32x16::from_slice(&slice[at..]).reverse();
-        let second = u32x16::from_slice(&slice[at + 1..]).reverse();
         first.simd_ne(second).to_bitmask()
     }
 }
@@ -107,13 +81,6 @@ impl Lanes for u64 {
         let second = u64x16::from_slice(&slice[at + 1..]);
         first.simd_ne(second).to_bitmask()
     }
-
-    #[inline(always)]
-    fn cuts_back(slice: &[u64], at: usize) -> u64 {
-        let first = u64x16::from_slice(&slice[at..]).reverse();
-        let second = u64x16::from_slice(&slice[at + 1..]).reverse();
-        first.simd_ne(second).to_bitmask()
-    }
 }
 
 impl Lanes for usize {
@@ -128,13 +95,6 @@ impl Lanes for usize {
     fn cuts(slice: &[usize], at: usize) -> u64 {
         let first = usizex16::from_slice(&slice[at..]);
         let second = usizex16::from_slice(&slice[at + 1..]);
-        first.simd_ne(second).to_bitmask()
-    }
-
-    #[inline(always)]
-    fn cuts_back(slice: &[usize], at: usize) -> u64 {
-        let first = usizex16::from_slice(&slice[at..]).reverse();
-        let second = usizex16::from_slice(&slice[at + 1..]).reverse();
         first.simd_ne(second).to_bitmask()
     }
 }
@@ -153,13 +113,6 @@ impl Lanes for f32 {
         let second = f32x16::from_slice(&slice[at + 1..]);
         first.simd_ne(second).to_bitmask()
     }
-
-    #[inline(always)]
-    fn cuts_back(slice: &[f32], at: usize) -> u64 {
-        let first = f32x16::from_slice(&slice[at..]).reverse();
-        let second = f32x16::from_slice(&slice[at + 1..]).reverse();
-        first.simd_ne(second).to_bitmask()
-    }
 }
 
 impl Lanes for f64 {
@@ -174,13 +127,6 @@ impl Lanes for f64 {
     fn cuts(slice: &[f64], at: usize) -> u64 {
         let first = f64x16::from_slice(&slice[at..]);
         let second = f64x16::from_slice(&slice[at + 1..]);
-        first.simd_ne(second).to_bitmask()
-    }
-
-    #[inline(always)]
-    fn cuts_back(slice: &[f64], at: usize) -> u64 {
-        let first = f64x16::from_slice(&slice[at..]).reverse();
-        let second = f64x16::from_slice(&slice[at + 1..]).reverse();
         first.simd_ne(second).to_bitmask()
     }
 }
@@ -202,14 +148,6 @@ impl Lanes for i8 {
         let second = i8x16::from_slice(&slice[at + 1..]);
         first.simd_ne(second).to_bitmask()
     }
-
-    #[inline(always)]
-    fn cuts_back(slice: &[i8], at: usize) -> u64 {
-        read_all(slice, at, at + 17);
-        let first = i8x16::from_slice(&slice[at..]).reverse();
-        let second = i8x16::from_slice(&slice[at + 1..]).reverse();
-        first.simd_ne(second).to_bitmask()
-    }
 }
 
 impl Lanes for i16 {
@@ -227,14 +165,6 @@ impl Lanes for i16 {
         read_all(slice, at, at + 17);
         let first = i16x16::from_slice(&slice[at..]);
         let second = i16x16::from_slice(&slice[at + 1..]);
-        first.simd_ne(second).to_bitmask()
-    }
-
-    #[inline(always)]
-    fn cuts_back(slice: &[i16], at: usize) -> u64 {
-        read_all(slice, at, at + 17);
-        let first = i16x16::from_slice(&slice[at..]).reverse();
-        let second = i16x16::from_slice(&slice[at + 1..]).reverse();
         first.simd_ne(second).to_bitmask()
     }
 }
@@ -256,14 +186,6 @@ impl Lanes for i32 {
         let second = i32x16::from_slice(&slice[at + 1..]);
         first.simd_ne(second).to_bitmask()
     }
-
-    #[inline(always)]
-    fn cuts_back(slice: &[i32], at: usize) -> u64 {
-        read_all(slice, at, at + 17);
-        let first = i32x16::from_slice(&slice[at..]).reverse();
-        let second = i32x16::from_slice(&slice[at + 1..]).reverse();
-        first.simd_ne(second).to_bitmask()
-    }
 }
 
 impl Lanes for i64 {
@@ -283,14 +205,6 @@ impl Lanes for i64 {
         let second = i64x16::from_slice(&slice[at + 1..]);
         first.simd_ne(second).to_bitmask()
     }
-
-    #[inline(always)]
-    fn cuts_back(slice: &[i64], at: usize) -> u64 {
-        read_all(slice, at, at + 17);
-        let first = i64x16::from_slice(&slice[at..]).reverse();
-        let second = i64x16::from_slice(&slice[at + 1..]).reverse();
-        first.simd_ne(second).to_bitmask()
-    }
 }
 
 impl Lanes for isize {
@@ -308,14 +222,6 @@ impl Lanes for isize {
         read_all(slice, at, at + 17);
         let first = isizex16::from_slice(&slice[at..]);
         let second = isizex16::from_slice(&slice[at + 1..]);
-        first.simd_ne(second).to_bitmask()
-    }
-
-    #[inline(always)]
-    fn cuts_back(slice: &[isize], at: usize) -> u64 {
-        read_all(slice, at, at + 17);
-        let first = isizex16::from_slice(&slice[at..]).reverse();
-        let second = isizex16::from_slice(&slice[at + 1..]).reverse();
         first.simd_ne(second).to_bitmask()
     }
 }

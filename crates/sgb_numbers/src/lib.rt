@@ -1,8 +1,6 @@
 //! Numbers compared by vectors, sixteen at a time, and the judge of equal numbers.
 #![tactic(auto)]
 
-pub mod ascii_classes;
-pub mod byte_classes;
 pub mod lanes;
 pub mod masks;
 pub mod number_judge;

@@ -1,8 +1,8 @@
 //! What tells which elements are the same, sixteen at a time.
-ghost use Rattle.std.specs.Prelude.{◌≡◌, ◌+◌, ◌<◌, ◌≤◌, not, Bool, length, map, reverse};
+ghost use Rattle.std.specs.Prelude.{◌≡◌, ◌+◌, ◌<◌, ◌≤◌, not, Bool, length, map};
 ghost use Rattle.std.specs.Cmp.{IsPartialEquivalence};
 ghost use Rattle.std.specs.Simd.Lanes.{mask_l, chunk};
-ghost use Rattle.sgb_numbers.specs.Boundaries.{boundaries};
+ghost use Rattle.sgb_numbers.specs.Neighbours.{boundaries};
 
 use sgb_search::judge::Judge;
 
@@ -25,11 +25,6 @@ pub trait Masks<T> {
     fn cuts(slice: &[T], at: usize) -> u64
         requires { at + 16 < length slice.now }
         ensures { result ≡ mask_l (chunk at 16 (boundaries same slice.now)) };
-
-    /// The same pairs, the last one first.
-    fn cuts_back(slice: &[T], at: usize) -> u64
-        requires { at + 16 < length slice.now }
-        ensures { result ≡ mask_l (reverse (chunk at 16 (boundaries same slice.now))) };
 
     ghost laws: { IsPartialEquivalence same };
 }

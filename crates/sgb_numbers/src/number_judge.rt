@@ -53,11 +53,6 @@ impl<T: Lanes> Masks<T> for NumberJudge {
         T::cuts(slice, at)
     }
 
-    #[inline(always)]
-    fn cuts_back(slice: &[T], at: usize) -> u64 {
-        T::cuts_back(slice, at)
-    }
-
     ghost laws = { T.PartialEq.laws };
 }
 

@@ -10,7 +10,7 @@ use crate::masks::Masks;
 use crate::number_judge::NumberJudge;
 
 // So many are compared one by one first: groups are often as short.
-const NEAR: usize = 9;
+const ONE_BY_ONE: usize = 9;
 
 /// How many elements from the place `low` on are equal to the one there, before the place `high`.
 #[inline]
@@ -20,14 +20,14 @@ pub fn first_like<T: Lanes>(slice: &[T], low: usize, high: usize) -> usize
     ensures { IsFirstLen T.eq slice.now low high result }
 {
     let number = &slice[low];
-    if high - low < NEAR + 16 {
+    if high - low < ONE_BY_ONE + 16 {
         return like_from::<T, NumberJudge>(number, slice, low, 1, high - low);
     }
-    let near = like_from::<T, NumberJudge>(number, slice, low, 1, NEAR);
-    if near < NEAR {
+    let near = like_from::<T, NumberJudge>(number, slice, low, 1, ONE_BY_ONE);
+    if near < ONE_BY_ONE {
         return near;
     }
-    like_by_vectors::<T, NumberJudge>(number, slice, low + NEAR, high) - low
+    like_by_vectors::<T, NumberJudge>(number, slice, low + ONE_BY_ONE, high) - low
 }
 
 /// How many elements from the place `low` on are equal to the number, `most` at most, where the first `len` are.
@@ -77,14 +77,14 @@ pub fn last_like<T: Lanes>(slice: &[T], low: usize, high: usize) -> usize
     ensures { IsLastLen T.eq slice.now low high result }
 {
     let number = &slice[high - 1];
-    if high - low < NEAR + 16 {
+    if high - low < ONE_BY_ONE + 16 {
         return like_upto::<T, NumberJudge>(number, slice, high, 1, high - low);
     }
-    let near = like_upto::<T, NumberJudge>(number, slice, high, 1, NEAR);
-    if near < NEAR {
+    let near = like_upto::<T, NumberJudge>(number, slice, high, 1, ONE_BY_ONE);
+    if near < ONE_BY_ONE {
         return near;
     }
-    high - like_back_by_vectors::<T, NumberJudge>(number, slice, low, high - NEAR)
+    high - like_back_by_vectors::<T, NumberJudge>(number, slice, low, high - ONE_BY_ONE)
 }
 
 /// How many last elements before the place `high` are equal to the number, `most` at most, where the last `len` are.

@@ -1,22 +1,22 @@
 //! Laws of the definitions. Each is a function that does nothing: its contract is the law, and a caller cites it.
-ghost use Rattle.std.specs.Prelude.{cond, ◌≡◌, ℕ, ◌+◌, ◌-◌, ◌^◌, ◌<◌, ◌≤◌, ◌++◌, Bool, List, Result, Some, length, map, nat_lt};
+ghost use Rattle.std.specs.Prelude.{cond, ◌≡◌, ℕ, ◌+◌, ◌-◌, ◌^◌, ◌<◌, ◌≤◌, ◌++◌, Bool, List, Some, length, map, nat_lt};
 ghost use Rattle.std.specs.Prelude.{slice_range};
 ghost use Rattle.sgb_search.specs.Calls.{ComputesBy, IsCallableBy};
-ghost use Rattle.std.specs.Fn.{ComputesKey, TakesAt, TakesAtTwo, Called, CalledAt, CalledAtTwo};
+ghost use Rattle.std.specs.Fn.{ComputesKey, TakesAt, TakesAtTwo, CalledAt, CalledAtTwo};
 ghost use Rattle.std.specs.List.{Contains, slice_get, count_by, filter};
 ghost use Rattle.std.specs.List.Sorted.{IsPartitionedBy};
 ghost use Rattle.std.specs.Ordering.{flip_args, is_lt, is_le, is_eq, is_gt};
 ghost use Rattle.std.specs.declared.cmp.Ordering.{Ordering};
 ghost use Rattle.std.specs.declared.cmp.Ordering.TheVariants.{Less, Greater};
 ghost use Rattle.sgb_search.specs.declared.end.End.{End};
-ghost use Rattle.sgb_search.specs.Searching.{digits, QuestionsAt};
-ghost use Rattle.sgb_search.specs.Ranges.{AsksRange, IsRangeAt};
+ghost use Rattle.sgb_search.specs.Searching.{digits};
+ghost use Rattle.sgb_search.specs.Ranges.{IsRangeAt};
 ghost use Rattle.sgb_search.specs.Split.{AreApart, neighbours, AreNeighbours, IsGrouped, IsSplit, concat, first, last};
 ghost use Rattle.sgb_search.specs.Split.{without_last, split, refused_pairs};
 ghost use Rattle.sgb_search.specs.Seams.{is_accepted_across, lens_joined, seam};
-ghost use Rattle.sgb_search.specs.Search.{IsCallableOn, ComputesOn, IsLessEqualGreater, IsSearch, NeverDescends};
+ghost use Rattle.sgb_search.specs.Search.{IsCallableOn, ComputesOn, IsLessEqualGreater, NeverDescends};
 ghost use Rattle.sgb_search.specs.Linear.{questions};
-ghost use Rattle.sgb_search.specs.Judges.{IsRunOf, by_predicate, predicate_judge, CalledAtChar, by_key, key_judge};
+ghost use Rattle.sgb_search.specs.Judges.{IsRunOf, by_predicate, predicate_judge, by_key, key_judge};
 ghost use Rattle.sgb_search.specs.Judges.{by_char_predicate, char_predicate_judge, by_char_key, char_key_judge, by_equality};
 ghost use Rattle.sgb_search.specs.declared.judge.EqualityJudge.{EqualityJudge};
 
@@ -41,14 +41,6 @@ pub fn splits_join<T>()
         → length (split p (xs ++ ys)) + cond (is_accepted_across p xs ys) 1 0 ≡ length (split p xs) + length (split p ys) }
     ensures lens { (p : T → T → Bool) (xs ys : List T) → map length (split p (xs ++ ys))
         ≡ lens_joined (is_accepted_across p xs ys) (map length (split p xs)) (map length (split p ys)) }
-{}
-
-/// How many neighbouring pairs a list has, and how many questions a linear call asks that takes g of its elements: g if
-/// something remains after them, and else g - 1.
-pub fn question_count<T>()
-    ensures pairs { (xs : List T) → length (neighbours xs) ≡ length xs - 1 }
-    ensures some_remain { (e : End) (xs : List T) (g : ℕ) → 0 < g → g < length xs → length (questions e xs g) ≡ g }
-    ensures none_remain { (e : End) (xs : List T) (g : ℕ) → 0 < g → g ≡ length xs → length (questions e xs g) ≡ g - 1 }
 {}
 
 /// A predicate that may always be called may be asked about the neighbouring pairs of every slice.
@@ -156,25 +148,6 @@ pub fn computes_on_pairs<T, P: FnMut(&T, &T) -> bool>()
         (record { remainder = xs; judge = predicate_judge predicate }) p }
 {}
 
-/// A predicate of characters whose every call on neighbouring characters of a text answers a test, in each of its states,
-/// whatever it answers elsewhere: its judge answers the test there.
-pub fn computes_on_char_pairs<P: FnMut(char, char) -> bool>()
-    ensures { (cs : List ℕ) (p : ℕ → ℕ → Bool)
-        → ((f h : P) (q : ℕ × ℕ) (b : Bool) → AreNeighbours cs q → Called P.FnMut f (q.0, (q.1, tt)) b h
-        → b ≡ p q.0 q.1)
-        → (predicate : P) → ComputesBy AreNeighbours (by_char_predicate P.FnMut)
-        (record { remainder = cs; judge = char_predicate_judge predicate }) p }
-{}
-
-/// A key function of characters whose every call on a character of a text gives its key, in each of its states, whatever it
-/// gives of others: its judge answers whether the keys of neighbours are equal.
-pub fn computes_on_chars<F: FnMut(char) -> K, K: PartialEq + Drop>()
-    ensures { (cs : List ℕ) (key : ℕ → K)
-        → ((f h : F) (c : ℕ) (k : K) → Contains cs c → CalledAtChar F.FnMut f c k h → k ≡ key c)
-        → (func : F) → ComputesBy AreNeighbours (by_char_key F.FnMut K.eq)
-        (record { remainder = cs; judge = char_key_judge func }) (λ a b. K.eq (key a) (key b)) }
-{}
-
 /// A predicate of characters that may always be called may be asked about the neighbouring characters of every text.
 pub fn always_callable_chars<P: FnMut(char, char) -> bool>()
     ensures { (cs : List ℕ) (predicate : P) → P.IsAlwaysCallable predicate
@@ -263,24 +236,6 @@ pub fn parts_are_grouped<T>()
 pub fn digits_is_least()
     ensures above { (m : ℕ) → m < 2 ^ digits m }
     ensures least { (m d : ℕ) → m < 2 ^ d → digits m ≤ d }
-{}
-
-/// A search of a slice as the calls that it made. Its contract speaks of the places that it asked about, and of their answers. This
-/// law gives the run of calls: one for each of these places, in that order, on the element there, with that answer (`in_order`). So
-/// the last call of a search that gives `Ok` was on the element there, and was read as `Equal`.
-pub fn searches_call<T, K, F: FnMut(&T) -> K>(_f: &F)
-    ensures { (reads : K → Ordering) (xs : List T) (f t : F) (found : Result ℕ ℕ)
-        → (search : IsSearch F.FnMut xs reads f found t)
-        → QuestionsAt (TakesAt F.FnMut) (CalledAt F.FnMut) xs (Contains xs) f search.questions t }
-{}
-
-/// Of a slice of which a function's answers read as `Less`, then `Equal`, then `Greater`, the elements that a search for the range
-/// of the equal ones passes over are those that are `Less`.
-pub fn range_starts<T, K, F: FnMut(&T) -> K>(_f: &F)
-    ensures { (read : K → Ordering) (answer : T → K) (xs equals : List T) (f t : F) → ComputesOn F.FnMut xs answer f
-        → IsLessEqualGreater (λ x. read (answer x)) xs
-        → (a : AsksRange F.FnMut (λ k. is_lt (read k)) (λ k. is_eq (read k)) xs f equals t)
-        → length a.before ≡ count_by (λ x. is_lt (read (answer x))) xs }
 {}
 
 /// Where the equal elements stand, in a list whose answers are `Less`, then `Equal`, then `Greater`: behind as many as are `Less`

@@ -13,5 +13,4 @@ pub mod judge;
 pub mod laws;
 pub mod partition;
 pub mod places;
-pub mod ranges;
 pub mod search;

@@ -34,11 +34,18 @@ fn places<T, K, L: Test<K>, E: Test<K>, F: FnMut(&T) -> K>(
     start..start + len
 }
 
-/// Where the elements stand that are equal to what is sought, as a range of places: the elements there are what
-/// `exponential_equal_range_by` gives. If none is equal, the range is empty, and begins where an equal element would be inserted.
+/// Where the elements stand that are equal to what is sought, as a range of places: those of which the comparator answers
+/// `Equal`, in a slice of which it answers `Less` of the first elements, then `Equal`, then `Greater`, each perhaps of none.
+/// `&slice[places]` has the elements. If none is equal, the range is empty, and begins where an equal element would be inserted.
 ///
-/// A caller knows that `start <= end` and that `end` is at most the slice's length. Questions and conditions are those of
-/// `exponential_equal_range_by`.
+/// It gallops to both ends, to the first from the first element of the slice, to the second from there on, so it is cheap
+/// where few elements come before the equal ones and few are equal. A call that passes over m elements and finds n asks at
+/// most `2 * digits(m + 1) + 2 * digits(n + 1) + 2` questions, whatever the comparator answers. On any slice, if the
+/// comparator depends only on its argument, its answers show both ends (`IsLocalRangeAt`).
+///
+/// The comparator must be callable on each element, in whatever state earlier calls left it. It is given up: to call it
+/// again, lend it to `exponential_equal_places_by_ref`. A caller knows that `start <= end` and that `end` is at most the
+/// slice's length.
 ///
 /// ```
 /// let rows = [(1, 'a'), (3, 'b'), (3, 'c'), (7, 'd')];
@@ -98,13 +105,14 @@ where
     places(slice, &Less {}, &Equal {}, f)
 }
 
-/// Where the elements stand that are equal to one that is given, in a slice that ascends: the places of those that
-/// `exponential_equal_range` gives.
+/// Where the elements stand that are equal to one that is given, in a slice that ascends.
 ///
 /// It compares by `x.cmp(elem)`, as often as `exponential_equal_places_by` asks, and promises what that promises.
 ///
 /// ```
-/// exponential_equal_places(&[0, 1, 1, 1, 1, 2, 3, 5, 8], &1); // 1..5
+/// let slice = [0, 1, 1, 1, 1, 2, 3, 5, 8];
+/// exponential_equal_places(&slice, &1);         // 1..5
+/// &slice[exponential_equal_places(&slice, &1)]; // [1, 1, 1, 1]
 /// ```
 #[inline]
 pub fn exponential_equal_places<T: Ord>(slice: &[T], elem: &T) -> Range<usize>
@@ -122,8 +130,7 @@ pub fn exponential_equal_places<T: Ord>(slice: &[T], elem: &T) -> Range<usize>
     exponential_equal_places_by(slice, |x| x.cmp(elem))
 }
 
-/// Where the elements with a key stand, which the function gives of each element, in a slice that ascends by the key: the places of
-/// those that `exponential_equal_range_by_key` gives.
+/// Where the elements with a key stand, which the function gives of each element, in a slice that ascends by the key.
 ///
 /// It compares by `f(x).cmp(b)`, and promises what `exponential_equal_places_by` promises.
 ///

@@ -87,7 +87,7 @@ where
 /// Searches a slice with a comparator that it is lent: it answers and asks what `exponential_search_by` does.
 ///
 /// The comparator comes back in the state that just these questions lead to. So where each call raises a number that it
-/// captured by one, the number is raised by at most `2 * digits(i + 1) + 1` (`laws::comparisons_count`). It may be called on
+/// captured by one, the number is raised by at most `2 * digits(i + 1) + 1` (`laws::search_counts`). It may be called on
 /// each element again, and answers what it answered.
 ///
 /// ```
@@ -169,7 +169,7 @@ where
 }
 
 /// Searches a slice for a key by a key function that it is lent: it answers and asks what `exponential_search_by_key` does,
-/// and the function comes back in the state that just these calls lead to (`laws::key_calls_count`).
+/// and the function comes back in the state that just these calls lead to (`laws::search_counts`).
 ///
 /// ```
 /// let mut called = 0;

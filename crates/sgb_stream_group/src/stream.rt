@@ -2,9 +2,9 @@
 ghost use Rattle.std.specs.Prelude.{◌≡◌, Bool, map};
 ghost use Rattle.std.specs.Fn.{ComputesKey, ComputesOnPairs};
 ghost use Rattle.std.specs.Ordering.{on};
-ghost use Rattle.sgb_numbers.specs.Classes.{by_class};
+ghost use Rattle.sgb_masks.specs.Classes.{by_class};
 ghost use Rattle.sgb_numbers.specs.Numbers.{by_number};
-ghost use Rattle.sgb_number_group.specs.Gives as numbers;
+ghost use Rattle.sgb_masks.specs.Gives as numbers;
 ghost use Rattle.sgb_search.specs.Calls.{ComputesBy, IsCallableBy};
 ghost use Rattle.sgb_search.specs.Judges.{by_equality, by_key, by_predicate};
 ghost use Rattle.sgb_search.specs.Split.{AreNeighbours};
@@ -15,9 +15,9 @@ ghost use Rattle.sgb_groups.specs.Gives.{groups_of};
 use crate::asking::{begins_by, ends, groups_by, groups_by_key, key_of};
 use crate::parts::Parts;
 use sgb_linear_group::linear_group::{LinearGroup, LinearGroupBy, LinearGroupByKey};
-use sgb_number_group::by_class::LinearClassGroup;
-use sgb_number_group::by_number::LinearNumberGroup;
-use sgb_numbers::byte_classes::ByteClasses;
+use sgb_masks::by_class::LinearClassGroup;
+use sgb_masks::by_number::LinearNumberGroup;
+use sgb_masks::byte_classes::ByteClasses;
 use sgb_numbers::lanes::Lanes;
 
 /// A stream that comes in blocks, any of which may be empty, and whose groups may go on over several. It keeps the last

@@ -3,7 +3,7 @@ use Rattle.std.specs.Prelude.{◌≡◌, ℕ, List, [], ◌∷◌, length, Optio
 use Rattle.std.specs.Borrow.{Bor}
 use Rattle.std.specs.Iterator.{Count, at_most}
 use Rattle.sgb_search.specs.declared.end.End.{End}
-use Rattle.slice_group_by.specs.declared.dedup.DedupWithCount.{DedupWithCount}
+use Rattle.slice_group_by.specs.declared.adapters.dedup.DedupWithCount.{DedupWithCount}
 
 -- the length and the first element of each list that is not empty
 abbrev pub counted : {T : Type 0} → List (List T) → List (ℕ × T)

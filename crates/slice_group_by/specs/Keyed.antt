@@ -2,7 +2,7 @@
 use Rattle.std.specs.Prelude.{◌≡◌, List, [], ◌∷◌, length, Option, None, Some, MatchOption, slice_get}
 use Rattle.std.specs.Iterator.{Count, at_most}
 use Rattle.sgb_search.specs.declared.end.End.{End}
-use Rattle.slice_group_by.specs.declared.keyed.WithKeys.{WithKeys}
+use Rattle.slice_group_by.specs.declared.adapters.keyed.WithKeys.{WithKeys}
 
 -- each list that is not empty, with the key of its first element
 abbrev pub keyed : {T K : Type 0} → (T → K) → List (List T) → List (K × List T)

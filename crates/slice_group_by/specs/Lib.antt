@@ -18,9 +18,9 @@ pub use Rattle.sgb_search.specs.Search
 pub use Rattle.sgb_search.specs.Ranges
 pub use Rattle.sgb_search.specs.Seams
 pub use Rattle.sgb_numbers.specs.Numbers
-pub use Rattle.sgb_numbers.specs.Classes
-pub use Rattle.sgb_numbers.specs.AsciiBytes
-pub use Rattle.sgb_number_group.specs.Counted
+pub use Rattle.sgb_masks.specs.Classes
+pub use Rattle.sgb_masks.specs.AsciiBytes
+pub use Rattle.sgb_masks.specs.Counted
 pub use Rattle.sgb_merge_join.specs.Values
 pub use Rattle.sgb_merge_join.specs.Merge
 pub use Rattle.sgb_merge_join.specs.Asking
@@ -32,6 +32,6 @@ pub use Rattle.sgb_linear_str_group.specs.Texts
 pub use Rattle.sgb_linear_str_group.specs.TextsMut
 pub use Rattle.sgb_loans.specs.Loans
 pub use Rattle.sgb_search.specs.declared.end.End
-pub use Rattle.sgb_numbers.specs.declared.ascii_classes.AsciiClass
+pub use Rattle.sgb_masks.specs.declared.ascii_classes.AsciiClass
 pub use Rattle.sgb_merge_join.specs.declared.either_or_both.EitherOrBoth
 pub mod Boundaries

@@ -5,7 +5,7 @@ use Rattle.sgb_search.specs.Calls.{Place, StandsAt, place_after}
 use Rattle.sgb_search.specs.Split.{put_at}
 use Rattle.sgb_search.specs.declared.end.End.{End}
 use Rattle.sgb_search.specs.declared.end.End.TheVariants.{Front, Back}
-use Rattle.slice_group_by.specs.declared.offsets.WithOffsets.{WithOffsets}
+use Rattle.slice_group_by.specs.declared.adapters.offsets.WithOffsets.{WithOffsets}
 
 -- each part with the sum of the lengths of those before it, and n
 abbrev pub with_offsets : {U : Type 0} → ℕ → List (List U) → List (ℕ × List U)

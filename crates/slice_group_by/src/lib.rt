@@ -14,27 +14,23 @@
 //! ```
 #![tactic(auto)]
 
+pub mod adapters;
 mod boundaries;
-mod dedup;
 mod join;
-mod keyed;
 pub mod laws;
 pub mod loans;
-mod offsets;
 mod traits;
 
+pub use adapters::{dedup_with_count, with_keys, with_offsets};
 pub use boundaries::{
     exponential_boundary, exponential_boundary_by, exponential_boundary_by_key, linear_boundary,
     linear_boundary_by, linear_boundary_by_key,
 };
-pub use dedup::{DedupWithCount, dedup_with_count};
 pub use join::MergeJoin;
-pub use keyed::{Keyed, WithKeys, with_keys};
 pub use laws::plans::{Plan, refute};
-pub use laws::queue::{End, GroupQueue, RemainderLen, SliceQueue, SliceQueueMut, walk};
+pub use laws::queue::{End, GroupQueue, walk};
 pub use laws::ranks::rank_groups;
 pub use laws::sorted::is_sorted_for_groups;
-pub use offsets::{Offsets, WithOffsets, with_offsets};
 pub use sgb_binary_group::binary_group::{
     BinaryGroup, BinaryGroupBy, BinaryGroupByKey, BinaryGroupByKeyMut, BinaryGroupByMut,
     BinaryGroupMut,
@@ -50,21 +46,17 @@ pub use sgb_linear_group::linear_group::{
 pub use sgb_linear_str_group::by_equality::{LinearStrGroup, LinearStrGroupMut};
 pub use sgb_linear_str_group::by_key::{LinearStrGroupByKey, LinearStrGroupByKeyMut};
 pub use sgb_linear_str_group::by_predicate::{LinearStrGroupBy, LinearStrGroupByMut};
+pub use sgb_masks::ascii_classes::{AsciiClass, AsciiClasses};
+pub use sgb_masks::by_class::LinearClassGroup;
+pub use sgb_masks::by_number::LinearNumberGroup;
+pub use sgb_masks::byte_classes::ByteClasses;
+pub use sgb_masks::class_counts::{ClassCounts, class_after, count_classes};
 pub use sgb_merge_join::{EitherOrBoth, MergeJoinBy, joinable_prefixes};
-pub use sgb_number_group::by_class::LinearClassGroup;
-pub use sgb_number_group::by_number::LinearNumberGroup;
-pub use sgb_number_group::class_counts::{ClassCounts, class_after, count_classes};
-pub use sgb_numbers::ascii_classes::{AsciiClass, AsciiClasses};
-pub use sgb_numbers::byte_classes::ByteClasses;
 pub use sgb_numbers::lanes::Lanes;
 pub use sgb_search::partition::{exponential_partition_point, exponential_partition_point_ref};
 pub use sgb_search::places::{
     exponential_equal_places, exponential_equal_places_by, exponential_equal_places_by_key,
     exponential_equal_places_by_key_ref, exponential_equal_places_by_ref,
-};
-pub use sgb_search::ranges::{
-    exponential_equal_range, exponential_equal_range_by, exponential_equal_range_by_key,
-    exponential_equal_range_by_key_ref, exponential_equal_range_by_ref,
 };
 pub use sgb_search::search::{
     exponential_search, exponential_search_by, exponential_search_by_key,

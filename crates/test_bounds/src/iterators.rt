@@ -1,6 +1,8 @@
 //! What the types are: iterators that stay at their end, queues, what may be shown and what may cross threads.
 ghost use Rattle.std.specs.Prelude.{◌≡◌, length};
 
+use slice_group_by::adapters::{DedupWithCount, Keyed, Offsets, WithKeys, WithOffsets};
+use slice_group_by::laws::{RemainderLen, SliceQueue, SliceQueueMut};
 use slice_group_by::loans::{Ended, Loans};
 use slice_group_by::*;
 use std::cmp::Ordering;

@@ -1,9 +1,9 @@
 //! Laws: each speaks of lists, functions and queues of whatever types it says.
+use slice_group_by::adapters::{DedupWithCount, Keyed, Offsets, WithKeys, WithOffsets};
 use slice_group_by::laws::*;
 use slice_group_by::{
-    BinaryGroupBy, DedupWithCount, ExponentialGroupByKeyMut, GroupQueue, Keyed, LinearGroupBy,
-    LinearGroupByKey, LinearStrGroupByKeyMut, MergeJoin, MergeJoinBy, Offsets, Parts, RemainderLen,
-    SliceQueue, WithKeys, WithOffsets,
+    BinaryGroupBy, ExponentialGroupByKeyMut, LinearGroupBy, LinearGroupByKey,
+    LinearStrGroupByKeyMut, MergeJoin, MergeJoinBy, Parts,
 };
 use std::cmp::Ordering;
 use std::iter::Map;
@@ -12,7 +12,6 @@ use std::slice::ChunkBy;
 pub fn of_lists<T, U>() {
     one_split::<T>();
     splits_join::<T>();
-    question_count::<T>();
     first_group_agrees::<T>();
     parts_are_grouped::<T>();
     range_places::<T>();
@@ -68,23 +67,14 @@ pub fn of_unchanged<T, P: FnMut(&T, &T) -> bool, F: FnMut(&T) -> K, K: PartialEq
     callable_unchanged_on_pairs(predicate);
 }
 
-pub fn of_characters<P: FnMut(char, char) -> bool, F: FnMut(char) -> K, K: PartialEq + Drop>() {
+pub fn of_characters<F: FnMut(char) -> K, K: PartialEq + Drop>() {
     always_callable_char_key::<F, K>();
-    computes_on_char_pairs::<P>();
-    computes_on_chars::<F, K>();
 }
 
 pub fn of_functions<T, F: FnMut(&T) -> K, K>(f: &F) {
     always_callable_on_elements::<T, F, K>();
     always_computes(f);
-    searches_call(f);
-    range_starts(f);
-    range_calls_count(f);
-}
-
-pub fn of_searches<T, W: FnMut(&T) -> Ordering, F: FnMut(&T) -> K, K: Ord>(by: &W, key: &F) {
-    comparisons_count(by);
-    key_calls_count(key);
+    search_counts(f);
 }
 
 pub fn of_queues<Q: GroupQueue, R: GroupQueue<Element = Q::Element>>(one: &Q, other: &R) {
@@ -180,7 +170,6 @@ pub fn of_merges<A, B, K: Ord, F: FnMut(&A, &B) -> Ordering, G: FnMut(&K, &K) ->
     join_counts(join);
     sees_merge_by_keys::<A, B, K, F>(join);
     merge_parts_join(join);
-    merges_may_go_on(join);
     merges_ask(join);
     sees_merge_in_order(in_order);
 }

@@ -13,35 +13,28 @@ use std::fmt::Debug;
 // What is sought may be gone before what is found.
 pub fn of_elements<'a, T: Ord>(xs: &'a [T], elem: &T) -> &'a [T] {
     let _ = (is_sorted_for_groups(xs), exponential_search(xs, elem));
-    let _ = exponential_equal_places(xs, elem);
-    exponential_equal_range(xs, elem)
+    &xs[exponential_equal_places(xs, elem)]
 }
 
-pub fn by<T, F: FnMut(&T) -> Ordering>(xs: &[T], f: F, g: F, h: F, lent: &mut F)
+pub fn by<T, F: FnMut(&T) -> Ordering>(xs: &[T], f: F, g: F, lent: &mut F)
     requires f { IsCallableOn F.FnMut xs.now f }
     requires g { IsCallableOn F.FnMut xs.now g }
-    requires h { IsCallableOn F.FnMut xs.now h }
     requires lent { IsCallableOn F.FnMut xs.now lent.old }
 {
     let _ = exponential_search_by(xs, f);
-    let _ = exponential_equal_range_by(xs, g);
-    let _ = exponential_equal_places_by(xs, h);
+    let _ = exponential_equal_places_by(xs, g);
     let _ = exponential_search_by_ref(xs, lent);
-    let _ = exponential_equal_range_by_ref(xs, lent);
     let _ = exponential_equal_places_by_ref(xs, lent);
 }
 
-pub fn by_key<T, B: Ord + Drop, F: FnMut(&T) -> B>(xs: &[T], b: &B, f: F, g: F, h: F, lent: &mut F)
+pub fn by_key<T, B: Ord + Drop, F: FnMut(&T) -> B>(xs: &[T], b: &B, f: F, g: F, lent: &mut F)
     requires f { IsCallableOn F.FnMut xs.now f }
     requires g { IsCallableOn F.FnMut xs.now g }
-    requires h { IsCallableOn F.FnMut xs.now h }
     requires lent { IsCallableOn F.FnMut xs.now lent.old }
 {
     let _ = exponential_search_by_key(xs, b, f);
-    let _ = exponential_equal_range_by_key(xs, b, g);
-    let _ = exponential_equal_places_by_key(xs, b, h);
+    let _ = exponential_equal_places_by_key(xs, b, g);
     let _ = exponential_search_by_key_ref(xs, b, lent);
-    let _ = exponential_equal_range_by_key_ref(xs, b, lent);
     let _ = exponential_equal_places_by_key_ref(xs, b, lent);
 }
 

@@ -1,4 +1,5 @@
-//! Cases of the library's calls: worked cases, the Rust crate's tests under their names, and what no contract says.
+//! Cases of the library's calls and of the examples: worked cases, the Rust crate's tests under their names, and what no
+//! contract says; and cases of the definitions that contracts cite.
 #![tactic(auto)]
 
 #[cfg(test)]
@@ -6,8 +7,10 @@ mod by_name;
 #[cfg(test)]
 mod calls;
 #[cfg(test)]
-#[cfg(test)]
 mod debug;
+mod definitions;
+#[cfg(test)]
+mod examples;
 #[cfg(test)]
 mod guarded;
 #[cfg(test)]

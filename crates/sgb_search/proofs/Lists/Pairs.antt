@@ -1,8 +1,8 @@
 -- The neighbouring pairs of a list, and the questions along them.
-use Rattle.std.proofs.Common.{◌≡◌, ℕ, zero, suc, ◌+◌, ◌-◌, ◌<◌, Bool, true, false, List, [], ◌∷◌, ◌++◌, length, take, drop, get_or, refl, sym, ap, ◌∙◌, arith, append_assoc, inl, inr, length-drop, min}
+use Rattle.std.proofs.Common.{◌≡◌, ℕ, zero, suc, ◌+◌, ◌-◌, ◌<◌, Bool, true, false, List, [], ◌∷◌, ◌++◌, length, take, drop, get_or, refl, sym, ap, ◌∙◌, arith, append_assoc, inl, inr}
 use Rattle.std.specs.Prelude.{reverse}
 use Rattle.std.specs.List.{AllByRecursion}
-use Rattle.std.proofs.lemmas.List.{reverse-append, length-append, length-take, length-reverse, length-map, get_or-reverse, get_or-append-add}
+use Rattle.std.proofs.lemmas.List.{reverse-append, length-append, length-reverse, get_or-reverse, get_or-append-add}
 use Rattle.std.proofs.Math.Seq.{take-append_seam, drop-append_seam, get_or-append_seam}
 use Rattle.sgb_search.specs.declared.end.End.{End}
 use Rattle.sgb_search.specs.declared.end.End.TheVariants.{Front, Back}
@@ -59,26 +59,6 @@ module _ {A : Type 0} where
   pub about : (e : End) (xs : List A) (g : ℕ) → AllByRecursion (λ r. AreNeighbours xs r.0) (questions e xs g)
   about e xs g =
       along_about (AreNeighbours xs) (from e (neighbours xs)) g (all_from (AreNeighbours xs) e (neighbours xs) (all_one_of (neighbours xs)))
-
-  -- how many questions there are
-  length-answered : (b : Bool) (qs : List (A × A)) → length (all_answered b qs) ≡ length qs
-  length-answered b qs = length-map qs (λ q. (q, b))
-
-  length-along : (qs : List (A × A)) (g : ℕ) → 0 < g → length (questions_along qs g) ≡ min g (length qs)
-  length-along qs g h =
-      omega (
-        arith,
-        length-append (all_answered true (take (g - 1) qs)) (all_answered false (take 1 (drop (g - 1) qs))),
-        length-answered true (take (g - 1) qs),
-        length-answered false (take 1 (drop (g - 1) qs)),
-        length-take (g - 1) qs,
-        length-take 1 (drop (g - 1) qs),
-        length-drop (g - 1) qs,
-      )
-
-  pub length-questions : (e : End) (xs : List A) (g : ℕ) → 0 < g → length (questions e xs g) ≡ min g (length xs - 1)
-  length-questions e xs g h =
-      length-along (from e (neighbours xs)) g h ∙ ap (λ (n : ℕ). min g n) (length-from e (neighbours xs) ∙ length-neighbours xs)
 
   -- the two parts of a list in their order, the one at the end and the rest
   abbrev pub in_order : End → List A → List A → List A × List A

@@ -10,7 +10,7 @@ use Rattle.std.specs.Borrow.{Bor}
 use Rattle.std.specs.declared.cmp.Ordering.{Ordering}
 use Rattle.std.specs.declared.cmp.Ordering.TheVariants.{Less, Equal, Greater}
 use Rattle.sgb_search.specs.Judges.{IsCallable, Computes}
-use Rattle.sgb_search.specs.Searching.{IsBetween, MayAskAt, AnsweredAt, QuestionsAt}
+use Rattle.sgb_search.specs.Searching.{IsBetween, MayAskAt, AnsweredAt}
 use Rattle.sgb_search.specs.Search.{AnswersAt, IsLocalAnswer, FindsIn, IsLessEqualGreater, IsCallableOn, ComputesOn, IsSearch}
 use Rattle.sgb_search.proofs.Questions.AtPlaces as places
 use Rattle.sgb_search.proofs.Searches.Boundaries.{tells_local}
@@ -90,11 +90,6 @@ module _ {F T K : Type 0} (g : Mut F (Bor T × Unit {0}) K) (xs : List T) where
         tells_local reads (λ x. reads (answer x)) xs h.questions _
         (places.answered_by _ _ xs (IsBetween 0 (length xs)) (Contains xs) (λ i x b. contains_at xs i x) f h.questions t h.run h.places answer
         by reads) r h.tells
-
-    -- the calls that it made
-    pub search_calls : QuestionsAt (TakesAt g) (CalledAt g) xs (Contains xs) f h.questions t
-    search_calls =
-        places.asked_at _ _ xs (IsBetween 0 (length xs)) (Contains xs) (λ i x b. contains_at xs i x) f h.questions t h.run h.places
 
     -- of a list with these elements, what might be asked before may be asked, and is answered the same
     module _ (wide : T → Type 0) (sub : (x : T) → Contains xs x → wide x) where

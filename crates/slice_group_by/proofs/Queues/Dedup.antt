@@ -9,7 +9,7 @@ use Rattle.sgb_search.specs.Split.{from, split, TakesPiece}
 use Rattle.sgb_search.proofs.Lists.Ends.{from-from, all_from}
 use Rattle.sgb_search.proofs.Splits.Split.{split_is}
 use Rattle.slice_group_by.specs.Dedup.{counted, GivesCounted}
-use Rattle.slice_group_by.specs.declared.dedup.DedupWithCount.{DedupWithCount}
+use Rattle.slice_group_by.specs.declared.adapters.dedup.DedupWithCount.{DedupWithCount}
 use Rattle.slice_group_by.proofs.Queues.Yields.{yields_pieces, same_some}
 
 module _ {T Q : Type 0} (gives : End → Q → Option (Bor (List T)) → Q → Type 0) where

@@ -8,7 +8,7 @@ use Rattle.sgb_search.specs.Split.{from, split, TakesPiece}
 use Rattle.sgb_search.proofs.Lists.Ends.{from-from, all_from}
 use Rattle.sgb_search.proofs.Splits.Split.{split_is}
 use Rattle.slice_group_by.specs.Keyed.{keyed, GivesWithKey}
-use Rattle.slice_group_by.specs.declared.keyed.WithKeys.{WithKeys}
+use Rattle.slice_group_by.specs.declared.adapters.keyed.WithKeys.{WithKeys}
 use Rattle.slice_group_by.proofs.Queues.Yields.{yields_pieces, same_some}
 
 -- the members of `Keyed`, and a key that the key function computes

@@ -7,7 +7,7 @@ use Rattle.sgb_search.specs.declared.end.End.{End}
 use Rattle.sgb_search.specs.declared.end.End.TheVariants.{Front, Back}
 use Rattle.sgb_search.proofs.Lists.Places.{first_stands, second_stands}
 use Rattle.slice_group_by.specs.Offsets.{with_offsets, TakesUnits, start_of, BeginsAt, GivesWithOffset}
-use Rattle.slice_group_by.specs.declared.offsets.WithOffsets.{WithOffsets}
+use Rattle.slice_group_by.specs.declared.adapters.offsets.WithOffsets.{WithOffsets}
 
 module _ {Q I U : Type 0} (place : Q → Place U) (left : Q → List U) (units : I → List U) where
   -- a group that comes off what stands at its place stands behind what is before it

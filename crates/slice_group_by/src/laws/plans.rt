@@ -1,4 +1,8 @@
 //! Plans of questions, and an adversary that shows what each of them costs.
+ghost use Rattle.std.specs.Prelude.{ℕ, ◌-◌};
+ghost use Rattle.sgb_search.specs.Searching.{digits};
+ghost use Rattle.slice_group_by.specs.declared.laws.plans.Plan.{Plan};
+ghost use Rattle.slice_group_by.specs.Plans.{run, IsRight};
 ghost use Rattle.std.specs.Prelude.{◌≤◌, ◌<◌};
 ghost use Rattle.slice_group_by.specs.Plans.{IsRefuted};
 
@@ -47,3 +51,10 @@ pub fn refute(plan: &Plan, n: usize) -> usize
         _ => low,
     }
 }
+
+/// No plan of questions has a smaller worst case than halving: each that answers every length from 1 up to n rightly asks
+/// at least `digits(n - 1)` questions at one of them. A plan compares the first element with others, and nothing else.
+pub fn right_plans_ask()
+    ensures { (plan : Plan) (n : ℕ) → 0 < n → IsRight plan 1 n
+        → (l : ℕ) × (1 ≤ l) × (l ≤ n) × (digits (n - 1) ≤ (run plan l).1) }
+{}

@@ -8,7 +8,7 @@ ghost use Rattle.sgb_search.specs.Split.{IsGrouped, AreApart, AreNeighbours};
 ghost use Rattle.sgb_search.specs.Linear.{IsSettled};
 ghost use Rattle.sgb_search.specs.Searching.{IsSettledApart};
 ghost use Rattle.sgb_groups.specs.Gives.{groups_of, place_of};
-ghost use Rattle.sgb_number_group.specs.Gives as numbers;
+ghost use Rattle.sgb_masks.specs.Gives as numbers;
 
 use crate::traits::holders::Elements;
 use sgb_binary_group::binary_group::{BinaryGroup, BinaryGroupBy, BinaryGroupByKey};
@@ -16,7 +16,7 @@ use sgb_exponential_group::exponential_group::{
     ExponentialGroup, ExponentialGroupBy, ExponentialGroupByKey,
 };
 use sgb_linear_group::linear_group::{LinearGroup, LinearGroupBy, LinearGroupByKey};
-use sgb_number_group::by_number::LinearNumberGroup;
+use sgb_masks::by_number::LinearNumberGroup;
 use sgb_numbers::lanes::Lanes;
 
 /// Groups of neighbouring elements, for reading.

@@ -92,7 +92,7 @@ pub returns-clause-comparisons : goal.returns-clause-comparisons
 returns-clause-comparisons c =
     let found = slice_range (rest c) (start c) (end c) in
     let asks = c.exponential_equal_places_by_ref-found.ensures.questions in
-    let k = c.range_calls_count.ensures.range (λ f. f.0.now) (λ f. f.0.ghost_name) 1 (λ f h x a called. search rules) _ _ _ _ _ _ asks.0 in
+    let k = c.search_counts.ensures.range (λ f. f.0.now) (λ f. f.0.ghost_name) 1 (λ f h x a called. search rules) _ _ _ _ _ _ asks.0 in
     let passed = asks.1 ∙ begins c ∙ sym (length-filter (λ e. is_lt (stands c.args.key e)) (rest c))
     ∙ ap length (lower_is c.args.key (rest c)) in
     let as_many = (λ i. length (slice_range (keys_are c i) (start c) (end c)))

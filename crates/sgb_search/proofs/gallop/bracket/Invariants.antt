@@ -1,4 +1,4 @@
-use Rattle.std.proofs.Common.{◌+◌, ◌-◌, ◌<◌}
+use Rattle.std.proofs.Common.{◌-◌, ◌<◌}
 use Rattle.sgb_search.proofs.Searches.Galloping.{Doubles}
 use Rattle.sgb_search.proofs.gallop.bracket.Given as goal
 

@@ -1,19 +1,19 @@
 //! The groups by masks as a queue, as calls of linear groups, and with offsets.
 ghost use Rattle.std.specs.Prelude.{refl};
 
+use crate::adapters::offsets::Offsets;
 use crate::laws::judged::Judged;
 use crate::laws::queue::{GroupQueue, RemainderLen, SliceQueue};
-use crate::offsets::Offsets;
 use sgb_linear_group::linear_group::Linear;
-use sgb_number_group::groups::MaskGroups;
+use sgb_masks::mask_groups::MaskGroups;
 use sgb_numbers::masks::MaskJudge;
 
 impl<'a, T, J: MaskJudge<T> + Drop> GroupQueue for MaskGroups<'a, T, J> {
     type Item = &'a [T];
 
     ghost use Rattle.std.specs.Prelude.{true, length, option_copied};
-    ghost use Rattle.sgb_number_group.proofs.Queue.{call};
-    ghost use Rattle.sgb_number_group.specs.Gives.{groups_of, Gives};
+    ghost use Rattle.sgb_masks.proofs.Queue.{call};
+    ghost use Rattle.sgb_masks.specs.Gives.{groups_of, Gives};
     ghost use Rattle.sgb_search.specs.Judges.{IsRunOf};
     ghost use Rattle.sgb_search.specs.Linear.{IsSettled, LinearQuestions};
     ghost use Rattle.sgb_search.specs.Split.{neighbours};
@@ -71,8 +71,8 @@ impl<'a, T: 'a, J: MaskJudge<T> + Drop> SliceQueue<'a, T> for MaskGroups<'a, T, 
 }
 
 impl<'a, T, J: MaskJudge<T> + Drop> Judged<T, J, Linear> for MaskGroups<'a, T, J> {
-    ghost use Rattle.sgb_number_group.proofs.Queue.{call};
-    ghost use Rattle.sgb_number_group.specs.Gives.{groups_of};
+    ghost use Rattle.sgb_masks.proofs.Queue.{call};
+    ghost use Rattle.sgb_masks.specs.Gives.{groups_of};
 
     ghost groups = { groups_of };
 
@@ -82,7 +82,7 @@ impl<'a, T, J: MaskJudge<T> + Drop> Judged<T, J, Linear> for MaskGroups<'a, T, J
 impl<'a, T, J: MaskJudge<T> + Drop> RemainderLen for MaskGroups<'a, T, J> {
     type Unit = T;
 
-    ghost use Rattle.sgb_number_group.specs.Gives.{groups_of};
+    ghost use Rattle.sgb_masks.specs.Gives.{groups_of};
     ghost use Rattle.sgb_search.proofs.Lists.Ends.{less_remains};
 
     ghost left = { λ q. (groups_of q).remainder };
@@ -96,7 +96,7 @@ impl<'a, T, J: MaskJudge<T> + Drop> RemainderLen for MaskGroups<'a, T, J> {
 }
 
 impl<'a, T, J: MaskJudge<T> + Drop> Offsets for MaskGroups<'a, T, J> {
-    ghost use Rattle.sgb_number_group.specs.Gives.{place_of};
+    ghost use Rattle.sgb_masks.specs.Gives.{place_of};
 
     ghost place = { place_of };
 

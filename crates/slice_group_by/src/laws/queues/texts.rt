@@ -2,8 +2,8 @@
 use crate::laws::judged::{Judged, Lends, OfText};
 use crate::laws::queue::{GroupQueue, RemainderLen};
 use sgb_linear_group::linear_group::Linear;
-use sgb_linear_str_group::groups::LinearStrGroups;
-use sgb_linear_str_group::groups_mut::LinearStrGroupsMut;
+use sgb_linear_str_group::text_groups::LinearStrGroups;
+use sgb_linear_str_group::text_groups_mut::LinearStrGroupsMut;
 use sgb_linear_str_group::text_judge::TextJudge;
 
 impl<'a, J: TextJudge + Drop> GroupQueue for LinearStrGroups<'a, J> {

@@ -1,8 +1,8 @@
 use Rattle.std.proofs.Common.{w32}
-use Rattle.std.specs.Float.Ieee.{eq, nan}
+use Rattle.std.specs.Float.Ieee.{eq}
 use Rattle.sgb_numbers.proofs.Vectors.{mask_is}
 use Rattle.sgb_numbers.proofs.lanes.F32Lanes.cuts.Goals as goal
 
 pub returns : goal.returns
 unfolding lib.Ieee.ne eq
-returns c = mask_is nan w32 eq c.args.slice.now c.args.at c.requires
+returns c = mask_is w32 eq c.args.slice.now c.args.at c.requires

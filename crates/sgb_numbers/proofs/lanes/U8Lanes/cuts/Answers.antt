@@ -3,4 +3,4 @@ use Rattle.sgb_numbers.proofs.Vectors.{mask_is}
 use Rattle.sgb_numbers.proofs.lanes.U8Lanes.cuts.Goals as goal
 
 pub returns : goal.returns
-returns c = mask_is 0 w8 eqb c.args.slice.now c.args.at c.requires
+returns c = mask_is w8 eqb c.args.slice.now c.args.at c.requires

@@ -1,0 +1,12 @@
+mod OneByOne
+mod Codes
+mod Joined
+mod Turned
+mod Lowest
+mod Pushed
+mod Marks
+mod Known
+mod Taken
+mod OneBit
+mod Beginnings
+pub mod Queue

@@ -1,0 +1,16 @@
+use Rattle.std.proofs.Common.{◌∙◌, arith}
+use Rattle.sgb_numbers.specs.Neighbours.{boundaries}
+use Rattle.sgb_numbers.proofs.Pairs.{length-boundaries}
+use Rattle.sgb_masks.proofs.Turned.{mask_fits, mask_turned}
+use Rattle.sgb_masks.proofs.blocks.cuts_back.Goals as goal
+
+pub overflow_cast-cuts : goal.overflow_cast-cuts
+overflow_cast-cuts g c =
+    let bs = boundaries g.M.Masks.same c.args.slice.now in
+    mask_fits bs c.args.at _ (omega (arith, length-boundaries g.M.Masks.same c.args.slice.now, c.requires)) c.cuts.ensures
+
+pub returns : goal.returns
+returns g c =
+    let bs = boundaries g.M.Masks.same c.args.slice.now in
+    c.reverse_bits.ensures
+    ∙ mask_turned bs c.args.at _ (omega (arith, length-boundaries g.M.Masks.same c.args.slice.now, c.requires)) c.cuts.ensures

@@ -1,0 +1,6 @@
+pub mod AsciiBytes
+pub mod Classes
+pub mod Counted
+pub mod Gives
+pub mod Masks
+pub mod Starts

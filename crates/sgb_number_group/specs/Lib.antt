@@ -1,4 +1,0 @@
-pub mod Counted
-pub mod Gives
-pub mod Masks
-pub mod Starts

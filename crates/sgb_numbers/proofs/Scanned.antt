@@ -1,0 +1,142 @@
+-- A scan that compares with the element at the end finds the first pair of neighbours that differs: equality is symmetric and transitive.
+use Rattle.std.proofs.Common.{◌≡◌, ℕ, ◌+◌, ◌-◌, ◌<◌, ◌≤◌, Bool, true, false, not, List, [], ◌∷◌, length, get_or, ◌⊎◌, inl, inr, sym, ap, ◌∙◌, subst, arith, ⊎_elim}
+use Rattle.std.proofs.lemmas.Bool.{cases_lt, false_from_ne_true, false≢true}
+use Rattle.std.proofs.lemmas.List.{get_or_default}
+use Rattle.std.specs.Cmp.{IsPartialEquivalence}
+use Rattle.std.specs.Prelude.{slice_range}
+use Rattle.sgb_search.specs.declared.end.End.TheVariants.{Front, Back}
+use Rattle.sgb_search.specs.declared.judge.Judge.{Ghosts}
+use Rattle.sgb_search.specs.Questions.{IsRun, questions}
+use Rattle.sgb_numbers.specs.Alike.{AreLike, IsFirstLen, IsLastLen}
+use Rattle.sgb_numbers.specs.Neighbours.{differs, AreSame, IsFirstEnd, IsLastStart}
+use Rattle.sgb_numbers.proofs.Pairs.{differs_or}
+use Rattle.sgb_numbers.proofs.Asked.{asked_front, asked_back}
+
+module _ {T : Type 0} (eq : T → T → Bool) (xs : List T) where
+  abbrev is_cut : ℕ → Type 0
+  is_cut p = differs eq xs p ≡ true
+
+  module _ (laws : IsPartialEquivalence eq) (e : T) where
+    abbrev at : ℕ → T
+    at k = get_or xs k e
+
+    -- the number itself, or one that is equal to it
+    abbrev IsLike : ℕ → Type 0
+    IsLike k = (at k ≡ e) ⊎ (eq (at k) e ≡ true)
+
+    same_pair : (p : ℕ) → p + 1 < length xs → eq (at p) (at (p + 1)) ≡ true → differs eq xs p ≡ false
+    same_pair p l h = differs_or eq xs p e l ∙ ap not h
+
+    cut_pair : (p : ℕ) → p + 1 < length xs → (eq (at p) (at (p + 1)) ≡ true → ⊥) → is_cut p
+    cut_pair p l h = differs_or eq xs p e l ∙ ap not (false_from_ne_true (eq (at p) (at (p + 1))) h)
+
+    -- going up from the place of the number
+    module _ (from end : ℕ) (here : e ≡ at from) (order : from + 1 ≤ end) (within : end ≤ length xs)
+        (like : AreLike eq e xs (from + 1) end) where
+      like_from : (p : ℕ) → from ≤ p → p < end → IsLike p
+      like_from p a b =
+          ⊎_elim (λ l. inl (ap at {x = p} {y = from} (omega (arith, a, l)) ∙ sym here)) (λ l. inr (like.at p l b)) (cases_lt p (from + 1))
+
+      pub scanned_same : AreSame eq xs from (end - 1)
+      scanned_same = record {
+        at =
+            λ p a b.
+            let next = like.at (p + 1) (omega (arith, a)) (omega (arith, b)) in
+            same_pair p (omega (arith, b, within)) (equal_next p (like_from p a (omega (arith, b))) next);
+      }
+        where
+          equal_next : (p : ℕ) → IsLike p → eq (at (p + 1)) e ≡ true → eq (at p) (at (p + 1)) ≡ true
+          equal_next p (inl i) h = subst (λ x. eq x (at (p + 1)) ≡ true) (sym i) (laws.symm e (at (p + 1)) ∙ h)
+          equal_next p (inr k) h = laws.trans (at p) e (at (p + 1)) k (laws.symm e (at (p + 1)) ∙ h)
+
+      pub scanned_cut : end < length xs → eq (at end) e ≡ false → is_cut (end - 1)
+      scanned_cut more unlike =
+          let next : end - 1 + 1 ≡ end = omega (arith, order) in
+          let other : eq (at (end - 1 + 1)) e ≡ false = ap (λ (n : ℕ). eq (at n) e) next ∙ unlike in
+          cut_pair (end - 1) (omega (arith, order, more))
+          (λ same. false≢true (sym other ∙ back (like_from (end - 1) (omega (arith, order)) (omega (arith, order))) same))
+        where
+          back : IsLike (end - 1) → eq (at (end - 1)) (at (end - 1 + 1)) ≡ true → eq (at (end - 1 + 1)) e ≡ true
+          back (inl i) same = laws.symm (at (end - 1 + 1)) e ∙ subst (λ x. eq x (at (end - 1 + 1)) ≡ true) i same
+          back (inr k) same = laws.trans (at (end - 1 + 1)) (at (end - 1)) e (laws.symm (at (end - 1 + 1)) (at (end - 1)) ∙ same) k
+
+    -- going down from the place of the number
+    module _ (start upto : ℕ) (here : e ≡ at upto) (order : start ≤ upto) (within : upto < length xs)
+        (like : AreLike eq e xs start upto) where
+      like_upto : (p : ℕ) → start ≤ p → p ≤ upto → IsLike p
+      like_upto p a b =
+          ⊎_elim (λ l. inr (like.at p a l)) (λ l. inl (ap at {x = p} {y = upto} (omega (arith, b, l)) ∙ sym here)) (cases_lt p upto)
+
+      pub scanned_back_same : AreSame eq xs start upto
+      scanned_back_same = record {
+        at =
+            λ p a b. same_pair p (omega (arith, b, within)) (equal_before p (like.at p a b) (like_upto (p + 1) (omega (arith, a)) (omega (arith, b))));
+      }
+        where
+          equal_before : (p : ℕ) → eq (at p) e ≡ true → IsLike (p + 1) → eq (at p) (at (p + 1)) ≡ true
+          equal_before p h (inl i) = subst (λ y. eq (at p) y ≡ true) (sym i) h
+          equal_before p h (inr k) = laws.trans (at p) e (at (p + 1)) h (laws.symm e (at (p + 1)) ∙ k)
+
+      pub scanned_back_cut : 0 < start → eq (at (start - 1)) e ≡ false → is_cut (start - 1)
+      scanned_back_cut more unlike =
+          cut_pair (start - 1) (omega (arith, order, within, more))
+          (λ same. false≢true (sym unlike ∙ back (like_upto (start - 1 + 1) (omega (arith, more)) (omega (arith, order, more))) same))
+        where
+          back : IsLike (start - 1 + 1) → eq (at (start - 1)) (at (start - 1 + 1)) ≡ true → eq (at (start - 1)) e ≡ true
+          back (inl i) same = subst (λ y. eq (at (start - 1)) y ≡ true) i same
+          back (inr k) same = laws.trans (at (start - 1)) (at (start - 1 + 1)) e same k
+
+-- what a scan of a part finds, as the end of the part's first or last group
+module _ {T : Type 0} (eq : T → T → Bool) (laws : IsPartialEquivalence eq) (xs : List T) (low high n : ℕ) (inside : high ≤ length xs)
+    (d : T) where
+  read : (p : ℕ) (e : T) → p < length xs → get_or xs p d ≡ get_or xs p e
+  read p e l = get_or_default xs p d e l
+
+  first_end : IsFirstLen eq xs low high n → IsFirstEnd eq xs low high (low + n)
+  first_end r =
+      let e = get_or xs low d in
+      let here = read low e (omega (arith, r.nonempty, r.within, inside)) in
+      let order : low + 1 ≤ low + n = omega (arith, r.nonempty) in
+      let within : low + n ≤ length xs = omega (arith, r.within, inside) in
+      record {
+        nonempty = omega (arith, r.nonempty);
+        within = r.within;
+        same = scanned_same eq xs laws e low (low + n) here order within (r.like d);
+        differ =
+            λ more. scanned_cut eq xs laws e low (low + n) here order within (r.like d) (omega (arith, more, inside))
+            (ap (λ y. eq y e) (sym (read (low + n) e (omega (arith, more, inside)))) ∙ r.unlike d more);
+      }
+
+  last_start : IsLastLen eq xs low high n → IsLastStart eq xs low high (high - n)
+  last_start r =
+      let e = get_or xs (high - 1) d in
+      let within : high - 1 < length xs = omega (arith, r.nonempty, r.within, inside) in
+      let here = read (high - 1) e within in
+      let order : high - n ≤ high - 1 = omega (arith, r.nonempty, r.within) in
+      record {
+        nonempty = omega (arith, r.nonempty, r.within);
+        within = omega (arith, r.within);
+        same = scanned_back_same eq xs laws e (high - n) (high - 1) here order within (r.like d);
+        differ =
+            λ more. scanned_back_cut eq xs laws e (high - n) (high - 1) here order within (r.like d) (omega (arith, more))
+            (ap (λ y. eq y e) (sym (read (high - n - 1) e (omega (arith, more, inside)))) ∙ r.unlike d (omega (arith, more)));
+      }
+
+-- and as the questions that it stands for
+module _ {T J : Type 0} (eq : T → T → Bool) (laws : IsPartialEquivalence eq) (g : Ghosts J T) (j : J) (asks : (q : T × T) → g.may_ask j q)
+    (tells : (q : T × T) → g.answers j q (eq q.0 q.1) j) where
+  pub first_run_in : (xs : List T) (low high : ℕ) → low < high → high ≤ length xs → (n : ℕ) → IsFirstLen eq xs low high n
+      → IsRun g.may_ask g.answers j (questions Front (slice_range xs low high) n) j
+  first_run_in [] low high nonempty inside n r = absurd (omega (arith, nonempty, inside))
+  first_run_in (x ∷ xs) low high nonempty inside n r =
+      subst (λ (k : ℕ). IsRun g.may_ask g.answers j (questions Front (slice_range (x ∷ xs) low high) k) j)
+      {x = low + n - low} {y = n} (omega arith)
+      (asked_front eq g j asks tells (x ∷ xs) low high nonempty inside (low + n) (first_end eq laws (x ∷ xs) low high n inside x r))
+
+  pub last_run_in : (xs : List T) (low high : ℕ) → low < high → high ≤ length xs → (n : ℕ) → IsLastLen eq xs low high n
+      → IsRun g.may_ask g.answers j (questions Back (slice_range xs low high) n) j
+  last_run_in [] low high nonempty inside n r = absurd (omega (arith, nonempty, inside))
+  last_run_in (x ∷ xs) low high nonempty inside n r =
+      subst (λ (k : ℕ). IsRun g.may_ask g.answers j (questions Back (slice_range (x ∷ xs) low high) k) j)
+      {x = high - (high - n)} {y = n} (omega (arith, r.within))
+      (asked_back eq g j asks tells (x ∷ xs) low high nonempty inside (high - n) (last_start eq laws (x ∷ xs) low high n inside x r))

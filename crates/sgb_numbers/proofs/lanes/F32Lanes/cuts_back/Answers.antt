@@ -1,8 +1,0 @@
-use Rattle.std.proofs.Common.{w32}
-use Rattle.std.specs.Float.Ieee.{eq, nan}
-use Rattle.sgb_numbers.proofs.Vectors.{mask_is_turned}
-use Rattle.sgb_numbers.proofs.lanes.F32Lanes.cuts_back.Goals as goal
-
-pub returns : goal.returns
-unfolding lib.Ieee.ne eq
-returns c = mask_is_turned nan w32 eq c.args.slice.now c.args.at c.requires

@@ -1,6 +1,0 @@
-use Rattle.std.proofs.Common.{eqb, w32}
-use Rattle.sgb_numbers.proofs.Vectors.{mask_is_turned}
-use Rattle.sgb_numbers.proofs.lanes.U32Lanes.cuts_back.Goals as goal
-
-pub returns : goal.returns
-returns c = mask_is_turned 0 w32 eqb c.args.slice.now c.args.at c.requires

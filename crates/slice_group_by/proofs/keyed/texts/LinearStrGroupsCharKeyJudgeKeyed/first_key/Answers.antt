@@ -1,5 +1,0 @@
-use Rattle.sgb_search.proofs.Questions.Closures.{char_key_taken}
-use Rattle.slice_group_by.proofs.keyed.texts.LinearStrGroupsCharKeyJudgeKeyed.first_key.Goals as goal
-
-pub key_of-requires : goal.key_of-requires
-key_of-requires g c = char_key_taken g.F.FnMut g.K.PartialEq.eq c.args.self.now.judge.func _ c.requires.callable

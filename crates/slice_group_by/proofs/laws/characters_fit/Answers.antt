@@ -1,5 +1,0 @@
-use Rattle.slice_group_by.proofs.Pieces.TextParts.{length-chars}
-use Rattle.slice_group_by.proofs.laws.characters_fit.Goals as goal
-
-pub returns : goal.returns
-returns c = length-chars

@@ -1,9 +1,0 @@
-//! What the users' functions of the example crates answer where their contracts leave it open: values, and that memory is enough.
-#![tactic(auto)]
-
-#[cfg(test)]
-mod counts;
-#[cfg(test)]
-mod joins;
-#[cfg(test)]
-mod walks;
