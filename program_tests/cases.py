@@ -39,7 +39,7 @@ WRONG_RUNS = said(
 LOWER = 'its key %s is lower than %s, the greatest before it'
 TABLES = (b"a,1\nb,2\n", b"b,3\nc,4\n")
 WRONG_TABLES = (b"a,1\nno\nb,2\n", b"b,3\nnone\nc,4")
-WRONG_LINES = said("table_join", (2, NO_COMMA)) + first("table_join", (2, "it has no comma"))
+WRONG_LINES = first("table_join", (2, "it has no comma")) + said("table_join", (2, NO_COMMA))
 JOINED = {"inner": b"b,2,3\n", "left": b"a,1,\nb,2,3\n", "full": b"a,1,\nb,2,3\nc,,4\n", "semi": b"b,2\n", "anti": b"a,1\n"}
 
 CASES = [
@@ -69,8 +69,8 @@ CASES = [
     ("table_join", [], TABLES, 0, JOINED["inner"], b""),
     (
         "table_join", ["semi"], (b"b,1\nno\n\xff,2\na\"\0,3\n", b"b,4\nwrong\n"), 1, b"b,1\n",
-        said("table_join", (2, NO_COMMA))
-        + first("table_join", (2, "it has no comma"), (3, "it is not UTF-8"), (4, LOWER % (r'"a\"\0"', '"b"'))),
+        first("table_join", (2, "it has no comma"), (3, "it is not UTF-8"), (4, LOWER % (r'"a\"\0"', '"b"')))
+        + said("table_join", (2, NO_COMMA)),
     ),
     # a key is written as `{:?}` writes it, up to 80 bytes
     (

@@ -1,5 +1,6 @@
 -- Elements of lists and of filters.
-use Rattle.std.proofs.Common.{◌≡◌, ◌∙◌, Some, ℕ, ◌+◌, ◌<◌, ◌≤◌, append-nil, Bool, true, false, zero, suc, List, [], ◌∷◌, ◌++◌, length, take, drop, map, flat_map, refl, sym, ap, subst}
+use Rattle.std.proofs.Common.{◌≡◌, ◌∙◌, Some, ℕ, ◌+◌, ◌<◌, ◌≤◌, append-nil, Bool, true, false, zero, suc}
+use Rattle.std.proofs.Common.{List, [], ◌∷◌, ◌++◌, length, take, drop, map, flat_map, refl, sym, ap, subst}
 use Rattle.std.proofs.Common.{arith, inl, inr, ◌⊎◌}
 use Rattle.std.proofs.lemmas.Grind.{flat_map-append}
 use Rattle.std.proofs.lemmas.List.{take_more}
@@ -59,7 +60,8 @@ in_flat {X} f (z ∷ xs) x y c d = by (first_or_later z xs x c) (λ k. in_flat f
     by (inr k) more = Contains-append_right (f z) (flat_map f xs) y (more k)
 
 -- the elements before a place, and those from it on
-pub before_place : {X : Type 0} (P : X → Type 0) (n : ℕ) (xs : List X) (x : X) → n ≤ length xs → AllWithin P xs 0 n → Contains (take n xs) x → P x
+pub before_place : {X : Type 0} (P : X → Type 0) (n : ℕ) (xs : List X) (x : X) → n ≤ length xs → AllWithin P xs 0 n → Contains
+    (take n xs) x → P x
 before_place P zero xs x l h c = absurd (omega arith)
 before_place P (suc n) [] x l h c = absurd (omega arith)
 before_place P (suc n) (y ∷ xs) x l h c =
@@ -75,7 +77,8 @@ from_place P (suc n) [] x h c = absurd (omega arith)
 from_place P (suc n) (y ∷ xs) x h c = from_place P n xs x (λ k d low high. h (suc k) d (omega arith) (omega arith)) c
 
 -- the lines of what a filter keeps of the first elements, and of one more
-module _ {X Y : Type 0} (test : X → Bool) (f : X → List Y) (xs : List X) (i : ℕ) (x : X) (l : i < length xs) (at : x ≡ slice_index_or xs i x) where
+module _ {X Y : Type 0} (test : X → Bool) (f : X → List Y) (xs : List X) (i : ℕ) (x : X) (l : i < length xs)
+    (at : x ≡ slice_index_or xs i x) where
   one_more : flat_map f (filter test (take (i + 1) xs)) ≡ flat_map f (filter test (take i xs)) ++ flat_map f (filter test (x ∷ []))
   one_more =
       ap (λ l. flat_map f (filter test l)) (take_more xs i x l ∙ ap (λ y. take i xs ++ y ∷ []) (sym at))
