@@ -5,15 +5,9 @@
 
 ghost use Rattle.std.specs.Prelude.{◌≡◌, ◌≤◌, ◌↔◌, Ok, true};
 
-mod joins;
-mod jumps;
-mod linear;
-mod lines;
 mod rows;
-mod searches;
 #[cfg(test)]
 mod tests;
-mod texts;
 
 use std::io::Error;
 use std::process::ExitCode;

@@ -1,9 +1,9 @@
-//! Worked rows, in the order of their numbers: the calls of each, the answers that are wanted, and the questions that may be asked.
-use crate::joins::row_19;
-use crate::jumps::{row_4, row_5, row_6, row_7, row_11, row_12, row_18};
-use crate::linear::{row_1, row_2, row_3, row_13, row_14, row_17};
-use crate::searches::{row_8, row_15};
-use crate::texts::{row_9, row_10, row_16};
+//! The rows in the order of their numbers.
+use bench_rows::joins::row_19;
+use bench_rows::jumps::{row_4, row_5, row_6, row_7, row_11, row_12, row_18};
+use bench_rows::linear::{row_1, row_2, row_3, row_13, row_14, row_17};
+use bench_rows::searches::{row_8, row_15};
+use bench_rows::texts::{row_9, row_10, row_16};
 use std::io::{Error, Write};
 
 /// Writes a line for each row, in the order of their numbers, and answers whether each gave what is wanted.

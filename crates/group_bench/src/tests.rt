@@ -1,6 +1,6 @@
 //! The lines as they are written, of rows that differ too, and through writers with too little room.
-use crate::lines::{write_groups, write_texts};
 use crate::rows::run;
+use bench_rows::lines::{write_groups, write_texts};
 use std::io;
 use std::io::Write;
 
