@@ -1,5 +1,8 @@
 //! Tokens of an input of any size.
-use slice_group_by::{AsciiClasses, StreamGroups};
+ghost use Rattle.std.specs.Prelude.{◌==◌, ◌||◌};
+ghost use Rattle.std.specs.Char.{is_ascii_alphanumeric};
+
+use slice_group_by::{AsciiClasses, ByteClasses, LinearClassGroup, StreamGroups};
 use std::io;
 use std::io::Read;
 
@@ -37,5 +40,27 @@ pub fn print_all(rt: &(impl Print + AllocGlobal)) -> io::Result<()> {
     let first: &[u8] = b"po";
     let second: &[u8] = b"rt 80";
     let third: &[u8] = b"80;";
-    print_tokens(rt, &mut first.chain(second).chain(third))
+    print_tokens(rt, &mut first.chain(second).chain(third))?;
+    print_token(rt, longest_identifier(b"let max_len = 80;"))
+}
+
+/// Classes of bytes: those of identifiers, and all others.
+pub enum Identifiers {}
+
+impl ByteClasses for Identifiers {
+    type Class = bool;
+
+    ghost class_of = { λ byte. is_ascii_alphanumeric byte || byte == 95 };
+
+    fn class(byte: u8) -> bool {
+        byte.is_ascii_alphanumeric() || byte == b'_'
+    }
+}
+
+/// The longest identifier of a text, or nothing if there is none.
+pub fn longest_identifier(text: &[u8]) -> &[u8] {
+    LinearClassGroup::<Identifiers>::new(text)
+        .filter(|token| Identifiers::class(token[0]))
+        .max_by_key(|token| token.len())
+        .unwrap_or(&[])
 }
