@@ -20,10 +20,9 @@ pub struct Found<'a> {
 /// The places of all entries of the key and of no others, in their order, where so many entries at the front are known to
 /// be lower.
 ///
-/// It gallops from there over the lower ones, and then over those that are equal. There are at most twice as many
-/// comparisons as the numbers of the other lower entries and of the found ones, each with one more, have binary digits, and
-/// two more: how long the rest of the index is does not matter. This is proved of the number in the result. That it is
-/// raised at each comparison is read in the code.
+/// It gallops from there over the lower ones, and then over those that are equal. For m other lower entries and n found
+/// ones it compares at most `2 * digits(m + 1) + 2 * digits(n + 1) + 2` times; how long the rest of the index is does not
+/// matter. This is proved of the number in the result. That it is raised at each comparison was reviewed by hand.
 pub fn places_from(index: &Index, before: usize, key: u32) -> Found<'_>
     requires within { before ≤ length index.now }
     requires lower { All (λ entry. entry.key < key) (take before index.now) }

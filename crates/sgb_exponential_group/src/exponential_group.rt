@@ -27,8 +27,9 @@ pub type ExponentialGroup<'a, T> = SearchGroups<'a, T, EqualityJudge, Exponentia
 /// ```
 pub type ExponentialGroupBy<'a, T, P> = SearchGroups<'a, T, PredicateJudge<P>, Exponential>;
 
-/// An iterator over the groups of a slice by a key, for which the slice should be grouped: a call that gives a group of g
-/// asks at most `2 * digits(g) + 1` questions, from both ends, each two calls of the key function.
+/// An iterator over the groups of a slice by a key, from both ends. The slice should be grouped for the key.
+///
+/// A call that gives a group of g asks at most `2 * digits(g) + 1` questions, each two calls of the key function.
 ///
 /// ```
 /// let mut groups = ExponentialGroupByKey::new(&[10, 11, 20, 21, 22], |x| *x / 10);

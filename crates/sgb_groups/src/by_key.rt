@@ -20,13 +20,12 @@ impl<'a, T, K: PartialEq + Drop, F: FnMut(&T) -> K, W: Way> ByKey<'a, T, F, K, W
 
     /// All groups of the slice by the key, which are still to come. Nothing is asked yet.
     ///
-    /// A question is a call of the key function on the element that stands first in it, then one on the other. The key function
-    /// has to be such that it may be called so on the pairs that are `allowed`, in every state that its calls can lead to: of
-    /// linear groups on each neighbouring pair, the left element first, and of binary and exponential ones on every two
-    /// different places, in both orders. Of a slice of at most one element nothing is asked. A closure whose body may run on
-    /// all elements, in every state, meets this at once. A caller that is handed the function takes `F.IsAlwaysCallable func`
-    /// as a `requires`, calls `laws::always_callable_key`, or `laws::always_callable_key_apart`, and answers with
-    /// `c.always_callable_key.ensures _ _ c.requires`.
+    /// A question is a call of the key function on the element that stands first in it, then one on the other. The function
+    /// must be callable in this way on the pairs that are `allowed` (`Way`), in whatever state earlier calls left it. A closure
+    /// whose body may run on all elements, in every state, meets this at once.
+    ///
+    /// If the function is handed to you, take `F.IsAlwaysCallable func` as a `requires`, call `laws::always_callable_key`, or
+    /// `laws::always_callable_key_apart`, and answer with `c.always_callable_key.ensures _ _ c.requires`.
     ///
     /// The result is settled for equality of the keys that the function computes. For binary and exponential groups the slice
     /// should be grouped for the key: equal keys should stand side by side, as where the slice ascends by the key.

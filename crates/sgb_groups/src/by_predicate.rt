@@ -16,12 +16,12 @@ impl<'a, T, P: FnMut(&T, &T) -> bool, W: Way> SliceGroups<'a, T, PredicateJudge<
 
     /// All groups of the slice by the predicate, which are still to come. Nothing is asked yet.
     ///
-    /// The predicate has to be such that it may be called on the pairs that are `allowed`, in every state that its answers can
-    /// lead to: of linear groups on each neighbouring pair of the slice, the left element first, and of binary and exponential
-    /// ones on every two different places, in both orders. Of a slice of at most one element nothing is asked. A closure whose
-    /// body may run on all elements, in every state, meets this at once. One with a `requires` meets it where the slice is
-    /// known to have only such pairs. A caller that is handed the closure takes `P.IsAlwaysCallable predicate` as a
-    /// `requires`, and calls `laws::always_callable`, or `laws::always_callable_apart`.
+    /// The predicate must be callable on the pairs that are `allowed` (`Way`), in whatever state earlier calls left it. A
+    /// closure whose body may run on all elements, in every state, meets this at once. One with a `requires` meets it if the
+    /// slice is known to have only such pairs.
+    ///
+    /// If the closure is handed to you, take `P.IsAlwaysCallable predicate` as a `requires`, and call `laws::always_callable`,
+    /// or `laws::always_callable_apart`.
     ///
     /// The result is settled for each test that the predicate computes. For binary and exponential groups the slice should be
     /// grouped for the test: any two different places should agree exactly if all neighbours between them do.

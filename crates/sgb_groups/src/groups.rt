@@ -130,8 +130,11 @@ impl<'a, T, J: Judge<T> + Drop, W: Way> Iterator for SliceGroups<'a, T, J, W> {
 
     ghost remaining = { λ s. groups_to_come (groups_of s) };
 
-    /// The first group of the remainder, or `None` where nothing remains. For a group of g of n elements it asks g questions of
-    /// linear groups, or g - 1 where g is n; at most `digits(n - 1)` of binary and `2 * digits(g) + 1` of exponential ones.
+    /// The first group of the remainder, or `None` if nothing remains. Questions for a group of g of the n elements that remain:
+    ///
+    /// - linear groups: g, or g - 1 where g is n;
+    /// - binary groups: at most `digits(n - 1)`;
+    /// - exponential groups: at most `2 * digits(g) + 1`.
     #[inline]
     fn next(&mut self) -> Option<&'a [T]> {
         self.next_at(&End::Front)
@@ -174,9 +177,9 @@ impl<'a, T, J: Judge<T> + Drop, W: Way> SliceGroups<'a, T, J, W> {
 
     /// The last group of the remainder, or `None` where nothing remains: what `next_back` gives. The iterator is given up.
     ///
-    /// It asks what `next_back` asks, which leads the judge to some state `t`; what is asked after that, before the judge is
-    /// given up, is nothing, which is read in the code. `Iterator::last` walks all groups from the front, and on a slice that
-    /// is not grouped, binary and exponential groups may end with another there.
+    /// It asks what `next_back` asks, which leads the judge to some state `t`. That it asks nothing more was reviewed by hand.
+    /// `Iterator::last` walks all groups from the front, and on a slice that is not grouped, binary and exponential groups may
+    /// end with another there.
     #[inline]
     pub fn last(mut self) -> Option<&'a [T]>
         requires { IsCallableBy (W.allowed T) J.Judge (groups_of self) }

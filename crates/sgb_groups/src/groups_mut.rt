@@ -17,9 +17,9 @@ use std::mem;
 /// An iterator over the groups of a slice for writing, from both ends. It asks what `SliceGroups` asks, and gives the same
 /// groups.
 ///
-/// Contracts see of it the elements that it has not handed out yet, its `remainder`, its `judge`, and which parts of the
-/// input are out (`loans`): take note of each group in the order in which the groups came, by `note_front` and `note_back`,
-/// and then `finish` says what the whole input ends as. These calls ask nothing and run no code but moves.
+/// Contracts see of it its `remainder` (the elements that it has not handed out yet), its `judge`, and which parts of the
+/// input are out (`loans`). To learn what the whole input ends as, note each group in the order in which the groups came, by
+/// `note_front` and `note_back`, and then call `finish`. These calls ask nothing and run no code but moves.
 #[derive(Drop)]
 pub struct SliceGroupsMut<'a, T, J, W> {
     slice: &'a mut [T],
@@ -154,8 +154,11 @@ impl<'a, T, J: Judge<T> + Drop, W: Way> Iterator for SliceGroupsMut<'a, T, J, W>
 
     ghost remaining = { groups_mut_to_come };
 
-    /// The first group of the remainder, or `None` where nothing remains. For a group of g of n elements it asks g questions of
-    /// linear groups, or g - 1 where g is n; at most `digits(n - 1)` of binary and `2 * digits(g) + 1` of exponential ones.
+    /// The first group of the remainder, or `None` if nothing remains. Questions for a group of g of the n elements that remain:
+    ///
+    /// - linear groups: g, or g - 1 where g is n;
+    /// - binary groups: at most `digits(n - 1)`;
+    /// - exponential groups: at most `2 * digits(g) + 1`.
     #[inline]
     fn next(&mut self) -> Option<&'a mut [T]> {
         self.next_at(&End::Front)

@@ -21,8 +21,8 @@ use std::marker::PhantomData;
 /// no other element, and so takes time by its questions.
 ///
 /// On a slice that is grouped for the judge, as one that is sorted is for `==`, the groups are those of the linear iterators. On
-/// any other, where the judge answers by its arguments alone, a group ends where the innermost element agrees with the
-/// outermost and the element beyond does not.
+/// any other, if the judge depends only on its arguments, a group ends where the innermost element agrees with the outermost
+/// and the element beyond does not.
 pub type SearchGroups<'a, T, J, S> = SliceGroups<'a, T, J, Search<S>>;
 
 /// An iterator over the groups of a slice for writing, that asks what `SearchGroups` asks.

@@ -12,7 +12,8 @@ use sgb_search::judge::Judge;
 /// How the group at an end of a slice is found: what is asked of the judge for it, for which tests that gives the pieces of the
 /// split, and what a walk may ask.
 pub trait Way {
-    // The pairs that a call may ask about, of the elements that remain.
+    // The pairs that a call may ask about, of the elements that remain: of linear groups each neighbouring pair, the left element
+    // first; of binary and exponential ones every two different places, in both orders. One element has no pair.
     ghost allowed: { (T : Type 0) → List T → T × T → Type 0 };
 
     // `asks g e xs n j k`: a call at the end e that takes n of the elements xs may lead the judge from j to k.

@@ -80,9 +80,11 @@ pub type LinearNumberGroupMut<'a, T> = LinearGroupsMut<'a, T, NumberJudge>;
 /// ```
 pub type LinearGroupByMut<'a, T, P> = LinearGroupsMut<'a, T, PredicateJudge<P>>;
 
-/// An iterator over the groups of a slice by a key for writing: a question is a call of the key function on the left
-/// element, then one on the right, then `==` of the keys, of the elements as they are when the call is made. A call for a group
-/// of g elements asks g questions, or g - 1 where nothing remains after it.
+/// An iterator over the groups of a slice by a key for writing.
+///
+/// A question is a call of the key function on the left element, then one on the right, then `==` of the keys. It sees the
+/// elements as they are when the call is made. A call for a group of g elements asks g questions, or g - 1 where nothing
+/// remains after it.
 ///
 /// ```
 /// let mut array = [10, 11, 20, 21, 22];

@@ -24,8 +24,10 @@ use sgb_search::judge::CharKeyJudge;
 /// ```
 pub type LinearStrGroupByKey<'a, F, K> = LinearStrGroups<'a, CharKeyJudge<F, K>>;
 
-/// An iterator over the groups of a text's bytes by a key for writing: a question is a call of the key function on the left
-/// character, then one on the right, then `==` of the keys, of the characters as they are when the call is made.
+/// An iterator over the groups of a text's bytes by a key for writing.
+///
+/// A question is a call of the key function on the left character, then one on the right, then `==` of the keys. It sees the
+/// characters as they are when the call is made.
 ///
 /// ```
 /// let mut bytes = *b"ab12";
@@ -39,11 +41,12 @@ pub type LinearStrGroupByKeyMut<'a, F, K> = LinearStrGroupsMut<'a, CharKeyJudge<
 impl<'a, K: PartialEq + Drop, F: FnMut(char) -> K> LinearStrGroups<'a, CharKeyJudge<F, K>> {
     /// All groups of the text by the key, which are still to come. Nothing is asked yet.
     ///
-    /// The key function has to be such that it may be called on the two characters of each neighbouring pair of the text, the
-    /// left one first, in every state that its calls can lead to; nothing is asked of it for a text of at most one
-    /// character. A closure whose body may run on all characters, in every state, meets this at once. A caller that is handed
-    /// the function takes `F.IsAlwaysCallable func` as a `requires`, calls `laws::always_callable_char_key`, and answers with
-    /// `c.always_callable_char_key.ensures _ _ c.requires`.
+    /// The key function must be callable on the two characters of each neighbouring pair of the text, the left one first, in
+    /// whatever state earlier calls left it. A text of at most one character needs no condition. A closure whose body may run
+    /// on all characters, in every state, meets this at once.
+    ///
+    /// If the function is handed to you, take `F.IsAlwaysCallable func` as a `requires`, call `laws::always_callable_char_key`,
+    /// and answer with `c.always_callable_char_key.ensures _ _ c.requires`.
     ///
     /// The result is settled for equality of the keys that the function computes.
     #[inline]

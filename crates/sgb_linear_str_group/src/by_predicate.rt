@@ -38,10 +38,12 @@ pub type LinearStrGroupByMut<'a, P> = LinearStrGroupsMut<'a, CharPredicateJudge<
 impl<'a, P: FnMut(char, char) -> bool> LinearStrGroups<'a, CharPredicateJudge<P>> {
     /// All groups of the text by the predicate, which are still to come. Nothing is asked yet.
     ///
-    /// The predicate has to be such that it may be called on each pair of neighbouring characters of the text, the left one
-    /// first, in every state that its answers can lead to; nothing is asked of it for a text of at most one character. A
-    /// closure whose body may run on all characters, in every state, meets this at once. A caller that is handed the closure takes
-    /// `P.IsAlwaysCallable predicate` as a `requires`, and calls `laws::always_callable_chars`.
+    /// The predicate must be callable on each pair of neighbouring characters of the text, the left one first, in whatever
+    /// state earlier calls left it. A text of at most one character needs no condition. A closure whose body may run on all
+    /// characters, in every state, meets this at once.
+    ///
+    /// If the closure is handed to you, take `P.IsAlwaysCallable predicate` as a `requires`, and call
+    /// `laws::always_callable_chars`.
     ///
     /// The result is settled for each test that the predicate computes.
     #[inline]

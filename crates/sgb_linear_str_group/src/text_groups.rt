@@ -167,9 +167,8 @@ impl<'a, J: TextJudge + Drop> LinearStrGroups<'a, J> {
 
     /// The last group of the remainder, or `None` where nothing remains: what `next_back` gives. The iterator is given up.
     ///
-    /// It asks what `next_back` asks, which leads the judge to some state `t`; what is asked after that, before the judge is
-    /// given up, is nothing, which is read in the code. `Iterator::last` walks all groups from the front; this one scans
-    /// the last group alone.
+    /// It asks what `next_back` asks, which leads the judge to some state `t`. That it asks nothing more was reviewed by hand.
+    /// `Iterator::last` walks all groups from the front; this one scans the last group alone.
     #[inline]
     pub fn last(mut self) -> Option<&'a str>
         requires { IsCallableBy AreNeighbours J.Judge (in_characters (text_groups_of self)) }

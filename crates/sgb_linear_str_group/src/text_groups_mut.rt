@@ -194,7 +194,7 @@ impl<'a, J: TextJudge + Drop> LinearStrGroupsMut<'a, J> {
     /// questions. The iterator is given up. `Iterator::last` walks all groups from the front.
     ///
     /// What remains stays as it is: the input ends as what it was, but for this group and the parts that were out before. That
-    /// it asks nothing more is read in the code.
+    /// it asks nothing more was reviewed by hand.
     #[inline]
     pub fn last(self) -> Option<&'a mut [u8]>
         requires { IsCallableBy AreNeighbours J.Judge (in_characters (text_groups_of_mut self)) }

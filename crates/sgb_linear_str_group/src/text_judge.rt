@@ -14,8 +14,8 @@ use sgb_search::judge::{CharKeyJudge, CharPredicateJudge, Judge};
 /// `split_group` asks about one neighbouring pair after another. A judge may answer for many pairs at once in its place, with the
 /// same answers.
 pub trait TextJudge: Judge<char> {
-    /// The group at the end of a text and the rest of the text, or `None` where the text is empty: asks about neighbouring
-    /// characters from the end on, the left one first from both ends, up to the first pair that is refused.
+    /// The group at the end of a text and the rest of the text, or `None` if the text is empty. It asks about neighbouring
+    /// characters from that end on, up to the first pair that is refused. The left character comes first, from both ends.
     #[inline(always)]
     fn split_group<'a>(&mut self, end: &End, text: &'a str) -> Option<(&'a str, &'a str)>
         requires { IsCallableBy AreNeighbours Self.Judge (record { remainder = chars text.now; judge = self.old }) }

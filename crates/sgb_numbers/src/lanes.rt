@@ -7,6 +7,13 @@ use crate::signed::{Signed, read_all};
 use std::simd::prelude::*;
 
 /// A type of numbers that are compared by vectors: sixteen elements of a slice with one number at a time.
+///
+/// ```
+/// let row = [7u8; 20];
+/// u8::unlike(&7, &row, 0); // 0
+/// u8::unlike(&8, &row, 0); // 0xffff
+/// u8::cuts(&row, 0);       // 0
+/// ```
 pub trait Lanes: PartialEq {
     /// Which of sixteen elements from the place `at` on are not equal to the number: bit k is set for that at `at + k`.
     fn unlike(number: &Self, slice: &[Self], at: usize) -> u64

@@ -51,8 +51,8 @@ pub trait Judge<T> {
         len
     }
 
-    /// How many elements the last group has of the part of the slice from the place `low` up to, not including, `high`: asks about
-    /// neighbours from the last on, the left element of each pair first, up to the first pair that is refused.
+    /// How many elements the last group has of the part of the slice from the place `low` up to, not including, `high`. It asks about
+    /// neighbours from the last on, up to the first pair that is refused. The left element of each pair comes first.
     #[inline]
     fn last_len(&mut self, slice: &[T], low: usize, high: usize) -> usize
         requires nonempty { low < high }
@@ -153,7 +153,7 @@ impl<P: FnMut(char, char) -> bool> Judge<char> for CharPredicateJudge<P> {
 }
 
 /// Asks for the keys of characters, by value: a call of the key function on the first one of a question, then one on the
-/// second, then `==` of the two keys, which is read in the body of `ask` as well.
+/// second, then one `==` of the two keys (this was reviewed by hand).
 #[derive(Drop)]
 pub struct CharKeyJudge<F, K> {
     pub func: F,

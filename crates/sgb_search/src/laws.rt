@@ -29,10 +29,12 @@ pub fn one_split<T>()
     ensures count { (p : T → T → Bool) (xs : List T) → 0 < length xs → length (split p xs) ≡ refused_pairs p xs + 1 }
 {}
 
-/// The split of two lists, one after the other, is that of the one and that of the other, but that the last piece of the one and the
-/// first of the other are one piece where the pair across is accepted (`seam`). So whoever splits what comes in parts has to keep the
-/// last piece alone (`kept`), and whoever counts pieces part by part counts one too many at each accepted seam (`count`). There the
-/// lengths of the two pieces add up (`lens`).
+/// The split of `xs ++ ys` is the split of `xs` and then that of `ys`, but where the pair across the seam is accepted, the two pieces
+/// beside it are one (`seam`).
+///
+/// - `kept`: to split what comes in parts, keep the last piece alone.
+/// - `count`: counting part by part counts one piece too many at each accepted seam.
+/// - `lens`: there the lengths of the two pieces add up.
 pub fn splits_join<T>()
     ensures seam { (p : T → T → Bool) (xs ys : List T) → split p (xs ++ ys) ≡ seam p (split p xs) (split p ys) }
     ensures kept { (p : T → T → Bool) (xs ys group : List T) → last (split p xs) ≡ Some group
@@ -68,8 +70,8 @@ pub fn always_callable_key_apart<T, F: FnMut(&T) -> K, K: PartialEq + Drop>()
         → IsCallableBy AreApart (by_key F.FnMut K.eq) (record { remainder = xs; judge = key_judge func }) }
 {}
 
-/// A key function that may be called on each element of a slice, which is what the searches ask of theirs, may be asked about
-/// its neighbouring pairs, and about every two different places, in both orders; and it may be called on each element of a part.
+/// A key function that may be called on each element of a slice may be asked about its neighbouring pairs (`along`), and about every
+/// two different places in both orders (`apart`). It may also be called on each element of a part of the slice.
 pub fn callable_on_elements<T, F: FnMut(&T) -> K, K: PartialEq + Drop>()
     ensures along { (xs : List T) (func : F) → IsCallableOn F.FnMut xs func
         → IsCallableBy AreNeighbours (by_key F.FnMut K.eq) (record { remainder = xs; judge = key_judge func }) }
@@ -79,8 +81,8 @@ pub fn callable_on_elements<T, F: FnMut(&T) -> K, K: PartialEq + Drop>()
         → IsCallableOn F.FnMut part func }
 {}
 
-/// A key function that computes a key of each element of a slice: the judge by key answers whether those keys are equal, of
-/// neighbouring pairs and of every two different places; and it computes the key of each element of a part.
+/// If a key function computes a key of each element of a slice, the judge by key answers whether those keys are equal, of neighbouring
+/// pairs (`along`) and of every two different places (`apart`). It also computes the key of each element of a part of the slice.
 pub fn computes_on_elements<T, F: FnMut(&T) -> K, K: PartialEq + Drop>()
     ensures along { (xs : List T) (key : T → K) (func : F) → ComputesOn F.FnMut xs key func
         → ComputesBy AreNeighbours (by_key F.FnMut K.eq)
@@ -92,9 +94,9 @@ pub fn computes_on_elements<T, F: FnMut(&T) -> K, K: PartialEq + Drop>()
         → ComputesOn F.FnMut (before ++ (part ++ after)) key func → ComputesOn F.FnMut part key func }
 {}
 
-/// A function that its calls leave unchanged, such as a closure that captures nothing by `&mut`. If it may be called on each element
-/// now, it may be called on them in every later state too (`elements`), and a judge by its keys may be asked about neighbouring pairs
-/// (`along`) and about every two different places (`apart`). The reference names the function's type.
+/// For a function that its calls leave unchanged, such as a closure that captures nothing by `&mut`. If it may be called on each
+/// element now, it may be called on them in every later state (`elements`). A judge by its keys may then be asked about neighbouring
+/// pairs (`along`) and about every two different places (`apart`). The reference names the function's type.
 pub fn callable_unchanged<T, F: FnMut(&T) -> K, K: PartialEq + Drop>(_f: &F)
     ensures elements { (xs : List T) (f : F) → ((g h : F) (x : T) (k : K) → CalledAt F.FnMut g x k h → h ≡ g)
         → ((x : T) → Contains xs x → TakesAt F.FnMut f x) → IsCallableOn F.FnMut xs f }
@@ -135,8 +137,8 @@ pub fn callable_on_pairs<T, P: FnMut(&T, &T) -> bool>()
         (record { remainder = xs; judge = predicate_judge predicate }) }
 {}
 
-/// A predicate whose every call on a neighbouring pair of a slice, the left element first, or on every two different places, in
-/// both orders, answers a test, in each of its states, whatever it answers elsewhere: its judge answers the test there.
+/// If a predicate, in each of its states, answers a test on the neighbouring pairs of a slice, its judge answers the test there
+/// (`along`); likewise on every two different places, in both orders (`apart`). What it answers elsewhere does not matter.
 pub fn computes_on_pairs<T, P: FnMut(&T, &T) -> bool>()
     ensures along { (xs : List T) (p : T → T → Bool)
         → ((f h : P) (q : T × T) (b : Bool) → AreNeighbours xs q → CalledAtTwo P.FnMut f q.0 q.1 b h → b ≡ p q.0 q.1)
@@ -211,7 +213,7 @@ pub fn ascending_is_searchable<T, K: Ord>()
 {}
 
 /// In a list whose answers are `Less`, then `Equal`, then `Greater` (`ascending_is_searchable`), the elements that are `Less` come
-/// first, and so do those that are not `Greater`: a search for a partition point by either test finds where they end.
+/// first, and so do those that are not `Greater`. A search for a partition point by either test finds where they end.
 pub fn searchable_is_partitioned<T>()
     ensures less { (ord : T → Ordering) (xs : List T) → IsLessEqualGreater ord xs → IsPartitionedBy (λ x. is_lt (ord x)) xs }
     ensures not_greater { (ord : T → Ordering) (xs : List T) → IsLessEqualGreater ord xs

@@ -132,10 +132,12 @@ pub(crate) fn count_before<T, K, S: Test<K>, F: FnMut(&T) -> K>(
 /// How many elements the predicate accepts, from the first on, of a slice that has those it accepts first: what
 /// `slice.partition_point(pred)` gives, found by galloping from the first element.
 ///
-/// On any slice, where the predicate answers by its argument alone, the element before the place is accepted, and the one at it
-/// refused, where there are such elements. The predicate has to be such that it may be called on each element, in every state
-/// that its answers can lead to. Whatever it answers, a call that gives n asks at most `2 * digits(n + 1) + 1` questions, none of
-/// an empty slice. It is given up; `exponential_partition_point_ref` says what it comes back as.
+/// On any slice, if the predicate depends only on its argument, the element before the place is accepted, and the one at it
+/// refused, where there are such elements.
+///
+/// A call that gives n asks at most `2 * digits(n + 1) + 1` questions, whatever it is answered, and none of an empty slice. The
+/// predicate must be callable on each element, in whatever state earlier calls left it. It is given up;
+/// `exponential_partition_point_ref` says what it comes back as.
 ///
 /// ```
 /// exponential_partition_point(&[1, 2, 3, 5, 8, 13, 21], |&x| x < 5); // 3

@@ -34,9 +34,11 @@ fn places<T, K, L: Test<K>, E: Test<K>, F: FnMut(&T) -> K>(
     start..start + len
 }
 
-/// Where the elements stand that are equal to what is sought, as a range of places: those of which the comparator answers
-/// `Equal`, in a slice of which it answers `Less` of the first elements, then `Equal`, then `Greater`, each perhaps of none.
-/// `&slice[places]` has the elements. If none is equal, the range is empty, and begins where an equal element would be inserted.
+/// The places of the elements of which the comparator answers `Equal`, as a range: `&slice[places]` has the elements. If none is
+/// equal, the range is empty, and begins where an equal element would be inserted.
+///
+/// The slice should be sorted so that the comparator answers `Less` of its first elements, then `Equal`, then `Greater`, each perhaps
+/// of none.
 ///
 /// It gallops to both ends, to the first from the first element of the slice, to the second from there on, so it is cheap
 /// where few elements come before the equal ones and few are equal. A call that passes over m elements and finds n asks at
@@ -164,8 +166,7 @@ where
     exponential_equal_places_by_key_ref(slice, b, &mut f)
 }
 
-/// The places of the elements with a key by a key function that is lent: it gives and asks what `exponential_equal_places_by_key`
-/// does, and the function comes back in the state that just these calls lead to, to be called again.
+/// `exponential_equal_places_by_key` with a key function that is lent: it comes back in the state that just these calls lead to.
 ///
 /// ```
 /// let mut called = 0;

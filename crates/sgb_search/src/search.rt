@@ -53,16 +53,20 @@ impl<'a, T, B: Ord + Drop, F: FnMut(&T) -> B> Places<F> for Keyed<'a, T, B> {
 /// The slice should be sorted so that the comparator answers `Less` of its first elements, then `Equal`, then `Greater`, each
 /// perhaps of none. Then there is an `Ok` exactly if some element is `Equal`; which of several is given is left open. And
 /// `Err(i)` has `Less` before place i and `Greater` from i on, so that the slice stays sorted if the element is inserted
-/// there. On any other slice, where the comparator answers by its argument alone, `Ok` is an `Equal` place all the same, and
-/// `Err` a place between `Less` and `Greater`, or at an end.
+/// there. On any other slice, if the comparator depends only on its argument, `Ok` is an `Equal` place all the same, and `Err`
+/// a place between `Less` and `Greater`, or at an end.
 ///
-/// The comparator has to be such that it may be called on each element, in every state that its answers can lead to.
-/// Whatever it answers, a search that gives place i asks at most `2 * digits(i + 1) + 1` questions, where `digits` is the
-/// number of binary digits, so it is cheap where the place is near the beginning; it asks none of an empty slice. The questions
-/// show the answer: of `Ok`, that the last was answered `Equal`; of `Err`, that the element before the place was answered
-/// `Less`, unless the one at it was answered in two ways, and that the one at it was answered `Greater`, unless the one before it
-/// was answered in two ways. The comparator is given up, so the contract speaks of the run of calls that found the place;
-/// `exponential_search_by_ref` says it of the comparator as it comes back.
+/// A search that gives place i asks at most `2 * digits(i + 1) + 1` questions, whatever it is answered (`digits` is the number
+/// of binary digits), so it is cheap near the beginning. It asks none of an empty slice.
+///
+/// The comparator must be callable on each element, in whatever state earlier calls left it. The questions show the answer:
+///
+/// - `Ok`: the last question was answered `Equal`.
+/// - `Err`: the element before the place was answered `Less`, unless the one at it was answered in two ways.
+/// - `Err`: the element at the place was answered `Greater`, unless the one before it was answered in two ways.
+///
+/// The comparator is given up, so the contract speaks of the run of calls that found the place; `exponential_search_by_ref`
+/// says it of the comparator as it comes back.
 ///
 /// ```
 /// let slice = [0, 1, 1, 1, 1, 2, 3, 5, 8, 13, 21, 34, 55];

@@ -1,9 +1,9 @@
 //! Groups of neighbouring elements of a slice, without copying, from either end.
 //!
 //! A group ends where two neighbouring elements do not belong together. The groups of a slice are nonempty, and cover it.
-//! Where the closure answers by its arguments alone, those of linear iterators are the same from the front and from the
-//! back: the pieces of the one `split`. So are those of binary and exponential iterators on a slice that is grouped, as a
-//! sorted one is for `==`; they search for the end of a group, and do not ask about each pair of neighbours.
+//! If the closure depends only on its arguments, linear iterators give the pieces of the one `split`, the same from the
+//! front and from the back. Binary and exponential ones search for the end of a group, and need a slice that is grouped for
+//! that, as a sorted one is for `==`.
 //!
 //! ```
 //! let mut groups = LinearGroup::new(&[1, 1, 1, 3, 3, 2, 2, 2]);
@@ -12,6 +12,23 @@
 //! groups.next();      // Some([3, 3])
 //! groups.next_back(); // None
 //! ```
+//!
+//! | you have | take |
+//! |---|---|
+//! | any slice, or short groups | `LinearGroup` |
+//! | integers or floats, to group by `==` | `LinearNumberGroup` |
+//! | bytes, to group by class | `LinearClassGroup`; `count_classes`, which counts groups with no walk |
+//! | a sorted slice with long groups | `ExponentialGroup` |
+//! | a sorted slice with few groups, of very different lengths | `BinaryGroup` |
+//! | a text | `LinearStrGroup` |
+//! | a stream that comes in blocks | `StreamGroups` |
+//! | two sorted slices | `MergeJoinBy`, `MergeJoin`; in blocks with `joinable_prefixes` |
+//! | a sorted slice, and what is sought in it | `exponential_search`, `exponential_partition_point`, `exponential_equal_places` |
+//! | a slice to cut between two groups | `linear_boundary`, `exponential_boundary` |
+//!
+//! Types come as `..By` (a predicate), `..ByKey` (a key function) and `..Mut` (for writing) too, and as methods of slices,
+//! arrays, vectors and texts (`GroupBy`, `GroupByMut`, `StrGroupBy`, `StrGroupByMut`). `adapters` gives each group its
+//! place, its key or its length. `laws` has what your proofs cite, and `loans` what a slice ends as while it is written.
 #![tactic(auto)]
 
 pub mod adapters;

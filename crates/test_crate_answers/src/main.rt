@@ -4,11 +4,16 @@
 //! each type, and how many of them are the same. The status is 1 where one is not, and where a line is wrong, which
 //! ends the program.
 //!
-//! A line of groups has these fields, with a space between every two: the type, `reading` or `writing`, the judge, the
-//! calls (F for `next`, B for `next_back`, L for `last`), the word, for writing the word after each group that came was
-//! crossed out, the answers (the group, or `-` for `None`), and how many questions the closure was asked, or `-` where
-//! that is not compared. A line of a search has `search`, by what it searches, for which letter, the word, `found` or
-//! `absent`, and the place. `docs/DIFFERENCES.md` says how the stored lines were made.
+//! A line of groups has these fields, with a space between every two:
+//!
+//! - the type; `reading` or `writing`; the judge;
+//! - the calls: F for `next`, B for `next_back`, L for `last`;
+//! - the word; for writing, the word after each group that came was crossed out;
+//! - the answers: the group, or `-` for `None`;
+//! - how many questions the closure was asked, or `-` where that is not compared.
+//!
+//! A line of a search has `search`, by what it searches, for which letter, the word, `found` or `absent`, and the place.
+//! `docs/DIFFERENCES.md` says how the stored lines were made.
 #![tactic(auto)]
 
 mod calls;

@@ -14,8 +14,8 @@ ghost use Rattle.slice_group_by.specs.Queue.{pops, after_pops};
 
 use crate::laws::queue::GroupQueue;
 
-/// One call on a queue that is settled for a test: it gives the outermost piece of the split of what remained, or `None`
-/// where there is no piece; the other pieces are the split of what remains; and the queue is settled again.
+/// One call on a queue that is settled for a test gives the outermost piece of the split of what remained, or `None` if there is
+/// no piece. The other pieces are the split of what remains, and the queue is settled again.
 pub fn calls_take_pieces<Q: GroupQueue>(_queue: &Q)
     ensures front { (p : Q.Element → Q.Element → Bool) (q t : Q) (group : Option Q.Item)
         → Q.gives Front q group t → Q.is_settled q p → option_map Q.shows group ≡ first (split p (Q.remainder q)) }
@@ -61,12 +61,15 @@ pub fn chains_answer<Q: GroupQueue>(_queue: &Q)
 {}
 
 /// What a loop or an adapter sees of a settled queue: the pieces of the split in order, and from the back or under `rev()`
-/// in reverse. What `next` and `next_back` of this library's types give is `gives Front` and `gives Back`. The lemmas of the
-/// standard library that take it stand in `Rattle.std.proofs.lemmas.Iterator.Consumers`, as `count_from_yields_List`.
+/// in reverse. `next` and `next_back` of this library's types give `gives Front` and `gives Back`. The lemmas of the standard
+/// library that take it stand in `Rattle.std.proofs.lemmas.Iterator.Consumers`, as `count_from_yields_List`.
 ///
-/// `part` and `whole` say it of the groups that calls at one end gave, some of them or all, as a loop keeps them; `more` adds a
-/// call to such calls, whatever the judge answers; `settled` says that the queue is settled after them, and `turn` that the group
-/// that comes is one of the pieces.
+/// Of calls at one end, as a loop makes them:
+///
+/// - `part`, `whole`: the groups that they gave, some or all, are the first pieces, or all.
+/// - `more` adds a call, whatever the judge answers.
+/// - `settled`: the queue is settled after them.
+/// - `turn`: the group that comes is one of the pieces.
 pub fn sees_pieces<Q: GroupQueue>(_queue: &Q)
     ensures pieces { (p : Q.Element → Q.Element → Bool) (e : End) (q : Q) → Q.is_settled q p
         → YieldsList (Q.gives e) Q.shows q (from e (split p (Q.remainder q))) }

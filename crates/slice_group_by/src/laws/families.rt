@@ -49,8 +49,8 @@ pub fn chunk_by_agrees<T, F: FnMut(&T, &T) -> bool, Q: GroupQueue<Element = T>>(
         → map (λ chunk. chunk.now) chunks ≡ map Q.shows groups }
 {}
 
-/// On any slice, grouped or not: a call of binary or exponential groups, whose judge answers by its arguments alone, gives a
-/// group that ends at a local boundary, where the remainder reads from the call's end, and leaves such a judge.
+/// On any slice, grouped or not, if the judge depends only on its arguments: a call of binary or exponential groups gives a group
+/// that ends at a local boundary of the remainder, read from the call's end. The judge is then as before.
 pub fn groups_end_locally<T, J: Judge<T>, S: GroupSearch, G: Judged<T, J, Search<S>>>(_groups: &G)
     ensures ends { (p : T → T → Bool) (e : End) (s t : G) (group : G.Item) → ComputesBy AreApart J.Judge (G.groups s) p
         → G.GroupQueue.gives e s (Some group) t → IsLocalEnd (from e (G.groups s).remainder) p (length (G.GroupQueue.shows group)) }

@@ -9,8 +9,8 @@ ghost use Rattle.slice_group_by.specs.Dedup.{counted};
 ghost use Rattle.slice_group_by.specs.Keyed.{keyed};
 
 /// The elements of a piece by keys have one key. In a list that ascends by that key the pieces ascend strictly: each element of
-/// a piece has a lesser key than each of a later one, so that no key has two pieces; and the keys of their first elements, which
-/// `dedup` leaves (`pieces_begin_as_dedup`), ascend strictly.
+/// a piece has a lesser key than each of a later one, so no key has two pieces. The keys of their first elements, which `dedup`
+/// leaves (`pieces_begin_as_dedup`), ascend strictly too.
 pub fn pieces_by_key<T, K: Ord>()
     ensures alike { (key : T → K) (xs g : List T) (x y : T) → Contains (split (λ a b. K.eq (key a) (key b)) xs) g
         → Contains g x → Contains g y → K.eq (key x) (key y) ≡ true }

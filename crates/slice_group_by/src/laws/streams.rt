@@ -57,9 +57,9 @@ pub fn parts_join<Q: GroupQueue>(_parts: &Parts<Q>)
         → Q.shows part.1 ≢ [] }
 {}
 
-/// A fold over parts is a fold over groups. Of each group a value is kept, which `first` computes of its elements. If
-/// `more` computes from the value of a part of a group, and from the elements that follow, the value of both, then the
-/// values of the groups before, changed by `add_part` part by part, are those of the groups of all elements so far.
+/// A fold over parts is a fold over groups. Of each group a value is kept, which `first` computes of its elements. Let `more`
+/// compute from the value of a part, and the elements that follow, the value of both. Then the values of the groups before,
+/// changed by `add_part` part by part, are those of the groups of all elements so far.
 pub fn parts_fold<Q: GroupQueue, V>(_parts: &Parts<Q>)
     ensures { (first : List Q.Element → V) (more : V → List Q.Element → V)
         → ((group part : List Q.Element) → group ≢ [] → part ≢ [] → more (first group) part ≡ first (group ++ part))
@@ -105,10 +105,10 @@ pub fn parts_ask<T, J: Judge<T>, S: Judged<T, J, Linear>>(_parts: &Parts<S>)
         → AsksPairs J.Judge (neighbours (concat blocks)) j k }
 {}
 
-/// What a block of a stream does to a counter that the predicate captured by `&mut`, which each question raises by just
-/// `each`: behind a walk over the elements before, `each * (n - 1)` for n elements, it leads to that of a walk over the
-/// block too. So over all blocks of a stream it counts what `linear_counts` says of one slice. `j` is the judge of the
-/// predicate that is passed, and the run that which `parts_by` ensures.
+/// What a block of a stream does to a counter that the predicate captured by `&mut`, if each question raises it by just
+/// `each`. If the counter is `each * (n - 1)` for the n elements before, as after a walk over them, it is so for those and the
+/// block afterwards. So over all blocks it counts what `linear_counts` says of one slice. `j` is the judge of the predicate
+/// that is passed, and the run is that of `parts_by`.
 pub fn streams_count<T, J: Judge<T>, S: Judged<T, J, Linear>>(_parts: &Parts<S>)
     ensures { (counter : J → MutBor ℕ) (each limit : ℕ)
         → RaisesJust J.answers (λ j. (counter j).now) (λ j. (counter j).ghost_name) each limit

@@ -31,7 +31,8 @@ use sgb_numbers::lanes::Lanes;
 /// groups.next_back(); // Some([2, 2, 2])
 /// ```
 pub trait GroupBy<T>: Elements<T> {
-    /// Groups by a key: neighbours whose keys are equal belong together.
+    /// Groups by a key: neighbours whose keys are equal belong together. At most g questions for a group of g. See
+    /// `LinearGroupByKey`.
     #[inline]
     fn linear_group_by_key<F, K>(&self, func: F) -> LinearGroupByKey<'_, T, F, K>
     where
@@ -49,7 +50,8 @@ pub trait GroupBy<T>: Elements<T> {
         LinearGroupByKey::new(self.as_slice(), func)
     }
 
-    /// Groups by a predicate: neighbours of which it says yes, the left one first, belong together.
+    /// Groups by a predicate: neighbours of which it says yes, the left one first, belong together. At most g questions for
+    /// a group of g. See `LinearGroupBy`.
     #[inline]
     fn linear_group_by<P: FnMut(&T, &T) -> bool>(&self, predicate: P) -> LinearGroupBy<'_, T, P>
         requires { IsCallableBy AreNeighbours (by_predicate P.FnMut)
@@ -64,7 +66,7 @@ pub trait GroupBy<T>: Elements<T> {
         LinearGroupBy::new(self.as_slice(), predicate)
     }
 
-    /// Groups of equal elements.
+    /// Groups of equal elements. At most g questions for a group of g. See `LinearGroup`.
     #[inline]
     fn linear_group(&self) -> LinearGroup<'_, T>
     where
@@ -78,7 +80,7 @@ pub trait GroupBy<T>: Elements<T> {
         LinearGroup::new(self.as_slice())
     }
 
-    /// Groups of equal numbers, found by vectors: those of `linear_group`.
+    /// Groups of equal numbers, found by vectors: those of `linear_group`. They ask no closure. See `LinearNumberGroup`.
     #[inline]
     fn linear_number_group(&self) -> LinearNumberGroup<'_, T>
     where
@@ -91,7 +93,8 @@ pub trait GroupBy<T>: Elements<T> {
         LinearNumberGroup::new(self.as_slice())
     }
 
-    /// Groups by a key, found by halving: equal keys should stand side by side.
+    /// Groups by a key, found by halving: equal keys should stand side by side. At most `digits(n - 1)` questions where n
+    /// elements remain. See `BinaryGroupByKey`.
     #[inline]
     fn binary_group_by_key<F, K>(&self, func: F) -> BinaryGroupByKey<'_, T, F, K>
     where
@@ -112,7 +115,8 @@ pub trait GroupBy<T>: Elements<T> {
         BinaryGroupByKey::new(self.as_slice(), func)
     }
 
-    /// Groups by a predicate, found by halving: the slice should be grouped for it.
+    /// Groups by a predicate, found by halving: the slice should be grouped for it. At most `digits(n - 1)` questions where
+    /// n elements remain. See `BinaryGroupBy`.
     #[inline]
     fn binary_group_by<P: FnMut(&T, &T) -> bool>(&self, predicate: P) -> BinaryGroupBy<'_, T, P>
         requires { IsCallableBy AreApart (by_predicate P.FnMut)
@@ -129,7 +133,8 @@ pub trait GroupBy<T>: Elements<T> {
         BinaryGroupBy::new(self.as_slice(), predicate)
     }
 
-    /// Groups of equal elements, found by halving: they should stand side by side.
+    /// Groups of equal elements, found by halving: they should stand side by side. At most `digits(n - 1)` questions where
+    /// n elements remain. See `BinaryGroup`.
     #[inline]
     fn binary_group(&self) -> BinaryGroup<'_, T>
     where
@@ -145,7 +150,8 @@ pub trait GroupBy<T>: Elements<T> {
         BinaryGroup::new(self.as_slice())
     }
 
-    /// Groups by a key, found by galloping: equal keys should stand side by side.
+    /// Groups by a key, found by galloping: equal keys should stand side by side. At most `2 * digits(g) + 1` questions for
+    /// a group of g. See `ExponentialGroupByKey`.
     #[inline]
     fn exponential_group_by_key<F, K>(&self, func: F) -> ExponentialGroupByKey<'_, T, F, K>
     where
@@ -166,7 +172,8 @@ pub trait GroupBy<T>: Elements<T> {
         ExponentialGroupByKey::new(self.as_slice(), func)
     }
 
-    /// Groups by a predicate, found by galloping: the slice should be grouped for it.
+    /// Groups by a predicate, found by galloping: the slice should be grouped for it. At most `2 * digits(g) + 1` questions
+    /// for a group of g. See `ExponentialGroupBy`.
     #[inline]
     fn exponential_group_by<P>(&self, predicate: P) -> ExponentialGroupBy<'_, T, P>
     where
@@ -185,7 +192,8 @@ pub trait GroupBy<T>: Elements<T> {
         ExponentialGroupBy::new(self.as_slice(), predicate)
     }
 
-    /// Groups of equal elements, found by galloping: they should stand side by side.
+    /// Groups of equal elements, found by galloping: they should stand side by side. At most `2 * digits(g) + 1` questions
+    /// for a group of g. See `ExponentialGroup`.
     #[inline]
     fn exponential_group(&self) -> ExponentialGroup<'_, T>
     where

@@ -33,7 +33,8 @@ use sgb_numbers::lanes::Lanes;
 /// }
 /// ```
 pub trait GroupByMut<T>: AsMutSlice<T> {
-    /// Groups by a key: neighbours whose keys are equal belong together.
+    /// Groups by a key: neighbours whose keys are equal belong together. At most g questions for a group of g. See
+    /// `LinearGroupByKeyMut`.
     #[inline]
     fn linear_group_by_key_mut<F, K>(&mut self, func: F) -> LinearGroupByKeyMut<'_, T, F, K>
     where
@@ -51,7 +52,8 @@ pub trait GroupByMut<T>: AsMutSlice<T> {
         LinearGroupByKeyMut::new(self.as_mut_slice(), func)
     }
 
-    /// Groups by a predicate: neighbours of which it says yes, the left one first, belong together.
+    /// Groups by a predicate: neighbours of which it says yes, the left one first, belong together. At most g questions for
+    /// a group of g. See `LinearGroupByMut`.
     #[inline]
     fn linear_group_by_mut<P>(&mut self, predicate: P) -> LinearGroupByMut<'_, T, P>
     where
@@ -68,7 +70,7 @@ pub trait GroupByMut<T>: AsMutSlice<T> {
         LinearGroupByMut::new(self.as_mut_slice(), predicate)
     }
 
-    /// Groups of equal elements.
+    /// Groups of equal elements. At most g questions for a group of g. See `LinearGroupMut`.
     #[inline]
     fn linear_group_mut(&mut self) -> LinearGroupMut<'_, T>
     where
@@ -82,7 +84,8 @@ pub trait GroupByMut<T>: AsMutSlice<T> {
         LinearGroupMut::new(self.as_mut_slice())
     }
 
-    /// Groups of equal numbers, found by vectors: those of `linear_group_mut`.
+    /// Groups of equal numbers, found by vectors: those of `linear_group_mut`. They ask no closure. See
+    /// `LinearNumberGroupMut`.
     #[inline]
     fn linear_number_group_mut(&mut self) -> LinearNumberGroupMut<'_, T>
     where
@@ -95,7 +98,8 @@ pub trait GroupByMut<T>: AsMutSlice<T> {
         LinearNumberGroupMut::new(self.as_mut_slice())
     }
 
-    /// Groups by a key, found by halving: equal keys should stand side by side.
+    /// Groups by a key, found by halving: equal keys should stand side by side. At most `digits(n - 1)` questions where n
+    /// elements remain. See `BinaryGroupByKeyMut`.
     #[inline]
     fn binary_group_by_key_mut<F, K>(&mut self, func: F) -> BinaryGroupByKeyMut<'_, T, F, K>
     where
@@ -116,7 +120,8 @@ pub trait GroupByMut<T>: AsMutSlice<T> {
         BinaryGroupByKeyMut::new(self.as_mut_slice(), func)
     }
 
-    /// Groups by a predicate, found by halving: the slice should be grouped for it.
+    /// Groups by a predicate, found by halving: the slice should be grouped for it. At most `digits(n - 1)` questions where
+    /// n elements remain. See `BinaryGroupByMut`.
     #[inline]
     fn binary_group_by_mut<P>(&mut self, predicate: P) -> BinaryGroupByMut<'_, T, P>
     where
@@ -136,7 +141,8 @@ pub trait GroupByMut<T>: AsMutSlice<T> {
         BinaryGroupByMut::new(self.as_mut_slice(), predicate)
     }
 
-    /// Groups of equal elements, found by halving: they should stand side by side.
+    /// Groups of equal elements, found by halving: they should stand side by side. At most `digits(n - 1)` questions where
+    /// n elements remain. See `BinaryGroupMut`.
     #[inline]
     fn binary_group_mut(&mut self) -> BinaryGroupMut<'_, T>
     where
@@ -152,7 +158,8 @@ pub trait GroupByMut<T>: AsMutSlice<T> {
         BinaryGroupMut::new(self.as_mut_slice())
     }
 
-    /// Groups by a key, found by galloping: equal keys should stand side by side.
+    /// Groups by a key, found by galloping: equal keys should stand side by side. At most `2 * digits(g) + 1` questions for
+    /// a group of g. See `ExponentialGroupByKeyMut`.
     #[inline]
     fn exponential_group_by_key_mut<F, K>(
         &mut self,
@@ -176,7 +183,8 @@ pub trait GroupByMut<T>: AsMutSlice<T> {
         ExponentialGroupByKeyMut::new(self.as_mut_slice(), func)
     }
 
-    /// Groups by a predicate, found by galloping: the slice should be grouped for it.
+    /// Groups by a predicate, found by galloping: the slice should be grouped for it. At most `2 * digits(g) + 1` questions
+    /// for a group of g. See `ExponentialGroupByMut`.
     #[inline]
     fn exponential_group_by_mut<P>(&mut self, predicate: P) -> ExponentialGroupByMut<'_, T, P>
     where
@@ -196,7 +204,8 @@ pub trait GroupByMut<T>: AsMutSlice<T> {
         ExponentialGroupByMut::new(self.as_mut_slice(), predicate)
     }
 
-    /// Groups of equal elements, found by galloping: they should stand side by side.
+    /// Groups of equal elements, found by galloping: they should stand side by side. At most `2 * digits(g) + 1` questions
+    /// for a group of g. See `ExponentialGroupMut`.
     #[inline]
     fn exponential_group_mut(&mut self) -> ExponentialGroupMut<'_, T>
     where

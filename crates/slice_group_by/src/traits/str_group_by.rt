@@ -26,7 +26,8 @@ use std::convert::AsStr;
 /// groups.next_back(); // Some("cccc")
 /// ```
 pub trait StrGroupBy: AsStr {
-    /// Groups by a key: neighbours whose keys are equal belong together.
+    /// Groups by a key: neighbours whose keys are equal belong together. At most g questions for a group of g. See
+    /// `LinearStrGroupByKey`.
     #[inline]
     fn linear_group_by_key<F, K>(&self, func: F) -> LinearStrGroupByKey<'_, F, K>
     where
@@ -45,7 +46,8 @@ pub trait StrGroupBy: AsStr {
         LinearStrGroupByKey::new(self.as_str(), func)
     }
 
-    /// Groups by a predicate: neighbours of which it says yes, the left one first, belong together.
+    /// Groups by a predicate: neighbours of which it says yes, the left one first, belong together. At most g questions for
+    /// a group of g. See `LinearStrGroupBy`.
     #[inline]
     fn linear_group_by<P>(&self, predicate: P) -> LinearStrGroupBy<'_, P>
     where
@@ -63,7 +65,7 @@ pub trait StrGroupBy: AsStr {
         LinearStrGroupBy::new(self.as_str(), predicate)
     }
 
-    /// Groups of equal characters.
+    /// Groups of equal characters. At most g questions for a group of g. See `LinearStrGroup`.
     #[inline]
     fn linear_group(&self) -> LinearStrGroup<'_>
         ensures text { (text_groups_of result).text ≡ Self.text self.now }
@@ -94,7 +96,8 @@ impl<S: AsStr> StrGroupBy for S {}
 /// }
 /// ```
 pub trait StrGroupByMut: AsMutSlice<u8> {
-    /// Groups by a key: neighbours whose keys are equal belong together.
+    /// Groups by a key: neighbours whose keys are equal belong together. At most g questions for a group of g. See
+    /// `LinearStrGroupByKeyMut`.
     #[inline]
     fn linear_group_by_key_mut<F, K>(&mut self, func: F) -> LinearStrGroupByKeyMut<'_, F, K>
     where
@@ -114,7 +117,8 @@ pub trait StrGroupByMut: AsMutSlice<u8> {
         LinearStrGroupByKeyMut::new(self.as_mut_slice(), func)
     }
 
-    /// Groups by a predicate: neighbours of which it says yes, the left one first, belong together.
+    /// Groups by a predicate: neighbours of which it says yes, the left one first, belong together. At most g questions for
+    /// a group of g. See `LinearStrGroupByMut`.
     #[inline]
     fn linear_group_by_mut<P>(&mut self, predicate: P) -> LinearStrGroupByMut<'_, P>
     where
@@ -133,7 +137,7 @@ pub trait StrGroupByMut: AsMutSlice<u8> {
         LinearStrGroupByMut::new(self.as_mut_slice(), predicate)
     }
 
-    /// Groups of equal characters.
+    /// Groups of equal characters. At most g questions for a group of g. See `LinearStrGroupMut`.
     #[inline]
     fn linear_group_mut(&mut self) -> LinearStrGroupMut<'_>
         requires { IsUtf8 (Self.elements self.old) }
