@@ -1,19 +1,21 @@
 //! Groups by a key, each with its key.
 use slice_group_by::{
-    LinearGroupByKey, LinearGroupByKeyMut, LinearStrGroupByKey, LinearStrGroupByKeyMut, with_keys,
+    GroupAdapters, LinearGroupByKey, LinearGroupByKeyMut, LinearStrGroupByKeyMut,
 };
 use std::alloc::{AllocError, Global};
 use std::io;
 
 /// The groups of rows of one key, each with the key.
 pub fn keyed(alloc: Global, rows: &[(u32, u64)]) -> Result<Vec<(u32, &[(u32, u64)])>, AllocError> {
-    with_keys(LinearGroupByKey::new(rows, |row: &(u32, u64)| row.0)).collect(alloc)
+    LinearGroupByKey::new(rows, |row: &(u32, u64)| row.0)
+        .with_keys()
+        .collect(alloc)
 }
 
 /// The mean amount of the rows of each key, with the key.
 pub fn means(alloc: Global, rows: &[(u32, u64)]) -> Result<Vec<(u32, u64)>, AllocError> {
     let mut means = Vec::new(alloc);
-    for (key, group) in with_keys(LinearGroupByKey::new(rows, |row: &(u32, u64)| row.0)) {
+    for (key, group) in LinearGroupByKey::new(rows, |row: &(u32, u64)| row.0).with_keys() {
         let total = group
             .iter()
             .fold(0u64, |sum, row| sum.saturating_add(row.1));
@@ -22,17 +24,21 @@ pub fn means(alloc: Global, rows: &[(u32, u64)]) -> Result<Vec<(u32, u64)>, Allo
     Ok(means)
 }
 
-/// The runs of letters of a text, from the back.
-pub fn words_back(alloc: Global, text: &str) -> Result<Vec<&str>, AllocError> {
-    with_keys(LinearStrGroupByKey::new(text, |c| c.is_ascii_alphabetic()))
-        .rev()
-        .filter_map(|(is_word, run)| if is_word { Some(run) } else { None })
+/// An index of rows that ascend by their keys: each key, the place of its first row, and how many rows it has.
+pub fn index_of(
+    alloc: Global,
+    rows: &[(u32, u64)],
+) -> Result<Vec<(u32, usize, usize)>, AllocError> {
+    LinearGroupByKey::new(rows, |row: &(u32, u64)| row.0)
+        .with_offsets()
+        .with_keys()
+        .map(|(key, (place, group))| (key, place, group.len()))
         .collect(alloc)
 }
 
 /// Writes the hour of each event behind its second: one division a group and a question, and none a row.
 pub fn write_hours(events: &mut [(u32, u32)]) {
-    for (hour, group) in with_keys(LinearGroupByKeyMut::new(events, |event| event.0 / 3600)) {
+    for (hour, group) in LinearGroupByKeyMut::new(events, |event| event.0 / 3600).with_keys() {
         for event in group {
             event.1 = hour;
         }
@@ -44,7 +50,11 @@ pub fn mask_numbers(text: &mut [u8; 12]) {
     if std::str::from_utf8(text).is_err() {
         return;
     }
-    for (is_number, group) in with_keys(LinearStrGroupByKeyMut::new(text, |c| c.is_ascii_digit())) {
+    for (is_number, group) in LinearStrGroupByKeyMut::new(
+        text,
+        |c| c.is_ascii_digit(),
+    ).with_keys()
+    {
         if is_number {
             group.fill(b'#');
         }
@@ -61,7 +71,7 @@ pub fn print_all(rt: &(impl Print + AllocGlobal)) -> io::Result<()> {
         "keys: {:?} {:?} {:?} {events:?} {:?}",
         keyed(rt.alloc(), &[(7, 1), (7, 2), (8, 3), (7, 4)])?,
         means(rt.alloc(), &[(7, 1), (7, 3), (8, 5)])?,
-        words_back(rt.alloc(), "to be, or é not")?,
+        index_of(rt.alloc(), &[(7, 1), (7, 2), (8, 3)])?,
         std::str::from_utf8(&text)
     )
 }

@@ -6,6 +6,7 @@ mod bytes;
 mod closures;
 mod first_page;
 mod inputs;
+mod joins;
 mod keys;
 mod loops;
 mod numbers;
@@ -26,6 +27,7 @@ fn main(rt: HostRuntime) -> io::Result<()> {
     numbers::print_all(&rt)?;
     offsets::print_all(&rt)?;
     keys::print_all(&rt)?;
+    joins::print_all(&rt)?;
     searches::print_all(&rt)?;
     closures::print_all(&rt)?;
     rest::print_all(&rt)?;

@@ -13,7 +13,7 @@ use slice_group_by::laws::{
     chunk_by_agrees, descending_is_grouped, pieces_are_filters, pieces_begin_as_dedup,
     pieces_by_key, sees_keys, sees_pieces, sorted_by_key_ascends,
 };
-use slice_group_by::{BinaryGroup, LinearGroup, LinearGroupByKey, with_keys};
+use slice_group_by::{BinaryGroup, GroupAdapters, LinearGroup, LinearGroupByKey};
 use std::alloc::{AllocError, Global};
 
 /// How many elements `dedup` would leave of the slice.
@@ -56,7 +56,7 @@ pub fn rows_by_key(alloc: Global, rows: &[Entry]) -> Result<Vec<(u32, usize)>, A
         ≡ map (λ k. (k, length (filter (λ row. nat_eq (key row) k) rows.now))) (dedup nat_eq (map key rows.now))) }
 {
     pieces_are_filters::<Entry, u32>();
-    let groups = with_keys(LinearGroupByKey::new(rows, |e: &Entry| e.0));
+    let groups = LinearGroupByKey::new(rows, |e: &Entry| e.0).with_keys();
     sees_keys(&groups);
     groups.map(|(key, group)| (key, group.len())).collect(alloc)
 }

@@ -5,7 +5,7 @@ ghost use Rattle.slice_group_by.specs.Offsets.{with_offsets};
 ghost use Rattle.slice_group_by.specs.Split.{split};
 
 use slice_group_by::laws::{calls_take_pieces, groups_stand, pieces_add_up, sees_pieces};
-use slice_group_by::{LinearGroup, with_offsets};
+use slice_group_by::{GroupAdapters, LinearGroup};
 
 /// How many groups there are, one call after another from the back.
 pub fn count_by_calls(xs: &[u32]) -> usize
@@ -51,7 +51,7 @@ pub fn longest_with_row<T: PartialEq>(slice: &[T]) -> Option<(usize, &[T])>
         (λ found. Contains groups (found.0, found.1.now)
         × AllByRecursion (λ other. length other.1 ≤ length found.1.now) groups) }
 {
-    let groups = with_offsets(LinearGroup::new(slice));
+    let groups = LinearGroup::new(slice).with_offsets();
     sees_pieces(&groups);
     groups_stand(&groups);
     groups.max_by_key(|found| found.1.len())

@@ -7,16 +7,17 @@ ghost use Rattle.slice_group_by.specs.Split.{split};
 
 use slice_group_by::laws::{groups_stand, sees_pieces};
 use slice_group_by::{
-    AsciiClass, AsciiClasses, ByteClasses, LinearClassGroup, count_classes, with_offsets,
+    AsciiClass, AsciiClasses, GroupAdapters, GroupByClass, LinearClassGroup, count_classes,
 };
 use std::alloc::{AllocError, Global};
 use std::io;
 
 /// Prints each word, number and mark with its span: `word 0..4`, `number 5..9` and `mark 9..10` of `port 8080;`.
 pub fn print_tokens(rt: &impl Print, text: &[u8]) -> io::Result<()> {
-    for (start, token) in with_offsets(LinearClassGroup::<AsciiClasses>::new(text)) {
+    let tokens = text.linear_class_group::<AsciiClasses>();
+    for (class, (start, token)) in tokens.with_offsets().with_keys() {
         let end = start + token.len();
-        match AsciiClasses::class(token[0]) {
+        match class {
             AsciiClass::Letter => println!(rt; "word {start}..{end}")?,
             AsciiClass::Digit => println!(rt; "number {start}..{end}")?,
             AsciiClass::Other => println!(rt; "mark {start}..{end}")?,
@@ -31,7 +32,7 @@ pub fn tokens(alloc: Global, text: &[u8]) -> Result<Vec<(usize, &[u8])>, AllocEr
     ensures { IfOk result
         (λ tokens. map (λ token. (token.0, token.1.now)) tokens.items ≡ with_offsets 0 (split same_class text.now)) }
 {
-    let tokens = with_offsets(LinearClassGroup::<AsciiClasses>::new(text));
+    let tokens = LinearClassGroup::<AsciiClasses>::new(text).with_offsets();
     sees_pieces(&tokens);
     groups_stand(&tokens);
     tokens.collect(alloc)

@@ -3,6 +3,7 @@ pub mod Walk
 pub mod Ranks
 pub mod Plans
 pub mod Join
+pub mod Outer
 pub mod Counts
 pub mod Chunks
 pub mod NumberGives

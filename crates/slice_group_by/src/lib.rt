@@ -38,12 +38,13 @@ pub mod laws;
 pub mod loans;
 mod traits;
 
-pub use adapters::{dedup_with_count, with_keys, with_offsets};
+pub use adapters::{GroupAdapters, dedup_with_count};
 pub use boundaries::{
     exponential_boundary, exponential_boundary_by, exponential_boundary_by_key, linear_boundary,
     linear_boundary_by, linear_boundary_by_key,
 };
 pub use join::MergeJoin;
+pub use join::outer::OuterJoin;
 pub use laws::plans::{Plan, refute};
 pub use laws::queue::{End, GroupQueue, walk};
 pub use laws::ranks::rank_groups;
@@ -81,7 +82,7 @@ pub use sgb_search::search::{
 };
 pub use sgb_stream_group::parts::Parts;
 pub use sgb_stream_group::stream::StreamGroups;
-pub use traits::group_by::GroupBy;
+pub use traits::group_by::{GroupBy, GroupByClass};
 pub use traits::group_by_mut::GroupByMut;
 pub use traits::holders::{AsMutSlice, Elements};
 pub use traits::str_group_by::{StrGroupBy, StrGroupByMut};

@@ -92,6 +92,10 @@ pub fn of_numbers<T: Lanes>(xs: &[T], mut ys: &mut [T]) {
     let _ = ys.linear_number_group_mut();
 }
 
+pub fn classes_by_method<C: ByteClasses>(bytes: &[u8]) {
+    let _ = bytes.linear_class_group::<C>();
+}
+
 pub fn of_characters<P: FnMut(char, char) -> bool>(text: &str, mut bytes: &mut [u8], p: P, q: P)
     requires utf8 { IsUtf8 bytes.old }
     requires p { P.IsAlwaysCallable p }

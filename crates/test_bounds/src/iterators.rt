@@ -65,7 +65,7 @@ pub fn of_texts<P: FnMut(char, char) -> bool, F: FnMut(char) -> K, K: PartialEq 
 }
 
 pub fn groups_with_keys<Q: Keyed + Drop>(groups: Q) -> WithKeys<Q> {
-    with_keys(groups)
+    groups.with_keys()
 }
 
 pub fn counted_groups<'a, T: 'a, Q: RemainderLen + SliceQueue<'a, T>>(
@@ -75,7 +75,11 @@ pub fn counted_groups<'a, T: 'a, Q: RemainderLen + SliceQueue<'a, T>>(
 }
 
 pub fn groups_with_offsets<Q: Offsets + Drop>(groups: Q) -> WithOffsets<Q> {
-    with_offsets(groups)
+    groups.with_offsets()
+}
+
+pub fn groups_with_both<Q: Offsets + Keyed + Drop>(groups: Q) -> WithKeys<WithOffsets<Q>> {
+    groups.with_offsets().with_keys()
 }
 
 pub fn calls<Q: GroupQueue>(queue: &mut Q, ends: &[End], out: &mut [Option<Q::Item>])
@@ -91,10 +95,12 @@ fn gives<I: FusedIterator<Item = G>, G>(_join: &I) {}
 pub fn joins<'a, A, B, FA: Fn(&A) -> K, FB: Fn(&B) -> K, F: FnMut(&A, &B) -> Ordering, K>(
     by_key: &MergeJoin<'a, A, B, FA, FB, K>,
     by: &MergeJoinBy<'a, A, B, F>,
+    outer: &OuterJoin<'a, A, B, FA, FB, K>,
 )
 where
     K: Ord + Drop,
 {
+    gives::<_, (K, &'a [A], &'a [B])>(outer);
     gives::<_, (&'a [A], &'a [B])>(by_key);
     gives::<_, EitherOrBoth<&'a [A], &'a [B]>>(by);
 }

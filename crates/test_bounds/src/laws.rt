@@ -3,7 +3,7 @@ use slice_group_by::adapters::{DedupWithCount, Keyed, Offsets, WithKeys, WithOff
 use slice_group_by::laws::*;
 use slice_group_by::{
     BinaryGroupBy, ExponentialGroupByKeyMut, LinearGroupBy, LinearGroupByKey,
-    LinearStrGroupByKeyMut, MergeJoin, MergeJoinBy, Parts,
+    LinearStrGroupByKeyMut, MergeJoin, MergeJoinBy, OuterJoin, Parts,
 };
 use std::cmp::Ordering;
 use std::iter::Map;
@@ -158,6 +158,12 @@ pub fn of_joins<A, B, FA: Fn(&A) -> K, FB: Fn(&B) -> K, K: Ord + Drop>(
 ) {
     sees_pairs(join);
     joins_may_go_on(join);
+}
+
+pub fn of_outer_joins<A, B, FA: Fn(&A) -> K, FB: Fn(&B) -> K, K: Ord + Drop>(
+    join: &OuterJoin<'_, A, B, FA, FB, K>,
+) {
+    sees_keys_of_both(join);
 }
 
 pub fn of_merges<A, B, K: Ord, F: FnMut(&A, &B) -> Ordering, G: FnMut(&K, &K) -> Ordering>(

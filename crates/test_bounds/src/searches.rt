@@ -53,7 +53,7 @@ pub fn joined_by_key<A, B, FA: Fn(&A) -> K, FB: Fn(&B) -> K, K: Ord + Drop>(
     requires left { IsCallableOn FA.FnMut left.0.now left.1 }
     requires right { IsCallableOn FB.FnMut right.0.now right.1 }
 {
-    let _ = MergeJoin::new(left.0, left.1, right.0, right.1);
+    let _ = MergeJoin::new(left.0, left.1, right.0, right.1).outer();
 }
 
 pub fn joined_by<A, B, F: FnMut(&A, &B) -> Ordering>(left: &[A], right: &[B], compare: F)

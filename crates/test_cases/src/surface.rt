@@ -3,9 +3,9 @@ ghost use Rattle.std.specs.Vec.{with_items};
 
 use sgb_search::judge::EqualityJudge;
 use slice_group_by::{
-    AsMutSlice, BinaryGroupByKeyMut, Elements, ExponentialGroupByKey, GroupBy, GroupByMut,
-    LinearGroup, LinearGroupMut, LinearStrGroup, LinearStrGroupMut, StrGroupBy, StrGroupByMut,
-    with_offsets,
+    AsMutSlice, BinaryGroupByKeyMut, Elements, ExponentialGroupByKey, GroupAdapters, GroupBy,
+    GroupByMut, LinearGroup, LinearGroupMut, LinearStrGroup, LinearStrGroupMut, StrGroupBy,
+    StrGroupByMut,
 };
 use std::cell::Cell;
 use std::convert::AsSlice;
@@ -89,9 +89,9 @@ fn texts_where_they_lie(rt: HostRuntime) -> Result<(), Fail> {
 
 #[test]
 fn groups_with_offsets(rt: HostRuntime) {
-    let mut groups = with_offsets(LinearGroup::new(&[1, 1, 1, 3, 3, 2, 2, 2]));
+    let mut groups = LinearGroup::new(&[1, 1, 1, 3, 3, 2, 2, 2]).with_offsets();
     assert!(rt; groups.next_back() == Some((5, [2, 2, 2].as_slice())));
-    let mut texts = with_offsets(LinearStrGroup::new("éé-"));
+    let mut texts = LinearStrGroup::new("éé-").with_offsets();
     assert!(rt; texts.next() == Some((0, "éé")) && texts.next() == Some((4, "-")));
 }
 

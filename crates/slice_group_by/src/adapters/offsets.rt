@@ -10,6 +10,7 @@ ghost use Rattle.slice_group_by.specs.declared.adapters.offsets.WithOffsets.{Wit
 ghost use Rattle.sgb_search.specs.declared.end.End.TheVariants.{Front, Back};
 ghost use Rattle.slice_group_by.specs.Offsets.{TakesUnits, GivesWithOffset, groups_under, offsets_to_come, with_offsets};
 
+use crate::adapters::keyed::Keyed;
 use crate::laws::queue::{GroupQueue, RemainderLen};
 use sgb_groups::groups::SliceGroups;
 use sgb_groups::way::Way;
@@ -44,22 +45,7 @@ pub trait Offsets: RemainderLen {
 /// Groups, each with the offset at which it begins in the input: what `with_offsets` gives.
 #[derive(Drop)]
 pub struct WithOffsets<Q> {
-    groups: Q,
-}
-
-/// The groups that are still to come, each with the offset at which it begins in the input: its first element of a slice, its
-/// first byte of a text. That the offset and the length of the group add up without overflow is known in each turn of a loop.
-///
-/// ```
-/// for (offset, group) in with_offsets(LinearGroup::new(&[1, 1, 1, 3, 3])) {
-///     // (0, [1, 1, 1]), and then (3, [3, 3])
-/// }
-/// ```
-#[inline]
-pub fn with_offsets<Q: Offsets>(groups: Q) -> WithOffsets<Q>
-    ensures { groups_under result ≡ groups }
-{
-    WithOffsets { groups }
+    pub(crate) groups: Q,
 }
 
 /// Where the groups stand that calls at one end give: each in the input at its offset, whatever the judge answers. From the front
@@ -223,4 +209,56 @@ impl<Q: Offsets + Drop> GroupQueue for WithOffsets<Q> {
 
     ghost asks_due = { λ e s item t h. asks_seen Q.asked Q.due Q.exact (λ u. u.groups) s t
         (Q.GroupQueue.asks_due e s.groups (option_map (λ x. x.1) item) t.groups h.0) };
+}
+
+impl<Q: Offsets + Drop> RemainderLen for WithOffsets<Q> {
+    type Unit = Q::Unit;
+
+    ghost left = { λ s. Q.RemainderLen.left s.groups };
+
+    #[inline]
+    fn remainder_len(&self) -> usize {
+        self.groups.remainder_len()
+    }
+
+    ghost fewer = { λ e s item t h. Q.RemainderLen.fewer e s.groups item.1 t.groups h.0 };
+}
+
+impl<Q: Offsets + Keyed + Drop> Keyed for WithOffsets<Q> {
+    type Key = Q::Key;
+
+    ghost use Rattle.std.specs.Prelude.{option_map};
+    ghost use Rattle.sgb_search.specs.Split.{TakesPiece};
+    ghost use Rattle.sgb_search.proofs.Questions.Calls.{read_at_once};
+
+    ghost key_callable = { λ s. Q.Keyed.key_callable s.groups };
+
+    ghost is_keyed = { λ s. Q.Keyed.is_keyed s.groups };
+
+    ghost has_key = { λ item. Q.Keyed.has_key item.1 };
+
+    ghost same_key = { Q.Keyed.same_key };
+
+    ghost calls_key = { λ s item k t. Q.Keyed.calls_key s.groups item.1 k t.groups };
+
+    #[inline]
+    fn first_key(&mut self, item: &(usize, Q::Item)) -> Q::Key {
+        self.groups.first_key(&item.1)
+    }
+
+    ghost may_pop = { λ s callable. Q.Keyed.may_pop s.groups callable };
+
+    ghost pop_has_key = { λ e s item t h. Q.Keyed.pop_has_key e s.groups item.1 t.groups h.0 };
+
+    ghost pop_callable = { λ e s item t h. Q.Keyed.pop_callable e s.groups (option_map (λ x. x.1) item) t.groups h.0 };
+
+    ghost call_leaves = { λ s item k t h. Q.Keyed.call_leaves s.groups item.1 k t.groups h };
+
+    ghost pop_keyed = { λ e s item t key h by. read_at_once
+        (λ o. TakesPiece (λ x y. Q.Keyed.same_key (key x) (key y)) e (Q.GroupQueue.remainder s.groups) o
+        (Q.GroupQueue.remainder t.groups) × Q.Keyed.is_keyed t.groups key)
+        Q.GroupQueue.shows (λ x. x.1) item
+        (Q.Keyed.pop_keyed e s.groups (option_map (λ x. x.1) item) t.groups key h.0 by) };
+
+    ghost call_keyed = { λ s item k t key h by. Q.Keyed.call_keyed s.groups item.1 k t.groups key h by };
 }

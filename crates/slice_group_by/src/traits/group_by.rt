@@ -9,6 +9,8 @@ ghost use Rattle.sgb_search.specs.Linear.{IsSettled};
 ghost use Rattle.sgb_search.specs.Searching.{IsSettledApart};
 ghost use Rattle.sgb_groups.specs.Gives.{groups_of, place_of};
 ghost use Rattle.sgb_masks.specs.Gives as numbers;
+ghost use Rattle.sgb_masks.specs.Classes.{by_class};
+ghost use Rattle.std.specs.Ordering.{on};
 
 use crate::traits::holders::Elements;
 use sgb_binary_group::binary_group::{BinaryGroup, BinaryGroupBy, BinaryGroupByKey};
@@ -16,7 +18,9 @@ use sgb_exponential_group::exponential_group::{
     ExponentialGroup, ExponentialGroupBy, ExponentialGroupByKey,
 };
 use sgb_linear_group::linear_group::{LinearGroup, LinearGroupBy, LinearGroupByKey};
+use sgb_masks::by_class::LinearClassGroup;
 use sgb_masks::by_number::LinearNumberGroup;
+use sgb_masks::byte_classes::ByteClasses;
 use sgb_numbers::lanes::Lanes;
 
 /// Groups of neighbouring elements, for reading.
@@ -211,3 +215,25 @@ pub trait GroupBy<T>: Elements<T> {
 }
 
 impl<T, S: Elements<T>> GroupBy<T> for S {}
+
+/// Groups of bytes by class, for reading.
+///
+/// ```
+/// let mut tokens = b"port 8080".linear_class_group::<AsciiClasses>();
+/// tokens.next(); // Some(b"port")
+/// ```
+pub trait GroupByClass: Elements<u8> {
+    /// Groups of bytes of one class, found by vectors: those of `linear_group_by_key` by the class. They ask no closure. See
+    /// `LinearClassGroup`.
+    #[inline]
+    fn linear_class_group<C: ByteClasses>(&self) -> LinearClassGroup<'_, C>
+        ensures remainder { (numbers.groups_of result).remainder ≡ Self.items self.now }
+        ensures place { numbers.place_of result ≡ at_start (Self.items self.now) }
+        ensures callable { IsCallableBy AreNeighbours (by_class C.class_of C.Class.eq) (numbers.groups_of result) }
+        ensures settled { IsSettled (by_class C.class_of C.Class.eq) (numbers.groups_of result) (on C.class_of C.Class.eq) }
+    {
+        LinearClassGroup::<C>::new(self.as_slice())
+    }
+}
+
+impl<S: Elements<u8>> GroupByClass for S {}

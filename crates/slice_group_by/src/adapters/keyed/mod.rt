@@ -70,28 +70,7 @@ pub trait Keyed: RemainderLen {
 /// Groups by a key, each with its key: what `with_keys` gives.
 #[derive(Drop)]
 pub struct WithKeys<Q> {
-    groups: Q,
-}
-
-/// The groups that are still to come, each with the key of its first element.
-///
-/// Each call asks what a call on the groups asks, and then calls the key function once more, on the first element of
-/// the group. The key function must be callable on every element, in whatever state earlier calls left it; a closure
-/// whose body may run on all elements needs no proof.
-///
-/// After writing, nothing is known about what the input holds. To learn it, keep the groups themselves: ask for the key by
-/// `key_of(&group[0])`, or by `first_key_of(group)` for a text, and then take note of the group.
-///
-/// ```
-/// for (key, group) in with_keys(LinearGroupByKey::new(&[10, 11, 20, 21, 22], |x| *x / 10)) {
-///     // (1, [10, 11]), and then (2, [20, 21, 22])
-/// }
-/// ```
-#[inline]
-pub fn with_keys<Q: Keyed>(groups: Q) -> WithKeys<Q>
-    ensures { groups_within result ≡ groups }
-{
-    WithKeys { groups }
+    pub(crate) groups: Q,
 }
 
 /// What a loop or an adapter sees of groups with keys, if the key function computes a key: the pieces of the split in
