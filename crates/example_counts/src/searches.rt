@@ -1,20 +1,24 @@
 //! Searches: a lower bound, and searches that are lent a function which counts its calls in a variable of the caller's.
-ghost use Rattle.std.specs.Prelude.{◌≡◌, ◌+◌, ◌*◌, ◌≤◌, count_by, map, string_bytes, string_cmp};
+ghost use Rattle.std.specs.Prelude.{◌≡◌, ◌↔◌, ℕ, ◌+◌, ◌*◌, ◌<◌, ◌≤◌, Some, count_by, map, slice_get, string_bytes, string_cmp};
+ghost use Rattle.std.specs.List.{filter};
+ghost use Rattle.std.specs.declared.cmp.Ordering.TheVariants.{Equal};
 ghost use Rattle.std.specs.Cmp.Lexicographic.{slice_cmp};
-ghost use Rattle.std.specs.Ordering.{is_lt, nat_cmp};
-ghost use Rattle.slice_group_by.specs.Search.{FindsIn, IsLessEqualGreater, NeverDescends};
+ghost use Rattle.std.specs.Ordering.{is_eq, is_lt, nat_cmp};
+ghost use Rattle.slice_group_by.specs.Search.{FindsIn, IsLessEqualGreater, NeverDescends, between};
 ghost use Rattle.slice_group_by.specs.Searching.{digits, answer_place};
 ghost use Rattle.example_counts.specs.Keys.{key};
 
 use crate::joins::Entry;
 use slice_group_by::laws::{
-    always_computes, ascending_is_searchable, search_counts, searchable_is_partitioned,
-    sorts_ascend,
+    always_computes, ascending_is_searchable, range_places, search_counts,
+    searchable_is_partitioned, sorts_ascend,
 };
 use slice_group_by::{
-    exponential_partition_point, exponential_search_by, exponential_search_by_key_ref,
-    exponential_search_by_ref,
+    exponential_equal_places_by, exponential_equal_places_by_key, exponential_partition_point,
+    exponential_search_by, exponential_search_by_key_ref, exponential_search_by_ref,
 };
+use std::cmp::Ordering;
+use std::ops::Range;
 
 /// How many elements are less than one that is given, of a slice that ascends.
 pub fn lower_bound<T: Ord>(slice: &[T], sought: &T) -> usize
@@ -26,6 +30,38 @@ pub fn lower_bound<T: Ord>(slice: &[T], sought: &T) -> usize
     let less = |x: &T| x.cmp(sought).is_lt();
     always_computes(&less);
     exponential_partition_point(slice, less)
+}
+
+/// The rows whose keys lie from `low` to `high`, of rows that ascend by them.
+pub fn rows_between(rows: &[Entry], low: u32, high: u32) -> &[Entry]
+    requires { NeverDescends nat_cmp (map key rows.now) }
+    ensures { result.now ≡ filter (λ row. is_eq (between nat_cmp low high (key row))) rows.now }
+{
+    ascending_is_searchable::<Entry, u32>();
+    let compare = |row: &Entry| {
+        if row.0 < low {
+            Ordering::Less
+        } else if row.0 > high {
+            Ordering::Greater
+        } else {
+            Ordering::Equal
+        }
+    };
+    always_computes(&compare);
+    let places = exponential_equal_places_by(rows, compare);
+    &rows[places]
+}
+
+/// Where the rows of a key stand, of rows that ascend by their keys: there, and nowhere else.
+pub fn places_of(rows: &[Entry], sought: u32) -> Range<usize>
+    requires { NeverDescends nat_cmp (map key rows.now) }
+    ensures { (i : ℕ) (row : ℕ × ℕ) → slice_get rows.now i ≡ Some row
+        → ((result.start ≤ i) × (i < result.end)) ↔ (nat_cmp (key row) sought ≡ Equal) }
+{
+    range_places::<Entry>();
+    let key = |row: &Entry| row.0;
+    always_computes(&key);
+    exponential_equal_places_by_key(rows, &sought, key)
 }
 
 /// Where a word stands in words that ascend. The word is a text of its own, and no `String`.

@@ -2,12 +2,12 @@
 --     IsLocalAnswer ord xs r     on any list, where ord x is what the comparator answers of x
 --     FindsIn ord xs r           on a list whose answers are Less, then Equal, then Greater
 --     IsSearch g xs reads f r t  the questions, whatever is answered
-use Rattle.std.specs.Prelude.{◌≡◌, ℕ, List, length, ◌≢◌, Result, Ok, Err, Some, count_by}
+use Rattle.std.specs.Prelude.{◌≡◌, ℕ, List, length, cond, ◌≢◌, Result, Ok, Err, Some, count_by}
 use Rattle.std.specs.List.{AllByRecursion, Contains, slice_get}
 use Rattle.std.specs.List.Sorted.{IsNonDecreasingBy, IsPartitionPoint}
 use Rattle.std.specs.Fn.{Mut, TakesAt, CalledAt}
 use Rattle.std.specs.Borrow.{Bor}
-use Rattle.std.specs.Ordering.{ordering_index, is_lt}
+use Rattle.std.specs.Ordering.{ordering_index, is_lt, is_gt}
 use Rattle.std.specs.declared.cmp.Ordering.{Ordering}
 use Rattle.std.specs.declared.cmp.Ordering.TheVariants.{Less, Equal, Greater}
 use Rattle.sgb_search.specs.Searching.{exponential, IsLowEnd, IsHighEnd, Searches}
@@ -46,6 +46,10 @@ module _ {T : Type 0} (ord : T → Ordering) (xs : List T) where
 -- no neighbouring pair of the list descends
 abbrev pub NeverDescends : {T : Type 0} → (T → T → Ordering) → List T → Type 0
 NeverDescends cmp xs = AllByRecursion (λ q. cmp q.0 q.1 ≢ Greater) (neighbours xs)
+
+-- how a key stands to those from low up to high
+abbrev pub between : {K : Type 0} → (K → K → Ordering) → K → K → K → Ordering
+between cmp low high k = cond (is_lt (cmp k low)) Less (cond (is_gt (cmp k high)) Greater Equal)
 
 -- a function of elements: a comparator, or a key function
 module _ {F T K : Type 0} (g : Mut F (Bor T × Unit {0}) K) (xs : List T) where

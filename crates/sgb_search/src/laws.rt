@@ -1,5 +1,5 @@
 //! Laws of the definitions. Each is a function that does nothing: its contract is the law, and a caller cites it.
-ghost use Rattle.std.specs.Prelude.{cond, ◌≡◌, ℕ, ◌+◌, ◌-◌, ◌^◌, ◌<◌, ◌≤◌, ◌++◌, Bool, List, Some, length, map, nat_lt};
+ghost use Rattle.std.specs.Prelude.{cond, ◌≡◌, ◌↔◌, ℕ, ◌+◌, ◌-◌, ◌^◌, ◌<◌, ◌≤◌, ◌++◌, Bool, List, Some, length, map, nat_lt};
 ghost use Rattle.std.specs.Prelude.{slice_range};
 ghost use Rattle.sgb_search.specs.Calls.{ComputesBy, IsCallableBy};
 ghost use Rattle.std.specs.Fn.{ComputesKey, TakesAt, TakesAtTwo, CalledAt, CalledAtTwo};
@@ -7,14 +7,14 @@ ghost use Rattle.std.specs.List.{Contains, slice_get, count_by, filter};
 ghost use Rattle.std.specs.List.Sorted.{IsPartitionedBy};
 ghost use Rattle.std.specs.Ordering.{flip_args, is_lt, is_le, is_eq, is_gt};
 ghost use Rattle.std.specs.declared.cmp.Ordering.{Ordering};
-ghost use Rattle.std.specs.declared.cmp.Ordering.TheVariants.{Less, Greater};
+ghost use Rattle.std.specs.declared.cmp.Ordering.TheVariants.{Less, Equal, Greater};
 ghost use Rattle.sgb_search.specs.declared.end.End.{End};
 ghost use Rattle.sgb_search.specs.Searching.{digits};
 ghost use Rattle.sgb_search.specs.Ranges.{IsRangeAt};
 ghost use Rattle.sgb_search.specs.Split.{AreApart, neighbours, AreNeighbours, IsGrouped, IsSplit, concat, first, last};
 ghost use Rattle.sgb_search.specs.Split.{without_last, split, refused_pairs};
 ghost use Rattle.sgb_search.specs.Seams.{is_accepted_across, lens_joined, seam};
-ghost use Rattle.sgb_search.specs.Search.{IsCallableOn, ComputesOn, IsLessEqualGreater, NeverDescends};
+ghost use Rattle.sgb_search.specs.Search.{IsCallableOn, ComputesOn, IsLessEqualGreater, NeverDescends, between};
 ghost use Rattle.sgb_search.specs.Linear.{questions};
 ghost use Rattle.sgb_search.specs.Judges.{IsRunOf, by_predicate, predicate_judge, by_key, key_judge};
 ghost use Rattle.sgb_search.specs.Judges.{by_char_predicate, char_predicate_judge, by_char_key, char_key_judge, by_equality};
@@ -203,13 +203,16 @@ pub fn descending_is_grouped<T, K: Ord>()
     ensures by_itself { (xs : List K) → NeverDescends (flip_args K.cmp) xs → IsGrouped K.eq xs }
 {}
 
-/// Of a list that ascends by a key, comparing the keys with any other answers `Less`, then `Equal`, then `Greater`: so a search
-/// for that key finds what is there. So it is with elements that ascend by themselves.
+/// In a list that ascends by a key, comparing the keys with any other answers `Less`, then `Equal`, then `Greater`: a search for that
+/// key finds what is there (`by_key`). The same holds for elements that ascend by themselves (`by_itself`), and for a comparator that
+/// answers `Equal` from the key `low` to `high` (`between`).
 pub fn ascending_is_searchable<T, K: Ord>()
     ensures by_key { (key : T → K) (sought : K) (xs : List T) → NeverDescends K.cmp (map key xs)
         → IsLessEqualGreater (λ x. K.cmp (key x) sought) xs }
     ensures by_itself { (sought : K) (xs : List K) → NeverDescends K.cmp xs
         → IsLessEqualGreater (λ x. K.cmp x sought) xs }
+    ensures between { (key : T → K) (low high : K) (xs : List T) → NeverDescends K.cmp (map key xs)
+        → IsLessEqualGreater (λ x. between K.cmp low high (key x)) xs }
 {}
 
 /// In a list whose answers are `Less`, then `Equal`, then `Greater` (`ascending_is_searchable`), the elements that are `Less` come
@@ -241,7 +244,8 @@ pub fn digits_is_least()
 {}
 
 /// Where the equal elements stand, in a list whose answers are `Less`, then `Equal`, then `Greater`: behind as many as are `Less`
-/// (`start`), and up to as many as are not `Greater` (`end`). The range of these places is what a filter keeps (`range`).
+/// (`start`), and up to as many as are not `Greater` (`end`). The range of these places is what a filter keeps (`range`), and an
+/// element is equal exactly if it stands there (`exactly`).
 pub fn range_places<T>()
     ensures start { (ord : T → Ordering) (xs : List T) (start end : ℕ) → IsRangeAt xs start end ord
         → start ≡ count_by (λ x. is_lt (ord x)) xs }
@@ -251,4 +255,7 @@ pub fn range_places<T>()
         → xs ≡ filter (λ x. is_lt (ord x)) xs ++ (filter (λ x. is_eq (ord x)) xs ++ filter (λ x. is_gt (ord x)) xs) }
     ensures range { (ord : T → Ordering) (xs : List T) → IsLessEqualGreater ord xs
         → slice_range xs (count_by (λ x. is_lt (ord x)) xs) (count_by (λ x. is_le (ord x)) xs) ≡ filter (λ x. is_eq (ord x)) xs }
+    ensures exactly { (ord : T → Ordering) (xs : List T) (start end : ℕ) → start ≤ end → end ≤ length xs
+        → IsRangeAt xs start end ord → (i : ℕ) (x : T) → slice_get xs i ≡ Some x
+        → ((start ≤ i) × (i < end)) ↔ (ord x ≡ Equal) }
 {}

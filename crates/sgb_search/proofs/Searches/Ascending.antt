@@ -1,14 +1,14 @@
 -- On a list that ascends the answers about one element are Less, then Equal, then Greater.
-use Rattle.std.specs.Prelude.{◌≡◌, ◌≢◌, ℕ, ◌≤◌, List, [], ◌∷◌, map}
+use Rattle.std.specs.Prelude.{◌≡◌, ◌≢◌, ℕ, ◌≤◌, List, [], ◌∷◌, cond, map}
 use Rattle.std.proofs.Common.{zero, suc, refl, sym, ap, ◌∙◌, arith}
 use Rattle.std.specs.List.{AllByRecursion}
 use Rattle.std.specs.List.Sorted.{IsNonDecreasingBy}
 use Rattle.std.specs.Cmp.{IsTotalOrder, alike_right}
-use Rattle.std.specs.Ordering.{ordering_index}
+use Rattle.std.specs.Ordering.{ordering_index, is_lt, is_gt}
 use Rattle.std.specs.declared.cmp.Ordering.{Ordering}
 use Rattle.std.specs.declared.cmp.Ordering.TheVariants.{Less, Equal, Greater}
 use Rattle.sgb_search.specs.Split.{neighbours}
-use Rattle.sgb_search.specs.Search.{NeverDescends, IsLessEqualGreater}
+use Rattle.sgb_search.specs.Search.{NeverDescends, IsLessEqualGreater, between}
 use Rattle.sgb_search.proofs.Lists.AllByRecursion.{all_each}
 
 -- what does not fall from neighbour to neighbour never falls
@@ -50,3 +50,41 @@ module _ {K : Type 0} (cmp : K → K → Ordering) (o : IsTotalOrder cmp) (b : K
 
   pub ascends_itself : (xs : List K) → NeverDescends cmp xs → IsLessEqualGreater (λ x. cmp x b) xs
   ascends_itself xs h = rises (λ x. ordering_index (cmp x b)) xs (all_each _ _ (λ q. step q.0 q.1) (neighbours xs) h)
+
+-- and so are the answers about the keys between two others
+module _ {K : Type 0} (cmp : K → K → Ordering) (o : IsTotalOrder cmp) (low high : K) where
+  second : (r s : Ordering) → ordering_index r ≤ ordering_index s
+      → ordering_index (cond (is_gt r) Greater Equal) ≤ ordering_index (cond (is_gt s) Greater Equal)
+  second Less Less h = omega arith
+  second Less Equal h = omega arith
+  second Less Greater h = omega arith
+  second Equal Less h = omega arith
+  second Equal Equal h = omega arith
+  second Equal Greater h = omega arith
+  second Greater Less h = absurd (omega (arith, h))
+  second Greater Equal h = absurd (omega (arith, h))
+  second Greater Greater h = omega arith
+
+  both : (r s t u : Ordering) → ordering_index r ≤ ordering_index t → ordering_index s ≤ ordering_index u
+      → ordering_index (cond (is_lt r) Less (cond (is_gt s) Greater Equal)) ≤ ordering_index (cond (is_lt t) Less (cond (is_gt u) Greater Equal))
+  both Less s t u h k = omega arith
+  both Equal s Less u h k = absurd (omega (arith, h))
+  both Equal s Equal u h k = second s u k
+  both Equal s Greater u h k = second s u k
+  both Greater s Less u h k = absurd (omega (arith, h))
+  both Greater s Equal u h k = absurd (omega (arith, h))
+  both Greater s Greater u h k = second s u k
+
+  pub ascends_between : {T : Type 0} (key : T → K) (xs : List T) → NeverDescends cmp (map key xs)
+      → IsLessEqualGreater (λ x. between cmp low high (key x)) xs
+  ascends_between key xs h = rises (λ x. ordering_index (between cmp low high (key x))) xs (keys xs h)
+    where
+      keys : (xs : _) → NeverDescends cmp (map key xs)
+          → AllByRecursion (λ q. ordering_index (between cmp low high (key q.0)) ≤ ordering_index (between cmp low high (key q.1))) (neighbours xs)
+      keys [] h = tt
+      keys (x ∷ []) h = tt
+      keys (x ∷ y ∷ ys) h = (
+        both (cmp (key x) low) (cmp (key x) high) (cmp (key y) low) (cmp (key y) high) (step cmp o low (key x) (key y) h.0)
+            (step cmp o high (key x) (key y) h.0),
+        keys (y ∷ ys) h.1,
+      )

@@ -1,6 +1,6 @@
 -- Where the elements stand that are Equal, in a list whose answers are Less, then Equal, then Greater.
-use Rattle.std.specs.Prelude.{cond, ◌≡◌, ℕ, ◌+◌, ◌-◌, ◌≤◌, false, List, [], ◌∷◌, ◌++◌, length, slice_range, drop}
-use Rattle.std.proofs.Common.{suc, refl, sym, ap, ◌∙◌, subst, arith}
+use Rattle.std.specs.Prelude.{cond, ◌≡◌, ◌↔◌, ◌⊎◌, ℕ, ◌+◌, ◌-◌, ◌<◌, ◌≤◌, false, List, [], ◌∷◌, ◌++◌, length, slice_get, slice_range, drop, Some}
+use Rattle.std.proofs.Common.{zero, suc, inl, inr, refl, sym, ap, ◌∙◌, subst, arith}
 use Rattle.std.specs.List.{Contains, count_by, filter}
 use Rattle.std.specs.Ordering.{ordering_index, is_lt, is_le, is_eq, is_gt}
 use Rattle.std.specs.declared.cmp.Ordering.{Ordering}
@@ -11,7 +11,10 @@ use Rattle.std.proofs.lemmas.List.Sorted.{IsNonDecreasingBy-drop}
 use Rattle.std.proofs.lemmas.List.Sums.{sum_by-cons, length-filter}
 use Rattle.sgb_search.specs.Search.{IsLessEqualGreater}
 use Rattle.sgb_search.specs.Ranges.{IsRangeAt}
+use Rattle.sgb_search.proofs.Lists.AllByRecursion.{all_contains}
+use Rattle.sgb_search.proofs.Lists.Contained.{contains_tail}
 use Rattle.sgb_search.proofs.Lists.Filters.{keeps_none}
+use Rattle.sgb_search.proofs.Searches.SearchRuns.{contains_at}
 use Rattle.sgb_search.proofs.Searches.Partitions.{range_filters, range_less}
 
 not_less : (o : Ordering) → 1 ≤ ordering_index o → is_lt o ≡ false
@@ -34,6 +37,18 @@ middle : {T : Type 0} (a b c : List T) → slice_range (a ++ (b ++ c)) (length a
 middle a b c =
     let len : length a + length b - length a ≡ length b = omega arith in
     rw (len, drop-append_seam a (b ++ c)) (take-append_seam b c)
+
+-- an element of two lists stands in the first, or in the second
+at_part : {T : Type 0} (xs ys : List T) (i : ℕ) (x : T) → slice_get (xs ++ ys) i ≡ Some x
+    → ((i < length xs) × Contains xs x) ⊎ ((k : ℕ) × (i ≡ length xs + k) × (slice_get ys k ≡ Some x))
+at_part [] ys i x e = inr (i, omega arith, e)
+at_part (z ∷ xs) ys zero x e = inl (omega arith, (0, omega arith, cc e))
+at_part (z ∷ xs) ys (suc i) x e = by (at_part xs ys i x e)
+  where
+    by : ((i < length xs) × Contains xs x) ⊎ ((k : ℕ) × (i ≡ length xs + k) × (slice_get ys k ≡ Some x))
+        → ((suc i < length (z ∷ xs)) × Contains (z ∷ xs) x) ⊎ ((k : ℕ) × (suc i ≡ length (z ∷ xs) + k) × (slice_get ys k ≡ Some x))
+    by (inl (l, c)) = inl (omega (arith, l), contains_tail z xs x c)
+    by (inr (k, l, f)) = inr (k, omega (arith, l), f)
 
 module _ {T : Type 0} (ord : T → Ordering) where
   abbrev less : List T → List T
@@ -110,3 +125,30 @@ module _ {T : Type 0} (ord : T → Ordering) where
       where
         length_part : length (slice_range xs start end) ≡ end - start
         length_part = length-take-le (end - start) (drop start xs) (omega (arith, within, length-drop start xs))
+
+    -- an element is equal exactly if it stands in the range
+    pub exactly : start ≤ end → end ≤ length xs → IsRangeAt xs start end ord → (i : ℕ) (x : T) → slice_get xs i ≡ Some x
+        → ((start ≤ i) × (i < end)) ↔ (ord x ≡ Equal)
+    exactly order within r i x at = by (at_part r.0.before (equals ++ r.0.after) i x (rw r.0.whole at at))
+      where
+        equals : List T
+        equals = slice_range xs start end
+
+        len : length equals ≡ end - start
+        len = length-take-le (end - start) (drop start xs) (omega (arith, within, length-drop start xs))
+
+        in_rest : (k : ℕ) → i ≡ start + k → ((k < length equals) × Contains equals x)
+            ⊎ ((j : ℕ) × (k ≡ length equals + j) × (slice_get r.0.after j ≡ Some x)) → ((start ≤ i) × (i < end)) ↔ (ord x ≡ Equal)
+        in_rest k e (inl (l, c)) =
+            (λ p. all_contains _ equals x r.0.equal c, λ q. (omega (arith, e), omega (arith, e, l, len, order)))
+        in_rest k e (inr (j, f, g)) =
+            let above : ord x ≡ Greater = all_contains _ r.0.after x r.0.greater (contains_at r.0.after j x g) in
+            (λ p. absurd (omega (arith, p.1, e, f, len, order)), λ q. absurd (cc (sym above ∙ q)))
+
+        by : ((i < length r.0.before) × Contains r.0.before x)
+            ⊎ ((k : ℕ) × (i ≡ length r.0.before + k) × (slice_get (equals ++ r.0.after) k ≡ Some x))
+            → ((start ≤ i) × (i < end)) ↔ (ord x ≡ Equal)
+        by (inl (l, c)) =
+            let below : ord x ≡ Less = all_contains _ r.0.before x r.0.less c in
+            (λ p. absurd (omega (arith, p.0, l, r.1)), λ q. absurd (cc (sym below ∙ q)))
+        by (inr (k, e, f)) = in_rest k (omega (arith, e, r.1)) (at_part equals r.0.after k x f)
