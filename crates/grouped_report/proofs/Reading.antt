@@ -1,19 +1,22 @@
 -- What sums say of the rows so far.
-use Rattle.std.proofs.Common.{ℕ, ◌+◌, List, [], ◌∷◌, ◌++◌, Bool, cond, nat_eq, sum_by}
+use Rattle.std.proofs.Common.{◌≡◌, ℕ, ◌+◌, ◌<◌, List, [], ◌∷◌, ◌++◌, Bool, true, false, cond, nat_eq, sum_by, length, get_or, set, take}
 use Rattle.std.proofs.Common.{flat_map, Option, None, Some, IfSome, refl, sym, ap, ◌∙◌, arith}
+use Rattle.std.specs.Cmp.Lexicographic.{pointwise, slice_cmp, same_text, texts_ties}
+use Rattle.std.specs.Ordering.{nat_cmp, is_eq}
+use Rattle.std.specs.declared.cmp.Ordering.TheVariants.{Equal}
 use Rattle.std.specs.Io.KnownBytes.{Appends, Keeps}
-use Rattle.std.proofs.lemmas.List.Sums.{sum_by-append}
+use Rattle.std.proofs.lemmas.List.{length-take, get_or-take}
+use Rattle.std.proofs.lemmas.List.Sums.{sum_by-append, sum_by_push, sum_by-set, get_or-le-sum_by}
 use Rattle.program_parts.proofs.Appended.{appends_kept}
-use Rattle.grouped_report.specs.declared.entry.Entry.{Entry}
-use Rattle.grouped_report.specs.Departments.{amount, IsReport, SaysTheSame}
+use Rattle.grouped_report.specs.Departments.{Row, amount, IsReport, SaysTheSame}
 use Rattle.grouped_report.specs.Report.{sum_line, total_line}
 use Rattle.grouped_report.specs.Runs.{AreRows, Reports}
 
--- entries say what they say themselves, and what others do that say the same
-pub same_self : (xs : List Entry) → SaysTheSame xs xs
+-- rows say what they say themselves, and what others do that say the same
+pub same_self : (xs : List Row) → SaysTheSame xs xs
 same_self xs = record { known = λ d. refl; amounts = λ d. refl; total = refl }
 
-pub same_then : (xs ys zs : List Entry) → SaysTheSame xs ys → SaysTheSame ys zs → SaysTheSame xs zs
+pub same_then : (xs ys zs : List Row) → SaysTheSame xs ys → SaysTheSame ys zs → SaysTheSame xs zs
 same_then xs ys zs p q = record {
   known = λ d. q.known d ∙ p.known d;
   amounts = λ d. q.amounts d ∙ p.amounts d;
@@ -21,25 +24,65 @@ same_then xs ys zs p q = record {
 }
 
 -- with one row more
-pub same_more : (xs ys : List Entry) (row : Entry) → SaysTheSame xs ys → SaysTheSame (xs ++ row ∷ []) (ys ++ row ∷ [])
+pub same_more : (xs ys : List Row) (row : Row) → SaysTheSame xs ys → SaysTheSame (xs ++ row ∷ []) (ys ++ row ∷ [])
 same_more xs ys row p = record {
   known =
       λ d.
       let known = p.known d in
-      let f : Entry → ℕ = λ entry. cond (nat_eq d entry.department) 1 0 in
+      let f : Row → ℕ = λ row. cond (pointwise nat_eq d row.department) 1 0 in
       let one = sum_by-append f xs (row ∷ []) in
       let two = sum_by-append f ys (row ∷ []) in
       omega (arith, known, one, two);
   amounts =
       λ d.
-      let f : Entry → ℕ = λ entry. cond (nat_eq d entry.department) entry.amount 0 in
+      let f : Row → ℕ = λ row. cond (pointwise nat_eq d row.department) row.amount 0 in
       sum_by-append f ys (row ∷ []) ∙ ap (λ n. n + sum_by f (row ∷ [])) (p.amounts d) ∙ sym (sum_by-append f xs (row ∷ []));
   total =
       sum_by-append amount ys (row ∷ []) ∙ ap (λ n. n + sum_by amount (row ∷ [])) p.total ∙ sym (sum_by-append amount xs (row ∷ []));
 }
 
+-- a search among the first rows found the row of this department
+pub is_found : (rows : List Row) (known place : ℕ) (old : Row) (name : List ℕ) → place < length (take known rows)
+    → slice_cmp nat_cmp (get_or (take known rows) place old).department name ≡ Equal → old ≡ get_or rows place old
+    → (place < length rows) × (old.department ≡ name)
+is_found rows known place old name inside found at =
+    let long = length-take known rows in
+    let same : get_or (take known rows) place old ≡ old = get_or-take known rows place old (omega (arith, long)) ∙ sym at in
+    (omega (arith, long), same_text _ _ (sym (texts_ties old.department name ∙ ap is_eq (rw same at found))))
+
+-- with the amount of one row more in the sum of its department
+module _ (rows : List Row) (place : ℕ) (old : Row) (more : ℕ) (inside : place < length rows) (at : old ≡ get_or rows place old) where
+  abbrev added : Row
+  added = record { department = old.department; amount = more }
+
+  abbrev new : Row
+  new = record { department = old.department; amount = old.amount + more }
+
+  both : (b : Bool) (m n : ℕ) → cond b (m + n) 0 ≡ cond b m 0 + cond b n 0
+  both true m n = refl
+  both false m n = omega arith
+
+  pub same_added : SaysTheSame (rows ++ added ∷ []) (set rows place new)
+  same_added = record {
+    known =
+        λ d.
+        let f : Row → ℕ = λ row. cond (pointwise nat_eq d row.department) 1 0 in
+        let here = ap f at in
+        let least = get_or-le-sum_by f rows place old inside in
+        omega (arith, sum_by-set f rows place new old inside, sum_by_push f rows added, here, least);
+    amounts =
+        λ d.
+        let f : Row → ℕ = λ row. cond (pointwise nat_eq d row.department) row.amount 0 in
+        let here = ap f at in
+        let parts = both (pointwise nat_eq d old.department) old.amount more in
+        omega (arith, sum_by-set f rows place new old inside, sum_by_push f rows added, here, parts);
+    total =
+        let here = ap amount at in
+        omega (arith, sum_by-set amount rows place new old inside, sum_by_push amount rows added, here);
+  }
+
 -- their report is written
-pub reports : (name : List ℕ) (a before written after c d : Option (List ℕ)) (rows sums : List Entry) (w : Bool)
+pub reports : (name : List ℕ) (a before written after c d : Option (List ℕ)) (rows sums : List Row) (w : Bool)
     → IfSome a (λ bytes. AreRows name bytes rows w c d) → SaysTheSame rows sums → IsReport sums
     → Appends before written (flat_map sum_line sums ++ total_line sums) → Keeps written after
     → IfSome a (λ bytes. Reports name bytes w before after c d)

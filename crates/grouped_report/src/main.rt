@@ -1,8 +1,8 @@
 //! Sums the amounts of each department in the rows of standard input: `program.rt` has what is read and what is written.
 //!
-//! Rows are not kept: they come in blocks of a constant number, and each block is sorted, grouped and added to the sums so
-//! far. What is kept in memory is at most twice the departments and one block, while they are added up also what that
-//! takes and the new sums, and the longest line.
+//! A row of a known department is added to its sum. Other rows wait until there are as many as known departments, and a
+//! block more: then they are sorted with the sums, grouped and added up. What is kept in memory is at most twice the
+//! departments and one block, while they are added up also what that takes and the new sums, and the longest line.
 #![tactic(auto)]
 
 mod entry;
