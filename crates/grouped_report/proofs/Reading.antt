@@ -41,45 +41,40 @@ same_more xs ys row p = record {
       sum_by-append amount ys (row ∷ []) ∙ ap (λ n. n + sum_by amount (row ∷ [])) p.total ∙ sym (sum_by-append amount xs (row ∷ []));
 }
 
--- a search among the first rows found the row of this department
-pub is_found : (rows : List Row) (known place : ℕ) (old : Row) (name : List ℕ) → place < length (take known rows)
-    → slice_cmp nat_cmp (get_or (take known rows) place old).department name ≡ Equal → old ≡ get_or rows place old
-    → (place < length rows) × (old.department ≡ name)
-is_found rows known place old name inside found at =
-    let long = length-take known rows in
-    let same : get_or (take known rows) place old ≡ old = get_or-take known rows place old (omega (arith, long)) ∙ sym at in
-    (omega (arith, long), same_text _ _ (sym (texts_ties old.department name ∙ ap is_eq (rw same at found))))
+-- with the amount of one row more in an entry of its department
+module _ (rows : List Row) (place : ℕ) (old : Row) (d : List ℕ) (more : ℕ) (inside : place < length rows) (at : old ≡ get_or rows place old)
+    (of : old.department ≡ d)
+  where
+    abbrev added : Row
+    added = record { department = d; amount = more }
 
--- with the amount of one row more in the sum of its department
-module _ (rows : List Row) (place : ℕ) (old : Row) (more : ℕ) (inside : place < length rows) (at : old ≡ get_or rows place old) where
-  abbrev added : Row
-  added = record { department = old.department; amount = more }
+    abbrev new : Row
+    new = record { department = d; amount = old.amount + more }
 
-  abbrev new : Row
-  new = record { department = old.department; amount = old.amount + more }
+    both : (b : Bool) (m n : ℕ) → cond b (m + n) 0 ≡ cond b m 0 + cond b n 0
+    both true m n = refl
+    both false m n = omega arith
 
-  both : (b : Bool) (m n : ℕ) → cond b (m + n) 0 ≡ cond b m 0 + cond b n 0
-  both true m n = refl
-  both false m n = omega arith
-
-  pub same_added : SaysTheSame (rows ++ added ∷ []) (set rows place new)
-  same_added = record {
-    known =
-        λ d.
-        let f : Row → ℕ = λ row. cond (pointwise nat_eq d row.department) 1 0 in
-        let here = ap f at in
-        let least = get_or-le-sum_by f rows place old inside in
-        omega (arith, sum_by-set f rows place new old inside, sum_by_push f rows added, here, least);
-    amounts =
-        λ d.
-        let f : Row → ℕ = λ row. cond (pointwise nat_eq d row.department) row.amount 0 in
-        let here = ap f at in
-        let parts = both (pointwise nat_eq d old.department) old.amount more in
-        omega (arith, sum_by-set f rows place new old inside, sum_by_push f rows added, here, parts);
-    total =
-        let here = ap amount at in
-        omega (arith, sum_by-set amount rows place new old inside, sum_by_push amount rows added, here);
-  }
+    pub same_added : SaysTheSame (rows ++ added ∷ []) (set rows place new)
+    same_added = record {
+      known =
+          λ e.
+          let f : Row → ℕ = λ row. cond (pointwise nat_eq e row.department) 1 0 in
+          let here = ap f at in
+          let same = ap {B = ℕ} (λ k. cond (pointwise nat_eq e k) 1 0) of in
+          let least = get_or-le-sum_by f rows place old inside in
+          omega (arith, sum_by-set f rows place new old inside, sum_by_push f rows added, here, same, least);
+      amounts =
+          λ e.
+          let f : Row → ℕ = λ row. cond (pointwise nat_eq e row.department) row.amount 0 in
+          let here = ap f at in
+          let same = ap {B = ℕ} (λ k. cond (pointwise nat_eq e k) old.amount 0) of in
+          let parts = both (pointwise nat_eq e d) old.amount more in
+          omega (arith, sum_by-set f rows place new old inside, sum_by_push f rows added, here, same, parts);
+      total =
+          let here = ap amount at in
+          omega (arith, sum_by-set amount rows place new old inside, sum_by_push amount rows added, here);
+    }
 
 -- their report is written
 pub reports : (name : List ℕ) (a before written after c d : Option (List ℕ)) (rows sums : List Row) (w : Bool)

@@ -45,13 +45,17 @@ impl Entry {
         self.amount
     }
 
-    /// Adds to the amount if the sum is a number of 128 bits, and says whether it is.
-    pub fn add(&mut self, more: u64) -> bool
-        ensures added { result ≡ true
-            → self.new ≡ record { department = self.old.department; amount = self.old.amount + more } }
+    /// Adds the amount of a row if that is of this department and the sum is a number of 128 bits. Says whether it did.
+    pub fn add(&mut self, department: &str, amount: u64) -> bool
+        ensures department { result ≡ true → self.old.department ≡ department.now }
+        ensures amount { result ≡ true
+            → self.new ≡ record { department = department.now; amount = self.old.amount + amount } }
         ensures kept { result ≡ false → self.new ≡ self.old }
     {
-        let Some(sum) = self.amount.checked_add(u128::from(more)) else {
+        if self.department.as_str() != department {
+            return false;
+        }
+        let Some(sum) = self.amount.checked_add(u128::from(amount)) else {
             return false;
         };
         self.amount = sum;

@@ -7,6 +7,7 @@
 
 mod entry;
 mod fold;
+mod guesses;
 mod output;
 mod program;
 mod row;
