@@ -69,6 +69,14 @@ CASES = [
         b"department 4294967296: 3\ndepartment 5: 13\ntotal: 16\n",
         said("grouped_report", (2, NO_COMMA), (3, NO_TEXT), (6, NO_AMOUNT), (7, NO_AMOUNT), (8, NO_AMOUNT)),
     ),
+    # more departments than stand in a block, each three times
+    (
+        "grouped_report", [], b"".join(b"%d,%d\n" % (place * 7919 % 5000, place) for place in range(15_000)), 0,
+        b"".join(
+            b"department %d: %d\n" % (place * 7919 % 5000, 3 * place + 15_000)
+            for place in sorted(range(5000), key=lambda place: str(place * 7919 % 5000))
+        ) + b"total: 112492500\n", b"",
+    ),
     ("table_join", ["full"], (b"a,1\nb,2\nb,x,y", b"b,3\r\nb,4\nc,5"), 0, b"a,1,\nb,2,3\nb,2,4\nb,x,y,3\nb,x,y,4\nc,,5\n", b""),
     *(("table_join", [kind], TABLES, 0, rows, b"") for kind, rows in JOINED.items()),
     *(("table_join", [kind], WRONG_TABLES, 1, rows, WRONG_LINES) for kind, rows in JOINED.items()),

@@ -18,7 +18,7 @@ department_of (x ∷ xs) = x.department
 abbrev pub line_of : List Row → Row
 line_of group = record { department = department_of group; amount = sum_by amount group }
 
-both : (b : Bool) (m n : ℕ) → cond b m 0 + cond b n 0 ≡ cond b (m + n) 0
+pub both : (b : Bool) (m n : ℕ) → cond b m 0 + cond b n 0 ≡ cond b (m + n) 0
 both true m n = refl
 both false m n = refl
 

@@ -11,6 +11,7 @@ use Rattle.program_parts.proofs.Appended.{appends_kept}
 use Rattle.grouped_report.specs.Departments.{Row, amount, IsReport, SaysTheSame}
 use Rattle.grouped_report.specs.Report.{sum_line, total_line}
 use Rattle.grouped_report.specs.Runs.{AreRows, Reports}
+use Rattle.grouped_report.proofs.Lines.{both}
 
 -- rows say what they say themselves, and what others do that say the same
 pub same_self : (xs : List Row) → SaysTheSame xs xs
@@ -50,10 +51,6 @@ module _ (rows : List Row) (place : ℕ) (old : Row) (d : List ℕ) (more : ℕ)
 
     abbrev new : Row
     new = record { department = d; amount = old.amount + more }
-
-    both : (b : Bool) (m n : ℕ) → cond b (m + n) 0 ≡ cond b m 0 + cond b n 0
-    both true m n = refl
-    both false m n = omega arith
 
     pub same_added : SaysTheSame (rows ++ added ∷ []) (set rows place new)
     same_added = record {
