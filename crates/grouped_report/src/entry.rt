@@ -1,5 +1,5 @@
 //! Amounts of departments.
-ghost use Rattle.std.specs.Prelude.{◌≡◌, ◌+◌, IfOk, true, false};
+ghost use Rattle.std.specs.Prelude.{◌≡◌, ◌≤◌, ◌+◌, ◌^◌, IfOk, true, false};
 
 use std::alloc::{AllocError, Global};
 use std::marker::Model;
@@ -47,10 +47,10 @@ impl Entry {
 
     /// Adds the amount of a row if that is of this department and the sum is a number of 128 bits. Says whether it did.
     pub fn add(&mut self, department: &str, amount: u64) -> bool
-        ensures department { result ≡ true → self.old.department ≡ department.now }
-        ensures amount { result ≡ true
-            → self.new ≡ record { department = department.now; amount = self.old.amount + amount } }
+        ensures added { result ≡ true → (self.old.department ≡ department.now)
+            × (self.new ≡ record { department = department.now; amount = self.old.amount + amount }) }
         ensures kept { result ≡ false → self.new ≡ self.old }
+        ensures refused { result ≡ false → self.old.department ≡ department.now → 2 ^ 128 ≤ self.old.amount + amount }
     {
         if self.department.as_str() != department {
             return false;
