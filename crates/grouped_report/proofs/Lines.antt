@@ -1,11 +1,14 @@
 -- The line of each group of rows of one department, and what the lines say of all rows.
-use Rattle.std.proofs.Common.{◌≡◌, ◌≢◌, ℕ, ◌+◌, Bool, true, false, cond, List, [], ◌∷◌, map, nat_eq, min, sum_by, refl, ap, sym, ◌∙◌, arith, zero-add}
+use Rattle.std.proofs.Common.{◌≡◌, ◌≢◌, ℕ, ◌+◌, Bool, true, false, cond, List, [], ◌∷◌, map, nat_eq, min}
+use Rattle.std.proofs.Common.{sum_by, refl, ap, sym, ◌∙◌, arith, zero-add}
 use Rattle.std.specs.List.{AllByRecursion}
 use Rattle.std.specs.Cmp.Lexicographic.{pointwise, same_text, slice_cmp}
+use Rattle.std.specs.List.Sorted.{IsStrictlySortedBy}
 use Rattle.std.specs.Ordering.{nat_cmp}
+use Rattle.std.specs.declared.cmp.Ordering.TheVariants.{Less}
 use Rattle.std.proofs.lemmas.List.Sums.{sum_by-cons, sum_by-append}
 use Rattle.slice_group_by.specs.Split.{IsAccepted, concat}
-use Rattle.slice_group_by.proofs.Joins.FirstGroups.{Ascends}
+use Rattle.slice_group_by.proofs.Joins.FirstGroups.{Ascends, IsAbove}
 use Rattle.grouped_report.specs.Departments.{Row, department, amount, count_of, amount_of, IsReport}
 
 abbrev pub same : Row → Row → Bool
@@ -69,9 +72,15 @@ sums_of_lines (g ∷ gs) =
     sum_by-cons amount (line_of g) (map line_of gs) ∙ ap (λ m. sum_by amount g + m) (sums_of_lines gs)
     ∙ sym (sum_by-cons (λ h. sum_by amount h) g gs)
 
+-- the names of the lines ascend as those of the groups do
+above : (d : List ℕ) (gs : List (List Row)) → AllByRecursion (IsAbove (slice_cmp nat_cmp) department d) gs
+    → AllByRecursion (λ e. slice_cmp nat_cmp d e ≡ Less) (map department (map line_of gs))
+above d [] a = tt
+above d ([] ∷ gs) a = absurd a.0
+above d ((x ∷ xs) ∷ gs) a = (a.0, above d gs a.1)
+
 pub ascending : (gs : List (List Row)) → Ascends (slice_cmp nat_cmp) department gs → IsReport (map line_of gs)
+unfolding IsStrictlySortedBy
 ascending [] a = tt
 ascending ([] ∷ gs) a = absurd a
-ascending ((x ∷ xs) ∷ []) a = tt
-ascending ((x ∷ xs) ∷ [] ∷ gs) a = absurd a.1
-ascending ((x ∷ xs) ∷ (y ∷ ys) ∷ gs) a = (a.0.0, ascending ((y ∷ ys) ∷ gs) a.1)
+ascending ((x ∷ xs) ∷ gs) a = (above x.department gs a.0, ascending gs a.1)

@@ -1,8 +1,8 @@
 -- What rows say of a department.
 use Rattle.std.specs.Prelude.{◌≡◌, ℕ, List, cond, min, map, nat_eq, count_by, sum_by}
 use Rattle.std.specs.Cmp.Lexicographic.{pointwise, slice_cmp}
+use Rattle.std.specs.List.Sorted.{IsStrictlySortedBy}
 use Rattle.std.specs.Ordering.{nat_cmp}
-use Rattle.slice_group_by.specs.JoinKinds.{AlwaysAscends}
 
 -- the name of a department, and an amount: that of a row, or the sum of those of several
 pub record Row : Type 0 where
@@ -30,6 +30,6 @@ pub record SaysTheSame (old new : List Row) : Type 0 where
   pub amounts : (d : List ℕ) → amount_of d new ≡ amount_of d old
   pub total : sum_by amount new ≡ sum_by amount old
 
--- the name of each department is below the next one
+-- the departments ascend by their names, byte by byte: each name is below all that follow, so each stands once
 abbrev pub IsReport : List Row → Type 0
-IsReport rows = AlwaysAscends (slice_cmp nat_cmp) (map department rows)
+IsReport rows = IsStrictlySortedBy (slice_cmp nat_cmp) (map department rows)

@@ -45,7 +45,7 @@ impl Entry {
         self.amount
     }
 
-    /// Adds the amount of a row if that is of this department and the sum is a number of 128 bits. Says whether it did.
+    /// Adds the amount if the entry is of this department and the sum is a number of 128 bits. Says whether it did.
     pub fn add(&mut self, department: &str, amount: u64) -> bool
         ensures added { result ≡ true → (self.old.department ≡ department.now)
             × (self.new ≡ record { department = department.now; amount = self.old.amount + amount }) }
