@@ -3,8 +3,8 @@
 use crate::entry::Entry;
 use std::alloc::{AllocError, Global};
 
-// How many names at most have a guess of their own.
-const SLOTS: usize = 1 << 16;
+// How many guesses are kept beside four for each entry.
+const LEAST: usize = 1 << 16;
 
 /// For each name a place in a list of entries. Names may share one, so whoever takes a guess tests it: no contract says
 /// that it is right.
@@ -14,37 +14,36 @@ pub struct Guesses {
 }
 
 impl Guesses {
-    /// The first place, for each name. It fails where memory runs out.
-    pub fn new(alloc: Global) -> Result<Guesses, AllocError> {
-        Ok(Guesses {
-            places: vec![in alloc; 0usize; SLOTS]?,
-        })
+    /// For the department of each of these entries its place is guessed. It fails where memory runs out.
+    pub fn of(alloc: Global, entries: &[Entry]) -> Result<Guesses, AllocError> {
+        let len = entries.len().saturating_mul(4).saturating_add(LEAST);
+        let mut guesses = Guesses {
+            places: vec![in alloc; 0usize; len]?,
+        };
+        for (place, entry) in entries.iter().enumerate() {
+            guesses.set(entry.department(), place);
+        }
+        Ok(guesses)
     }
 
     /// The place that is guessed for the name.
     pub fn place(&self, name: &str) -> usize {
-        self.places.get(slot(name)).copied().unwrap_or(0)
+        self.places.get(self.slot(name)).copied().unwrap_or(0)
     }
 
     /// The place is guessed for the name from now on.
     pub fn set(&mut self, name: &str, place: usize) {
-        if let Some(guess) = self.places.get_mut(slot(name)) {
+        let slot = self.slot(name);
+        if let Some(guess) = self.places.get_mut(slot) {
             *guess = place;
         }
     }
 
-    /// The place of each entry is guessed for its department.
-    pub fn set_all(&mut self, entries: &[Entry]) {
-        for (place, entry) in entries.iter().enumerate() {
-            self.set(entry.department(), place);
-        }
+    // Where the guess for the name is kept: the part of all that its hash is of the numbers of 32 bits.
+    fn slot(&self, name: &str) -> usize {
+        let hash = name.bytes().fold(0u32, |hash, byte| {
+            hash.wrapping_add(u32::from(byte)).wrapping_mul(0x9E37_79B9)
+        });
+        (u64::from(hash).wrapping_mul(self.places.len() as u64) >> 32) as usize
     }
-}
-
-// Where the guess for the name is kept.
-fn slot(name: &str) -> usize {
-    let hash = name.bytes().fold(0u32, |hash, byte| {
-        hash.wrapping_mul(31).wrapping_add(u32::from(byte))
-    });
-    hash as usize % SLOTS
 }
