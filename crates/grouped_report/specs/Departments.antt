@@ -9,7 +9,7 @@ pub record Row : Type 0 where
   pub department : List ℕ
   pub amount : ℕ
 
--- the two of a row
+-- its department, and its amount
 abbrev pub department : Row → List ℕ
 department row = row.department
 
