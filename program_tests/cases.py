@@ -30,6 +30,7 @@ NAMES = ["run_length_coder", "uniq_count", "token_counter", "grouped_report", "t
 NO_RUN = b"it is not two numbers with a space between them"
 NO_BYTE = b"its byte is no number up to 255"
 NO_COUNT = b"its count is no number of 64 bits"
+NO_AMOUNT = b"its amount is no number of 64 bits"
 RUNS = b"2 97\n0 98\n3\n\n1 256\nx 1\n18446744073709551616 1\n\xff 1\n1 98 \n1 99\r\n3 100"
 WRONG_RUNS = said(
     "run_length_coder",
@@ -56,12 +57,25 @@ CASES = [
     ("token_counter", [], b"aZ09 \t\n\x0b\x0c\r[`{@/:", 0, tokens(1, 1, 2, 2), b""),
     ("grouped_report", [], b"", 0, b"total: 0\n", b""),
     (
-        "grouped_report", [], b"9,1\r\n7,18446744073709551615\n9,2\n7,+1", 0,
-        b"department 7: 18446744073709551616\ndepartment 9: 3\ntotal: 18446744073709551619\n", b"",
+        "grouped_report", [], b"9,1\r\n7,18446744073709551615\n10,0\n9,2\n7,+1", 0,
+        b"department 10: 0\ndepartment 7: 18446744073709551616\ndepartment 9: 3\ntotal: 18446744073709551619\n", b"",
     ),
     (
-        "grouped_report", [], b"5,6\nno\n\xff,2\n4294967296,3\n5,7\n1,\x00\n", 1, b"department 5: 13\ntotal: 13\n",
-        said("grouped_report", (2, NO_COMMA), (3, NO_TEXT), (4, b"its department is no number of 32 bits"), (6, b"its amount is no number of 64 bits")),
+        "grouped_report", [], b"b: c,1\n\xc3\xa9t\xc3\xa9,2\n,3\nB,4\nb: c,5\n a,6\nb,7\n", 0,
+        b"department : 3\ndepartment  a: 6\ndepartment B: 4\ndepartment b: 7\ndepartment b: c: 6\ndepartment \xc3\xa9t\xc3\xa9: 2\ntotal: 28\n", b"",
+    ),
+    (
+        "grouped_report", [], b"5,6\nno\n\xff,2\n4294967296,3\n5,7\n1,\x00\n5,18446744073709551616\n5,1,1\n", 1,
+        b"department 4294967296: 3\ndepartment 5: 13\ntotal: 16\n",
+        said("grouped_report", (2, NO_COMMA), (3, NO_TEXT), (6, NO_AMOUNT), (7, NO_AMOUNT), (8, NO_AMOUNT)),
+    ),
+    # more departments than stand in a block, each three times
+    (
+        "grouped_report", [], b"".join(b"%d,%d\n" % (place * 7919 % 5000, place) for place in range(15_000)), 0,
+        b"".join(
+            b"department %d: %d\n" % (place * 7919 % 5000, 3 * place + 15_000)
+            for place in sorted(range(5000), key=lambda place: str(place * 7919 % 5000))
+        ) + b"total: 112492500\n", b"",
     ),
     ("table_join", ["full"], (b"a,1\nb,2\nb,x,y", b"b,3\r\nb,4\nc,5"), 0, b"a,1,\nb,2,3\nb,2,4\nb,x,y,3\nb,x,y,4\nc,,5\n", b""),
     *(("table_join", [kind], TABLES, 0, rows, b"") for kind, rows in JOINED.items()),

@@ -1,47 +1,47 @@
 -- The line of each group of rows of one department, and what the lines say of all rows.
-use Rattle.std.proofs.Common.{◌≡◌, ◌≢◌, ℕ, zero, suc, ◌+◌, ◌≤◌, Bool, true, false, cond, List, [], ◌∷◌, map, length, nat_eq, min, sum_by, count_by, refl, ap, sym, ◌∙◌, arith, zero-add}
-use Rattle.std.specs.List.{AllByRecursion, filter}
+use Rattle.std.proofs.Common.{◌≡◌, ◌≢◌, ℕ, ◌+◌, Bool, true, false, cond, List, [], ◌∷◌, map, nat_eq, min}
+use Rattle.std.proofs.Common.{sum_by, refl, ap, sym, ◌∙◌, arith, zero-add}
+use Rattle.std.specs.List.{AllByRecursion}
+use Rattle.std.specs.Cmp.Lexicographic.{pointwise, same_text, slice_cmp}
+use Rattle.std.specs.List.Sorted.{IsStrictlySortedBy}
 use Rattle.std.specs.Ordering.{nat_cmp}
-use Rattle.std.proofs.lemmas.Bool.{eqb-true}
-use Rattle.std.proofs.lemmas.List.Sums.{sum_by-cons, sum_by-append, length-filter}
+use Rattle.std.specs.declared.cmp.Ordering.TheVariants.{Less}
+use Rattle.std.proofs.lemmas.List.Sums.{sum_by-cons, sum_by-append}
 use Rattle.slice_group_by.specs.Split.{IsAccepted, concat}
-use Rattle.slice_group_by.specs.Join.{are_partners}
-use Rattle.slice_group_by.specs.Search.{NeverDescends}
-use Rattle.slice_group_by.proofs.Joins.FirstGroups.{Ascends}
-use Rattle.grouped_report.specs.declared.entry.Entry.{Entry}
-use Rattle.grouped_report.specs.Departments.{department, amount, count_of, amount_of}
+use Rattle.slice_group_by.proofs.Joins.FirstGroups.{Ascends, IsAbove}
+use Rattle.grouped_report.specs.Departments.{Row, department, amount, count_of, amount_of, IsReport}
 
-abbrev pub same : Entry → Entry → Bool
-same a b = nat_eq (department a) (department b)
+abbrev pub same : Row → Row → Bool
+same a b = pointwise nat_eq (department a) (department b)
 
-abbrev pub department_of : List Entry → ℕ
-department_of [] = 0
+abbrev pub department_of : List Row → List ℕ
+department_of [] = []
 department_of (x ∷ xs) = x.department
 
-abbrev pub line_of : List Entry → Entry
+abbrev pub line_of : List Row → Row
 line_of group = record { department = department_of group; amount = sum_by amount group }
 
-both : (b : Bool) (m n : ℕ) → cond b m 0 + cond b n 0 ≡ cond b (m + n) 0
+pub both : (b : Bool) (m n : ℕ) → cond b m 0 + cond b n 0 ≡ cond b (m + n) 0
 both true m n = refl
 both false m n = refl
 
-module _ (d : ℕ) where
-  module _ (f : Entry → ℕ) where
-    abbrev of : Entry → ℕ
-    of x = cond (nat_eq d x.department) (f x) 0
+module _ (d : List ℕ) where
+  module _ (f : Row → ℕ) where
+    abbrev of : Row → ℕ
+    of x = cond (pointwise nat_eq d x.department) (f x) 0
 
     -- a group is of the department d as a whole, or not at all
-    uniform : (x : Entry) (xs : List Entry) → IsAccepted same (x ∷ xs)
-        → sum_by of (x ∷ xs) ≡ cond (nat_eq d x.department) (sum_by f (x ∷ xs)) 0
+    uniform : (x : Row) (xs : List Row) → IsAccepted same (x ∷ xs)
+        → sum_by of (x ∷ xs) ≡ cond (pointwise nat_eq d x.department) (sum_by f (x ∷ xs)) 0
     uniform x [] a = simp zero-add
     uniform x (y ∷ ys) a =
-        let e : x.department ≡ y.department = eqb-true (department x) (department y) a.0 in
+        let e : x.department ≡ y.department = same_text (department x) (department y) (sym a.0) in
         sum_by-cons of x (y ∷ ys)
-        ∙ ap (λ n. of x + n) (uniform y ys a.1 ∙ ap (λ k. cond (nat_eq d k) (sum_by f (y ∷ ys)) 0) (sym e))
-        ∙ both (nat_eq d x.department) (f x) (sum_by f (y ∷ ys))
-        ∙ ap (λ n. cond (nat_eq d x.department) n 0) (sym (sum_by-cons f x (y ∷ ys)))
+        ∙ ap (λ n. of x + n) (uniform y ys a.1 ∙ ap (λ k. cond (pointwise nat_eq d k) (sum_by f (y ∷ ys)) 0) (sym e))
+        ∙ both (pointwise nat_eq d x.department) (f x) (sum_by f (y ∷ ys))
+        ∙ ap (λ n. cond (pointwise nat_eq d x.department) n 0) (sym (sum_by-cons f x (y ∷ ys)))
 
-  pub amounts : (gs : List (List Entry)) → AllByRecursion (λ g. g ≢ []) gs → AllByRecursion (IsAccepted same) gs
+  pub amounts : (gs : List (List Row)) → AllByRecursion (λ g. g ≢ []) gs → AllByRecursion (IsAccepted same) gs
       → amount_of d (map line_of gs) ≡ amount_of d (concat gs)
   amounts [] n a = refl
   amounts ([] ∷ gs) n a = absurd (n.0 refl)
@@ -52,53 +52,35 @@ module _ (d : ℕ) where
       ∙ sym (sum_by-append (of amount) (x ∷ xs) (concat gs))
 
   -- a department has a line if it has a row
-  counts : (gs : List (List Entry)) → AllByRecursion (λ g. g ≢ []) gs → AllByRecursion (IsAccepted same) gs
-      → (count_of d (map line_of gs) ≤ count_of d (concat gs)) × (count_of d (map line_of gs) ≡ 0 → count_of d (concat gs) ≡ 0)
-  counts [] n a = (omega arith, λ e. refl)
-  counts ([] ∷ gs) n a = absurd (n.0 refl)
-  counts ((x ∷ xs) ∷ gs) n a =
-      by (nat_eq d x.department) (sum_by-cons (of (λ _. 1)) (line_of (x ∷ xs)) (map line_of gs))
+  pub known : (gs : List (List Row)) → AllByRecursion (λ g. g ≢ []) gs → AllByRecursion (IsAccepted same) gs
+      → min 1 (count_of d (map line_of gs)) ≡ min 1 (count_of d (concat gs))
+  known [] n a = refl
+  known ([] ∷ gs) n a = absurd (n.0 refl)
+  known ((x ∷ xs) ∷ gs) n a =
+      by (pointwise nat_eq d x.department) _ _ _ _ (sum_by-cons (of (λ _. 1)) (line_of (x ∷ xs)) (map line_of gs))
       (sum_by-append (of (λ _. 1)) (x ∷ xs) (concat gs) ∙ ap (λ m. m + count_of d (concat gs)) (uniform (λ _. 1) x xs a.0))
-      (counts gs n.1 a.1)
+      (known gs n.1 a.1)
     where
-      by : (b : Bool) {l m r s : ℕ} → l ≡ cond b 1 0 + m → r ≡ cond b (sum_by (λ _. 1) (x ∷ xs)) 0 + s → (m ≤ s) × (m ≡ 0 → s ≡ 0)
-          → (l ≤ r) × (l ≡ 0 → r ≡ 0)
-      by true e f h = let k = sum_by-cons (λ _. 1) x xs in (omega (arith, k, h.0), λ z. omega (arith, e, z))
-      by false e f h = (omega (arith, h.0), λ z. omega (arith, h.1 (omega (arith, e, z))))
+      by : (b : Bool) (l m r s : ℕ) → l ≡ cond b 1 0 + m → r ≡ cond b (sum_by (λ _. 1) (x ∷ xs)) 0 + s → min 1 m ≡ min 1 s
+          → min 1 l ≡ min 1 r
+      by true l m r s e f h = let k = sum_by-cons (λ _. 1) x xs in omega (arith, e, f, k)
+      by false l m r s e f h = omega (arith, e, f, h)
 
-  -- the lines of d are the groups that have it
-  lines_of : (gs : List (List Entry)) → AllByRecursion (λ g. g ≢ []) gs
-      → count_of d (map line_of gs) ≡ count_by (are_partners nat_eq department department (record { department = d; amount = 0 } ∷ [])) gs
-  lines_of [] n = refl
-  lines_of ([] ∷ gs) n = absurd (n.0 refl)
-  lines_of ((x ∷ xs) ∷ gs) n =
-      sum_by-cons (of (λ _. 1)) (line_of (x ∷ xs)) (map line_of gs)
-      ∙ ap (λ m. cond (nat_eq d x.department) 1 0 + m) (lines_of gs n.1)
-      ∙ sym (sum_by-cons (λ g. cond (are_partners nat_eq department department (record { department = d; amount = 0 } ∷ []) g) 1 0)
-      (x ∷ xs) gs)
-
-  least : (a b : ℕ) → a ≤ 1 → a ≤ b → (a ≡ 0 → b ≡ 0) → a ≡ min 1 b
-  least zero b one most none = omega (arith, none refl)
-  least (suc a) b one most none = omega arith
-
-  pub once : (gs : List (List Entry)) → AllByRecursion (λ g. g ≢ []) gs → AllByRecursion (IsAccepted same) gs
-      → ((g : List Entry) → length (filter (are_partners nat_eq department department g) gs) ≤ 1)
-      → count_of d (map line_of gs) ≡ min 1 (count_of d (concat gs))
-  once gs n a one =
-      let partners = are_partners nat_eq department department (record { department = d; amount = 0 } ∷ []) in
-      let alone = one (record { department = d; amount = 0 } ∷ []) in
-      let h = counts gs n a in
-      least _ _ (omega (arith, alone, length-filter partners gs, lines_of gs n)) h.0 h.1
-
-pub sums_of_lines : (gs : List (List Entry)) → sum_by amount (map line_of gs) ≡ sum_by (λ g. sum_by amount g) gs
+pub sums_of_lines : (gs : List (List Row)) → sum_by amount (map line_of gs) ≡ sum_by (λ g. sum_by amount g) gs
 sums_of_lines [] = refl
 sums_of_lines (g ∷ gs) =
     sum_by-cons amount (line_of g) (map line_of gs) ∙ ap (λ m. sum_by amount g + m) (sums_of_lines gs)
     ∙ sym (sum_by-cons (λ h. sum_by amount h) g gs)
 
-pub ascending : (gs : List (List Entry)) → Ascends nat_cmp department gs → NeverDescends nat_cmp (map department (map line_of gs))
+-- the names of the lines ascend as those of the groups do
+above : (d : List ℕ) (gs : List (List Row)) → AllByRecursion (IsAbove (slice_cmp nat_cmp) department d) gs
+    → AllByRecursion (λ e. slice_cmp nat_cmp d e ≡ Less) (map department (map line_of gs))
+above d [] a = tt
+above d ([] ∷ gs) a = absurd a.0
+above d ((x ∷ xs) ∷ gs) a = (a.0, above d gs a.1)
+
+pub ascending : (gs : List (List Row)) → Ascends (slice_cmp nat_cmp) department gs → IsReport (map line_of gs)
+unfolding IsStrictlySortedBy
 ascending [] a = tt
 ascending ([] ∷ gs) a = absurd a
-ascending ((x ∷ xs) ∷ []) a = tt
-ascending ((x ∷ xs) ∷ [] ∷ gs) a = absurd a.1
-ascending ((x ∷ xs) ∷ (y ∷ ys) ∷ gs) a = (λ greater. cc (a.0.0, greater), ascending ((y ∷ ys) ∷ gs) a.1)
+ascending ((x ∷ xs) ∷ gs) a = (above x.department gs a.0, ascending gs a.1)

@@ -1,19 +1,20 @@
 -- What sums say of the rows so far.
-use Rattle.std.proofs.Common.{ℕ, ◌+◌, List, [], ◌∷◌, ◌++◌, Bool, cond, nat_eq, sum_by}
+use Rattle.std.proofs.Common.{◌≡◌, ℕ, ◌+◌, ◌<◌, List, [], ◌∷◌, ◌++◌, Bool, cond, nat_eq, sum_by, length, get_or, set}
 use Rattle.std.proofs.Common.{flat_map, Option, None, Some, IfSome, refl, sym, ap, ◌∙◌, arith}
+use Rattle.std.specs.Cmp.Lexicographic.{pointwise}
 use Rattle.std.specs.Io.KnownBytes.{Appends, Keeps}
-use Rattle.std.proofs.lemmas.List.Sums.{sum_by-append}
+use Rattle.std.proofs.lemmas.List.Sums.{sum_by-append, sum_by_push, sum_by-set, get_or-le-sum_by}
 use Rattle.program_parts.proofs.Appended.{appends_kept}
-use Rattle.grouped_report.specs.declared.entry.Entry.{Entry}
-use Rattle.grouped_report.specs.Departments.{amount, IsReport, SaysTheSame}
+use Rattle.grouped_report.specs.Departments.{Row, amount, IsReport, SaysTheSame}
 use Rattle.grouped_report.specs.Report.{sum_line, total_line}
 use Rattle.grouped_report.specs.Runs.{AreRows, Reports}
+use Rattle.grouped_report.proofs.Lines.{both}
 
--- entries say what they say themselves, and what others do that say the same
-pub same_self : (xs : List Entry) → SaysTheSame xs xs
+-- rows say what they say themselves, and what others do that say the same
+pub same_self : (xs : List Row) → SaysTheSame xs xs
 same_self xs = record { known = λ d. refl; amounts = λ d. refl; total = refl }
 
-pub same_then : (xs ys zs : List Entry) → SaysTheSame xs ys → SaysTheSame ys zs → SaysTheSame xs zs
+pub same_then : (xs ys zs : List Row) → SaysTheSame xs ys → SaysTheSame ys zs → SaysTheSame xs zs
 same_then xs ys zs p q = record {
   known = λ d. q.known d ∙ p.known d;
   amounts = λ d. q.amounts d ∙ p.amounts d;
@@ -21,25 +22,56 @@ same_then xs ys zs p q = record {
 }
 
 -- with one row more
-pub same_more : (xs ys : List Entry) (row : Entry) → SaysTheSame xs ys → SaysTheSame (xs ++ row ∷ []) (ys ++ row ∷ [])
+pub same_more : (xs ys : List Row) (row : Row) → SaysTheSame xs ys → SaysTheSame (xs ++ row ∷ []) (ys ++ row ∷ [])
 same_more xs ys row p = record {
   known =
       λ d.
       let known = p.known d in
-      let f : Entry → ℕ = λ entry. cond (nat_eq d entry.department) 1 0 in
+      let f : Row → ℕ = λ row. cond (pointwise nat_eq d row.department) 1 0 in
       let one = sum_by-append f xs (row ∷ []) in
       let two = sum_by-append f ys (row ∷ []) in
       omega (arith, known, one, two);
   amounts =
       λ d.
-      let f : Entry → ℕ = λ entry. cond (nat_eq d entry.department) entry.amount 0 in
+      let f : Row → ℕ = λ row. cond (pointwise nat_eq d row.department) row.amount 0 in
       sum_by-append f ys (row ∷ []) ∙ ap (λ n. n + sum_by f (row ∷ [])) (p.amounts d) ∙ sym (sum_by-append f xs (row ∷ []));
   total =
       sum_by-append amount ys (row ∷ []) ∙ ap (λ n. n + sum_by amount (row ∷ [])) p.total ∙ sym (sum_by-append amount xs (row ∷ []));
 }
 
+-- with the amount of one row more in an entry of its department
+module _ (rows : List Row) (place : ℕ) (old : Row) (d : List ℕ) (more : ℕ) (inside : place < length rows) (at : old ≡ get_or rows place old)
+    (of : old.department ≡ d)
+  where
+    abbrev added : Row
+    added = record { department = d; amount = more }
+
+    abbrev new : Row
+    new = record { department = d; amount = old.amount + more }
+
+    pub same_added : SaysTheSame (rows ++ added ∷ []) (set rows place new)
+    same_added = record {
+      known =
+          λ e.
+          let f : Row → ℕ = λ row. cond (pointwise nat_eq e row.department) 1 0 in
+          let here = ap f at in
+          let same = ap {B = ℕ} (λ k. cond (pointwise nat_eq e k) 1 0) of in
+          let least = get_or-le-sum_by f rows place old inside in
+          omega (arith, sum_by-set f rows place new old inside, sum_by_push f rows added, here, same, least);
+      amounts =
+          λ e.
+          let f : Row → ℕ = λ row. cond (pointwise nat_eq e row.department) row.amount 0 in
+          let here = ap f at in
+          let same = ap {B = ℕ} (λ k. cond (pointwise nat_eq e k) old.amount 0) of in
+          let parts = both (pointwise nat_eq e d) old.amount more in
+          omega (arith, sum_by-set f rows place new old inside, sum_by_push f rows added, here, same, parts);
+      total =
+          let here = ap amount at in
+          omega (arith, sum_by-set amount rows place new old inside, sum_by_push amount rows added, here);
+    }
+
 -- their report is written
-pub reports : (name : List ℕ) (a before written after c d : Option (List ℕ)) (rows sums : List Entry) (w : Bool)
+pub reports : (name : List ℕ) (a before written after c d : Option (List ℕ)) (rows sums : List Row) (w : Bool)
     → IfSome a (λ bytes. AreRows name bytes rows w c d) → SaysTheSame rows sums → IsReport sums
     → Appends before written (flat_map sum_line sums ++ total_line sums) → Keeps written after
     → IfSome a (λ bytes. Reports name bytes w before after c d)

@@ -1,4 +1,5 @@
 pub mod Departments
+pub mod Input
 pub mod Report
 pub mod Runs
 pub mod Words

@@ -2,29 +2,28 @@
 use Rattle.std.specs.Prelude.{ℕ, List, ◌++◌, Bool, Option, flat_map}
 use Rattle.std.specs.Io.KnownBytes.{Appends}
 use Rattle.program_parts.specs.Read.{AreRead}
-use Rattle.program_parts.specs.Pairs.{Says, IsWrong}
-use Rattle.program_parts.specs.declared.pairs.PairError.{PairError}
-use Rattle.grouped_report.specs.Departments.{IsReport, SaysTheSame}
+use Rattle.grouped_report.specs.Departments.{Row, IsReport, SaysTheSame}
+use Rattle.grouped_report.specs.Input.{Says, IsWrong}
 use Rattle.grouped_report.specs.Report.{sum_line, total_line}
 use Rattle.grouped_report.specs.Words.{source_of_file, words}
-use Rattle.grouped_report.specs.declared.entry.Entry.{Entry}
+use Rattle.grouped_report.specs.declared.row.Problem.{Problem}
 
 -- a line says a row, whatever rows stand before it, or this is wrong with it
-abbrev pub SaysRow : List Entry → List ℕ → Entry → Type 0
-SaysRow before line row = Says line row.department row.amount
+abbrev pub SaysRow : List Row → List ℕ → Row → Type 0
+SaysRow before line row = Says line row
 
-abbrev pub IsNoRow : List Entry → List ℕ → PairError → Type 0
+abbrev pub IsNoRow : List Row → List ℕ → Problem → Type 0
 IsNoRow before line problem = IsWrong line problem
 
 -- these are the rows that the lines of a file of this name say; each other line is complained of, and `is_whole` says whether there is none
-abbrev pub AreRows : List ℕ → List ℕ → List Entry → Bool → Option (List ℕ) → Option (List ℕ) → Type 0
+abbrev pub AreRows : List ℕ → List ℕ → List Row → Bool → Option (List ℕ) → Option (List ℕ) → Type 0
 AreRows name = AreRead SaysRow IsNoRow (source_of_file name) words
 
 -- the report of these rows is written
 pub record Reports (name bytes : List ℕ) (is_whole : Bool) (before after said_before said_after : Option (List ℕ)) : Type 0 where
-  pub rows : List Entry
+  pub rows : List Row
   pub are_rows : AreRows name bytes rows is_whole said_before said_after
-  pub sums : List Entry
+  pub sums : List Row
   pub same : SaysTheSame rows sums
   pub is_report : IsReport sums
   pub writes : Appends before after (flat_map sum_line sums ++ total_line sums)

@@ -3,10 +3,8 @@ ghost use Rattle.std.specs.Prelude.{◌<◌, ◌^◌, sum_by, IfOk, SomeIff};
 ghost use Rattle.grouped_report.specs.Departments.{amount, IsReport, SaysTheSame};
 
 use crate::entry::Entry;
-use slice_group_by::LinearGroupByKey;
-use slice_group_by::laws::{
-    one_split, partners_are_unique, pieces_add_up, sees_pieces, sorts_ascend,
-};
+use slice_group_by::LinearGroupBy;
+use slice_group_by::laws::{one_split, pieces_add_up, sees_pieces};
 use std::alloc::Global;
 use std::io;
 
@@ -16,7 +14,7 @@ pub fn total(entries: &[Entry]) -> Option<u128>
 {
     let mut sum = 0u128;
     for entry in entries {
-        sum = sum.checked_add(entry.amount)?;
+        sum = sum.checked_add(entry.amount())?;
     }
     Some(sum)
 }
@@ -27,22 +25,20 @@ pub fn fold(alloc: Global, mut entries: Vec<Entry>) -> io::Result<Vec<Entry>>
     ensures report { IfOk result (λ sums. IsReport sums.items) }
     ensures same { IfOk result (λ sums. SaysTheSame entries.items sums.items) }
 {
-    sorts_ascend::<Entry, u32>();
     one_split::<Entry>();
     pieces_add_up::<Entry>();
-    partners_are_unique::<Entry, Entry, u32>();
-    entries.sort_by_key(|entry| entry.department)?;
-    let groups = LinearGroupByKey::new(&entries, |entry: &Entry| entry.department);
+    entries.sort_by(|a, b| a.department().cmp(b.department()))?;
+    let groups = LinearGroupBy::new(
+        &entries,
+        |a: &Entry, b: &Entry| a.department() == b.department(),
+    );
     sees_pieces(&groups);
     let mut sums = Vec::new(alloc);
     for group in groups {
         let Some(amount) = total(group) else {
             return Err(io::Error::other("a sum is no number of 128 bits"));
         };
-        sums.push(Entry {
-            department: group[0].department,
-            amount,
-        })?;
+        sums.push(Entry::new(alloc, group[0].department(), amount)?)?;
     }
     Ok(sums)
 }

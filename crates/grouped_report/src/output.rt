@@ -26,5 +26,5 @@ pub fn write_report<W: Write>(sums: &[Entry], out: &mut W) -> io::Result<()>
 fn write_sum<W: Write>(sum: &Entry, out: &mut W) -> io::Result<()>
     ensures { OnOk result (Appends (W.contents out.old) (W.contents out.new) (sum_line sum.now)) }
 {
-    writeln!(out, "department {}: {}", sum.department, sum.amount)
+    writeln!(out, "department {}: {}", sum.department(), sum.amount())
 }

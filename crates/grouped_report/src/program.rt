@@ -13,9 +13,10 @@ pub const USAGE: &str = "\
 usage: grouped_report [-h | --help] [FILE]
 
 Reads rows `department,amount` from FILE, or from standard input, in any order, and writes a
-line for each department, in ascending order, with the sum of its amounts, and the total at the
-end. A department is an unsigned number of 32 bits and an amount one of 64 bits; a plus sign may
-stand before either. A `\\r` before a line feed is dropped.
+line for each department, in ascending order of the bytes of its name, with the sum of its
+amounts, and the total at the end. A department is the text before the first comma, and an
+amount an unsigned number of 64 bits behind it; a plus sign may stand before that. A `\\r`
+before a line feed is dropped.
 
 A line that is no row, as one that is not UTF-8, is left out: standard error says why for each of the first hundred, and
 how many more there are. The status is then 1, and so it is where reading or writing fails. It is 2 where an argument is

@@ -1,42 +1,49 @@
 //! Rows, as they stand in lines.
-ghost use Rattle.std.specs.Prelude.{◌≡◌, ℕ, ◌<◌, ◌^◌, ◌++◌, codes, decimal, IfErr, IfOk};
-ghost use Rattle.program_parts.specs.Pairs.{Says, IsWrong};
-ghost use Rattle.grouped_report.specs.Words.{words};
+ghost use Rattle.std.specs.Prelude.{◌≡◌, ℕ, List, ◌<◌, ◌^◌, ◌++◌, codes, decimal, IfErr, IfOk, MatchResult};
+ghost use Rattle.std.specs.Str.{IsUtf8};
+ghost use Rattle.program_parts.specs.Pairs.{HasComma};
+ghost use Rattle.grouped_report.specs.Input.{Says, IsWrong};
 
-use crate::entry::Entry;
-use program_parts::pairs::{PairError, parse_pair};
 use std::fmt;
 
 /// What is wrong with a line.
 #[derive(Clone, Copy)]
-pub struct Problem(pub PairError);
+pub enum Problem {
+    NoText,
+    NoComma,
+    NoAmount,
+}
 
 impl fmt::Display for Problem {
-    ghost output = { λ problem. words problem.0 };
+    ghost use Rattle.grouped_report.specs.Words.{words};
+
+    ghost output = { words };
 
     fn fmt<W: fmt::Write>(&self, f: &mut fmt::Formatter<W>) -> fmt::Result {
-        match self.0 {
-            PairError::NoText => write!(f, "it is not UTF-8"),
-            PairError::NoComma => write!(f, "it has no comma"),
-            PairError::First => write!(f, "its department is no number of 32 bits"),
-            PairError::Second => write!(f, "its amount is no number of 64 bits"),
+        match self {
+            Problem::NoText => write!(f, "it is not UTF-8"),
+            Problem::NoComma => write!(f, "it has no comma"),
+            Problem::NoAmount => write!(f, "its amount is no number of 64 bits"),
         }
     }
 }
 
-/// The row that a line is: two numbers with a comma between them. Each row that is written as `department,amount` is
-/// read.
-pub fn parse_row(line: &[u8]) -> Result<Entry, Problem>
-    ensures says { IfOk result (λ row. Says line.now row.department row.amount) }
-    ensures wrong { IfErr result (λ problem. IsWrong line.now problem.0) }
-    ensures written { (d a : ℕ) → d < 2 ^ 32 → a < 2 ^ 64 → line.now ≡ decimal d ++ codes "," ++ decimal a
-        → result ≡ Ok (record { department = d; amount = a }) }
+/// The row that a line is: the department is the text before the first comma, and the amount the number after it. Each
+/// row that is written as `department,amount` is read.
+pub fn parse_row(line: &[u8]) -> Result<(&str, u64), Problem>
+    ensures says { IfOk result (λ row. Says line.now (record { department = row.0.now; amount = row.1 })) }
+    ensures wrong { IfErr result (IsWrong line.now) }
+    ensures written { (d : List ℕ) (a : ℕ) → IsUtf8 d → (HasComma d → ⊥) → a < 2 ^ 64
+        → line.now ≡ d ++ codes "," ++ decimal a → MatchResult result (λ row. (row.0.now ≡ d) × (row.1 ≡ a)) (λ _. ⊥) }
 {
-    match parse_pair(line) {
-        Ok((department, amount)) => Ok(Entry {
-            department,
-            amount: u128::from(amount),
-        }),
-        Err(error) => Err(Problem(error)),
-    }
+    let Ok(text) = str::from_utf8(line) else {
+        return Err(Problem::NoText);
+    };
+    let Some((department, amount)) = text.split_once(',') else {
+        return Err(Problem::NoComma);
+    };
+    let Ok(amount) = amount.parse::<u64>() else {
+        return Err(Problem::NoAmount);
+    };
+    Ok((department, amount))
 }

@@ -1,8 +1,7 @@
 //! Reads rows, and writes the sums of their amounts.
 ghost use Rattle.std.specs.Prelude.{◌≡◌, List, ◌++◌, IfOk, IfSome};
-ghost use Rattle.grouped_report.specs.Departments.{SaysTheSame};
+ghost use Rattle.grouped_report.specs.Departments.{Row, SaysTheSame};
 ghost use Rattle.grouped_report.specs.Runs.{AreRows, Reports};
-ghost use Rattle.grouped_report.specs.declared.entry.Entry.{Entry};
 
 use crate::output::write_report;
 use crate::row::parse_row;
@@ -27,7 +26,7 @@ pub fn report_rows<R: BufRead + Drop, W: Write, E: Write>(
         (E.contents complaints.old) (E.contents complaints.new))) }
 {
     let mut lines = Lines::new(alloc, input);
-    let mut sums = Sums::new(alloc);
+    let mut sums = Sums::new(alloc)?;
     let is_whole = read_rows(alloc, name, &mut lines, &mut sums, complaints)?;
     write_report(&sums.report(alloc)?, out)?;
     out.flush()?;
@@ -43,7 +42,7 @@ fn read_rows<R: BufRead, E: Write>(
     complaints: &mut E,
 ) -> io::Result<bool>
     requires { lines.old.number ≡ 0 }
-    ensures { IfOk result (λ is_whole. (rows : List Entry) × SaysTheSame (sums.old ++ rows) sums.new
+    ensures { IfOk result (λ is_whole. (rows : List Row) × SaysTheSame (sums.old ++ rows) sums.new
         × IfSome (R.remaining lines.old.reader) (λ bytes. AreRows name.now bytes rows is_whole
         (E.contents complaints.old) (E.contents complaints.new))) }
 {
@@ -54,7 +53,7 @@ fn read_rows<R: BufRead, E: Write>(
             return Ok(omitted.is_empty());
         }
         match parse_row(&lines.line) {
-            Ok(row) => sums.add(alloc, row)?,
+            Ok((department, amount)) => sums.add(alloc, department, amount)?,
             Err(problem) => omitted.say(complaints, lines.number, problem)?,
         }
     }

@@ -2,6 +2,7 @@ use Rattle.std.proofs.Common.{◌∷◌, [], ◌++◌, append_assoc, append-nil,
 use Rattle.program_parts.proofs.Given.{none_found, some_found}
 use Rattle.program_parts.proofs.KeptSoFar.{none_so_far, one_kept, one_left, are_read}
 use Rattle.grouped_report.specs.Runs.{SaysRow, IsNoRow}
+use Rattle.grouped_report.specs.Departments.{Row}
 use Rattle.grouped_report.specs.Words.{words}
 use Rattle.grouped_report.proofs.Reading.{same_self, same_then, same_more}
 use Rattle.grouped_report.proofs.run.read_rows.Goals as goal
@@ -33,7 +34,7 @@ loop-preserved g c =
     let counts = found.number c.if-not-branch.false in
     elim c.match-parse_row.branch [
       | in-Ok+in_ok-add-in-Ok w ↦
-          let row = w.in-Ok.row in
+          let row : Row = record { department = w.in-Ok.department.now; amount = w.in-Ok.amount } in
           let says = rw c.deref.ensures.value at w.in-Ok.ensures.says in
           let all = same_then _ _ _ (same_more (c.args.sums.now ++ rows) c.loop.sums row same) w.in_ok-add-in-Ok.ensures in
           rw (w.sums-is, w.complaints-is, w.omitted-is) (
@@ -50,6 +51,6 @@ loop-preserved g c =
             same,
             said.source ∙ named,
             one_left SaysRow IsNoRow _ words _ _ _ _ _ _ _ rows count line lines some found.line found.rest counts _
-                w.in-Err.problem.0 _ wrong said.count (rw named at said.said) said.silent,
+                w.in-Err.problem _ wrong said.count (rw named at said.said) said.silent,
           )
     ]
