@@ -1,5 +1,5 @@
 //! How many groups of each ASCII class some bytes have, with no walk along them.
-ghost use Rattle.std.specs.Prelude.{◌≡◌, ℕ, ◌+◌, ◌-◌, ◌^◌, ◌<◌, ◌≤◌, List, ◌++◌, length, slice_index_or, Option, Some};
+ghost use Rattle.std.specs.Prelude.{◌≡◌, ℕ, ◌+◌, ◌-◌, ◌^◌, ◌<◌, ◌≤◌, List, ◌++◌, length, slice_index_or, min, Option, Some};
 ghost use Rattle.std.specs.Simd.Lanes.{mask_l, chunk};
 ghost use Rattle.sgb_masks.specs.AsciiBytes.{ascii_class};
 ghost use Rattle.sgb_numbers.specs.Neighbours.{boundaries};
@@ -76,6 +76,19 @@ pub fn class_counts_add_up()
 {}
 
 impl ClassCounts {
+    /// The sums of the counts of each class, at most `usize::MAX`.
+    #[inline]
+    pub(crate) fn saturating_add(self, more: ClassCounts) -> ClassCounts
+        ensures { (k : AsciiClass) → count_of k result ≡ min (count_of k self + count_of k more) (2 ^ 64 - 1) }
+    {
+        ClassCounts {
+            letters: self.letters.saturating_add(more.letters),
+            digits: self.digits.saturating_add(more.digits),
+            spaces: self.spaces.saturating_add(more.spaces),
+            others: self.others.saturating_add(more.others),
+        }
+    }
+
     /// With a byte of the class `class` more, after one of the class `before`.
     #[inline]
     fn with_byte(self, before: Option<AsciiClass>, class: AsciiClass) -> ClassCounts

@@ -7,6 +7,7 @@ mod blocks;
 pub mod by_class;
 pub mod by_number;
 pub mod byte_classes;
+pub mod class_counter;
 pub mod class_counts;
 mod fills;
 pub mod mask_groups;
