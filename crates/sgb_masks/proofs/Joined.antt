@@ -1,8 +1,7 @@
 -- Four masks of sixteen pairs as one of sixty-four.
 use Rattle.std.proofs.Common.{◌≡◌, ℕ, suc, ◌+◌, ◌*◌, ◌^◌, ◌<◌, ◌≤◌, Bool, List, [], ◌∷◌, ◌++◌, length, take, drop}
-use Rattle.std.proofs.Common.{append_assoc, sym, ap, ◌∙◌, subst, arith}
-use Rattle.std.specs.Prelude.{reverse}
-use Rattle.std.proofs.lemmas.List.{length-reverse, reverse-append, drop-drop}
+use Rattle.std.proofs.Common.{sym, ap, ◌∙◌, subst, arith}
+use Rattle.std.proofs.lemmas.List.{drop-drop}
 use Rattle.std.proofs.Math.Seq.{take-add}
 use Rattle.std.proofs.lemmas.Simd.{length-chunk, mask_l-lt}
 use Rattle.std.specs.Simd.Lanes.{chunk, mask_l}
@@ -42,9 +41,6 @@ module _ (bs : List Bool) (at : ℕ) (room : at + 64 ≤ length bs) where
   pub small : (from : ℕ) → from + 16 ≤ length bs → mask_l (lanes from) < 65536
   small from l = mask_small (lanes from) (long from l)
 
-  pub small_back : (from : ℕ) → from + 16 ≤ length bs → mask_l (reverse (lanes from)) < 65536
-  small_back from l = mask_small (reverse (lanes from)) (length-reverse (lanes from) ∙ long from l)
-
   place : (n i j : ℕ) → i ≡ j → chunk i n bs ≡ chunk j n bs
   place n i j e = ap (λ (k : ℕ). chunk k n bs) e
 
@@ -67,48 +63,16 @@ module _ (bs : List Bool) (at : ℕ) (room : at + 64 ≤ length bs) where
       sym (ap mask_l parts ∙ four (lanes at) (lanes (at + 16)) (lanes (at + 32)) (lanes (at + 48))
       (long at (omega arith)) (long (at + 16) (omega arith)) (long (at + 32) (omega arith)))
 
-  turned_parts : (a b c d : List Bool) → reverse (a ++ (b ++ (c ++ d))) ≡ reverse d ++ (reverse c ++ (reverse b ++ reverse a))
-  turned_parts a b c d =
-      reverse-append a (b ++ (c ++ d))
-      ∙ ap (λ zs. zs ++ reverse a) (reverse-append b (c ++ d) ∙ ap (λ zs. zs ++ reverse b) (reverse-append c d))
-      ∙ append_assoc (reverse d ++ reverse c) (reverse b) (reverse a)
-      ∙ append_assoc (reverse d) (reverse c) (reverse b ++ reverse a)
-
-  long_back : (from : ℕ) → from + 16 ≤ length bs → length (reverse (lanes from)) ≡ 16
-  long_back from l = length-reverse (lanes from) ∙ long from l
-
-  pub block_mask_back : joined (mask_l (reverse (lanes (at + 48)))) (joined (mask_l (reverse (lanes (at + 32))))
-      (joined (mask_l (reverse (lanes (at + 16)))) (mask_l (reverse (lanes at)))))
-      ≡ mask_l (reverse (chunk at 64 bs))
-  block_mask_back =
-      sym (ap (λ zs. mask_l (reverse zs)) parts ∙ ap mask_l (turned_parts (lanes at) (lanes (at + 16)) (lanes (at + 32)) (lanes (at + 48)))
-      ∙ four (reverse (lanes (at + 48))) (reverse (lanes (at + 32))) (reverse (lanes (at + 16))) (reverse (lanes at))
-      (long_back (at + 48) (omega arith)) (long_back (at + 32) (omega arith)) (long_back (at + 16) (omega arith)))
-
 -- the same of four masks that are given
-module _ (bs : List Bool) (at a b c d : ℕ) (room : at + 64 ≤ length bs) where
-  module _ (e : a ≡ mask_l (chunk at 16 bs)) (f : b ≡ mask_l (chunk (at + 16) 16 bs)) (g : c ≡ mask_l (chunk (at + 32) 16 bs))
-      (h : d ≡ mask_l (chunk (at + 48) 16 bs)) where
-    pub all_small : (a < 65536) × (b < 65536) × (c < 65536) × (d < 65536)
-    all_small = (
-      omega (arith, e, small bs at room at (omega arith)),
-      omega (arith, f, small bs at room (at + 16) (omega arith)),
-      omega (arith, g, small bs at room (at + 32) (omega arith)),
-      omega (arith, h, small bs at room (at + 48) (omega arith)),
-    )
+module _ (bs : List Bool) (at a b c d : ℕ) (room : at + 64 ≤ length bs) (e : a ≡ mask_l (chunk at 16 bs))
+    (f : b ≡ mask_l (chunk (at + 16) 16 bs)) (g : c ≡ mask_l (chunk (at + 32) 16 bs)) (h : d ≡ mask_l (chunk (at + 48) 16 bs)) where
+  pub all_small : (a < 65536) × (b < 65536) × (c < 65536) × (d < 65536)
+  all_small = (
+    omega (arith, e, small bs at room at (omega arith)),
+    omega (arith, f, small bs at room (at + 16) (omega arith)),
+    omega (arith, g, small bs at room (at + 32) (omega arith)),
+    omega (arith, h, small bs at room (at + 48) (omega arith)),
+  )
 
-    pub block_is : {m : ℕ} → m ≡ a + 65536 * (b + 65536 * (c + 65536 * d)) → m ≡ mask_l (chunk at 64 bs)
-    block_is i = i ∙ rw (e, f, g, h) (block_mask bs at room)
-
-  module _ (e : a ≡ mask_l (reverse (chunk (at + 48) 16 bs))) (f : b ≡ mask_l (reverse (chunk (at + 32) 16 bs)))
-      (g : c ≡ mask_l (reverse (chunk (at + 16) 16 bs))) (h : d ≡ mask_l (reverse (chunk at 16 bs))) where
-    pub all_small_back : (a < 65536) × (b < 65536) × (c < 65536) × (d < 65536)
-    all_small_back = (
-      omega (arith, e, small_back bs at room (at + 48) (omega arith)),
-      omega (arith, f, small_back bs at room (at + 32) (omega arith)),
-      omega (arith, g, small_back bs at room (at + 16) (omega arith)),
-      omega (arith, h, small_back bs at room at (omega arith)),
-    )
-
-    pub block_back_is : {m : ℕ} → m ≡ a + 65536 * (b + 65536 * (c + 65536 * d)) → m ≡ mask_l (reverse (chunk at 64 bs))
-    block_back_is i = i ∙ rw (e, f, g, h) (block_mask_back bs at room)
+  pub block_is : {m : ℕ} → m ≡ a + 65536 * (b + 65536 * (c + 65536 * d)) → m ≡ mask_l (chunk at 64 bs)
+  block_is i = i ∙ rw (e, f, g, h) (block_mask bs at room)

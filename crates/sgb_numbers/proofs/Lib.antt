@@ -1,4 +1,5 @@
 pub mod Pairs
+pub mod Reversed
 mod Sixteen
 mod SignedBits
 pub mod Asked
