@@ -1,28 +1,12 @@
 -- What a mask of some pairs says of each.
 use Rattle.std.proofs.Common.{◌≡◌, ℕ, ◌+◌, ◌*◌, ◌^◌, ◌<◌, cond, Bool, true, false, List, length, get_or, take}
-use Rattle.std.proofs.Common.{drop-cons, inl, inr, sym, ap, ◌∙◌, subst, arith, ⊎_elim}
-use Rattle.std.proofs.lemmas.Bool.{cases_lt, cases_Bool, cond-true, cond-false, false≢true}
-use Rattle.std.proofs.lemmas.Simd.{length-chunk, get_or-chunk, bit_mask_l, mask_l-lt}
-use Rattle.std.proofs.lemmas.List.{get_or_past}
+use Rattle.std.proofs.Common.{drop-cons, sym, ap, ◌∙◌, subst, arith}
+use Rattle.std.proofs.lemmas.Simd.{length-chunk, get_or-chunk, mask_l-lt}
 use Rattle.std.specs.Int.{bit_at}
 use Rattle.std.specs.Simd.Lanes.{mask_l, chunk}
 use Rattle.sgb_numbers.specs.Neighbours.{boundaries, differs}
+use Rattle.sgb_numbers.proofs.Bits.{passed, is_set, inside}
 use Rattle.sgb_numbers.proofs.Pairs.{length-boundaries}
-
--- the bits of the mask of some tests
-module _ (bs : List Bool) where
-  marked : (i : ℕ) → bit_at (mask_l bs) i ≡ 1 → get_or bs i false ≡ true
-  marked i set =
-      elim (cases_Bool (get_or bs i false)) [
-        | inl hit ↦ hit
-        | inr miss ↦ absurd (omega (arith, set, bit_mask_l bs i, cond-false {A = ℕ} (get_or bs i false) 1 0 miss))
-      ]
-
-  marks : (i : ℕ) → get_or bs i false ≡ true → bit_at (mask_l bs) i ≡ 1
-  marks i hit = bit_mask_l bs i ∙ cond-true {A = ℕ} (get_or bs i false) 1 0 hit
-
-  inside : (i : ℕ) → get_or bs i false ≡ true → i < length bs
-  inside i hit = ⊎_elim (λ l. l) (λ past. absurd (false≢true (sym (get_or_past bs i false past) ∙ hit))) (cases_lt i (length bs))
 
 module _ {T : Type 0} (eq : T → T → Bool) (xs : List T) (at w c : ℕ) where
   -- bit j of c tells whether the pair at + j differs, for w pairs
@@ -47,10 +31,9 @@ module _ {T : Type 0} (eq : T → T → Bool) (xs : List T) (at w c : ℕ) where
       few = subst (λ (n : ℕ). c < 2 ^ n) long (omega (arith, e, mask_l-lt tests));
       sound =
           λ j set.
-          let hit = marked tests j (ap (λ (n : ℕ). bit_at n j) (sym e) ∙ set) in
-          let l : j < w = omega (arith, inside tests j hit, long) in
-          (l, sym (read j l) ∙ hit);
-      complete = λ j l hit. ap (λ (n : ℕ). bit_at n j) e ∙ marks tests j (read j l ∙ hit);
+          let l : j < w = omega (arith, inside tests c e j set, long) in
+          (l, sym (read j l) ∙ passed tests c e j set);
+      complete = λ j l hit. is_set tests c e j (read j l ∙ hit);
     }
 
 -- one pair

@@ -1,4 +1,4 @@
-use Rattle.std.proofs.Common.{arith}
+use Rattle.std.proofs.Common.{refl, arith}
 use Rattle.sgb_numbers.specs.Neighbours.{boundaries}
 use Rattle.sgb_numbers.proofs.Pairs.{length-boundaries}
 use Rattle.sgb_masks.proofs.Joined.{all_small, block_is}
@@ -7,11 +7,10 @@ use Rattle.sgb_masks.proofs.blocks.block.Goals as goal
 pub joined-requires : goal.joined-requires
 joined-requires g c =
     let bs = boundaries g.M.Masks.same c.args.slice.now in
-    all_small bs c.args.at _ _ _ _ (omega (arith, length-boundaries g.M.Masks.same c.args.slice.now, c.requires))
-    c.cuts.ensures c.cuts-2.ensures c.cuts-3.ensures c.cuts-4.ensures
+    all_small bs _ _ _ _ _ _ _ _ c.cuts.ensures c.cuts-2.ensures c.cuts-3.ensures c.cuts-4.ensures
 
 pub returns : goal.returns
 returns g c =
     let bs = boundaries g.M.Masks.same c.args.slice.now in
-    block_is bs c.args.at _ _ _ _ (omega (arith, length-boundaries g.M.Masks.same c.args.slice.now, c.requires))
-    c.cuts.ensures c.cuts-2.ensures c.cuts-3.ensures c.cuts-4.ensures c.joined.ensures
+    block_is bs _ _ _ _ _ _ _ _ c.cuts.ensures c.cuts-2.ensures c.cuts-3.ensures c.cuts-4.ensures c.args.at refl refl refl refl
+    (omega (arith, length-boundaries g.M.Masks.same c.args.slice.now, c.requires)) c.joined.ensures

@@ -3,13 +3,12 @@ use Rattle.std.specs.Simd.Lanes.{mask_l}
 use Rattle.sgb_numbers.specs.Neighbours.{boundaries}
 use Rattle.sgb_numbers.proofs.Pairs.{length-boundaries}
 use Rattle.sgb_numbers.proofs.Reversed.{chunk_reverse}
-use Rattle.sgb_masks.proofs.Turned.{mask_fits, mask_turned}
+use Rattle.sgb_masks.proofs.Joined.{few}
+use Rattle.sgb_masks.proofs.Turned.{mask_turned}
 use Rattle.sgb_masks.proofs.blocks.cuts_back.Goals as goal
 
 pub overflow_cast-cuts : goal.overflow_cast-cuts
-overflow_cast-cuts g c =
-    let bs = boundaries g.M.Masks.same c.args.slice.now in
-    mask_fits bs c.args.at _ (omega (arith, length-boundaries g.M.Masks.same c.args.slice.now, c.requires)) c.cuts.ensures
+overflow_cast-cuts g c = omega (arith, c.cuts.ensures, few (boundaries g.M.Masks.same c.args.slice.now) c.args.at 16)
 
 pub returns : goal.returns
 returns g c =

@@ -1,4 +1,4 @@
-use Rattle.std.proofs.Common.{◌≡◌, ℕ, map, not, sym, ap, ◌∙◌, arith}
+use Rattle.std.proofs.Common.{◌≡◌, ℕ, map, not, refl, sym, ap, ◌∙◌, arith}
 use Rattle.std.proofs.lemmas.List.{length-map}
 use Rattle.std.specs.Simd.Lanes.{mask_l, chunk}
 use Rattle.sgb_masks.proofs.OneByOne.{map-chunk}
@@ -10,7 +10,7 @@ joined-requires g c =
     let xs = c.args.slice.now in
     let test = λ (y : g.row.T.Denot). not (g.M.Masks.same y c.args.one.now) in
     let part = λ (m at : ℕ) (e : m ≡ mask_l (map test (chunk at 16 xs))). e ∙ ap mask_l (sym (map-chunk test at 16 xs)) in
-    all_small (map test xs) c.args.at _ _ _ _ (omega (arith, length-map xs test, c.requires))
+    all_small (map test xs) _ _ _ _ _ _ _ _
     (part _ _ c.unlike.ensures) (part _ _ c.unlike-2.ensures) (part _ _ c.unlike-3.ensures) (part _ _ c.unlike-4.ensures)
 
 pub returns : goal.returns
@@ -18,6 +18,7 @@ returns g c =
     let xs = c.args.slice.now in
     let test = λ (y : g.row.T.Denot). not (g.M.Masks.same y c.args.one.now) in
     let part = λ (m at : ℕ) (e : m ≡ mask_l (map test (chunk at 16 xs))). e ∙ ap mask_l (sym (map-chunk test at 16 xs)) in
-    block_is (map test xs) c.args.at _ _ _ _ (omega (arith, length-map xs test, c.requires))
-    (part _ _ c.unlike.ensures) (part _ _ c.unlike-2.ensures) (part _ _ c.unlike-3.ensures) (part _ _ c.unlike-4.ensures) c.joined.ensures
+    block_is (map test xs) _ _ _ _ _ _ _ _
+    (part _ _ c.unlike.ensures) (part _ _ c.unlike-2.ensures) (part _ _ c.unlike-3.ensures) (part _ _ c.unlike-4.ensures)
+    c.args.at refl refl refl refl (omega (arith, length-map xs test, c.requires)) c.joined.ensures
     ∙ ap mask_l (map-chunk test c.args.at 64 xs)
