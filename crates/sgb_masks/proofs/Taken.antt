@@ -69,38 +69,14 @@ module _ {T J : Type 0} (eq : T → T → Bool) (g : Ghosts J T) (j : J) (asks :
 
 -- what it keeps of itself is known in one way alone
 module _ {T J : Type 0} {P : masks.Ghosts J T} (s : MaskGroups T J P) where
-  abbrev again : s.low ≤ s.high → s.high ≤ length s.slice.now → FrontMask P.same s.slice.now s.low s.front s.known
-      → BackMask P.same s.slice.now s.high s.back s.base → MaskGroups T J P
-  again o n f b = record {
-    slice = s.slice;
-    judge = s.judge;
-    low = s.low;
-    high = s.high;
-    front = s.front;
-    known = s.known;
-    back = s.back;
-    base = s.base;
-    order = o;
-    inside = n;
-    front_mask = f;
-    back_mask = b;
-  }
+  abbrev Kept : Type 0
+  Kept = (s.low ≤ s.high) × (s.high ≤ length s.slice.now) × FrontMask P.same s.slice.now s.low s.front s.known
+      × BackMask P.same s.slice.now s.high s.back s.base
 
-  order_known : IsProp (s.low ≤ s.high)
-  order_known = hlevel props
+  one_way : IsProp Kept
+  one_way = hlevel props
 
-  inside_known : IsProp (s.high ≤ length s.slice.now)
-  inside_known = hlevel props
-
-  front_known : IsProp (FrontMask P.same s.slice.now s.low s.front s.known)
-  front_known = hlevel props
-
-  back_known : IsProp (BackMask P.same s.slice.now s.high s.back s.base)
-  back_known = hlevel props
-
-  pub same_again : (o : s.low ≤ s.high) (n : s.high ≤ length s.slice.now) (f : FrontMask P.same s.slice.now s.low s.front s.known)
-      (b : BackMask P.same s.slice.now s.high s.back s.base) → again o n f b ≡ s
-  same_again o n f b =
-      ap (λ x. again x n f b) (order_known o s.order) ∙ ap (λ x. again s.order x f b) (inside_known n s.inside)
-      ∙ ap (λ x. again s.order s.inside x b) (front_known f s.front_mask)
-      ∙ ap (λ x. again s.order s.inside s.front_mask x) (back_known b s.back_mask)
+  pub same_again : (k : Kept) → record s { order = k.0; inside = k.1; front_mask = k.2; back_mask = k.3 } ≡ s
+  same_again k =
+      ap (λ (k : Kept). record s { order = k.0; inside = k.1; front_mask = k.2; back_mask = k.3 })
+      (one_way k (s.order, s.inside, s.front_mask, s.back_mask))

@@ -5,7 +5,7 @@ use Rattle.sgb_masks.proofs.mask_groups.MaskGroups.next_back_far.Goals as goal
 pub returns-then-self-high : goal.returns-then-self-high
 returns-then-self-high g c =
     let s = c.args.self.now in
-    (range_empty s.slice.now s.low s.high c.if-self-high.true, same_again s _ _ _ _)
+    (range_empty s.slice.now s.low s.high c.if-self-high.true, same_again s _)
 
 pub returns : goal.returns
 returns g c =
