@@ -1,10 +1,7 @@
 use Rattle.std.proofs.Common.{sym, ◌∙◌, arith}
 use Rattle.std.proofs.lemmas.List.{length-reverse}
-use Rattle.sgb_masks.proofs.Known.{front_none, front_wider, front_block}
+use Rattle.sgb_masks.proofs.Known.{front_wider, front_block}
 use Rattle.sgb_masks.proofs.fills.mask_before.Goals as goal
-
-pub loop-at-init : goal.loop-at-init
-loop-at-init g c = record { after = omega arith; before = omega arith; none = front_none (omega arith) }
 
 pub returns-then-mask-ne0-2-clause-mask : goal.returns-then-mask-ne0-2-clause-mask
 returns-then-mask-ne0-2-clause-mask g c =
@@ -23,6 +20,3 @@ loop-at-preserved g c =
 
 pub returns-clause-mask : goal.returns-clause-mask
 returns-clause-mask g c = front_wider c.loop-at.invariant.none c.rest_mask_before.ensures.mask (omega arith) (omega arith)
-
-pub grown_back-mask-requires-clause-mask : goal.grown_back-mask-requires-clause-mask
-grown_back-mask-requires-clause-mask g c = front_none (omega arith)

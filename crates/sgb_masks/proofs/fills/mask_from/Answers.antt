@@ -1,9 +1,6 @@
 use Rattle.std.proofs.Common.{refl, sym, ◌∙◌, arith}
-use Rattle.sgb_masks.proofs.Known.{front_none, front_wider, front_block}
+use Rattle.sgb_masks.proofs.Known.{front_wider, front_block}
 use Rattle.sgb_masks.proofs.fills.mask_from.Goals as goal
-
-pub loop-at-init : goal.loop-at-init
-loop-at-init g c = record { after = omega arith; before = omega arith; none = front_none (omega arith) }
 
 pub returns-then-mask-ne0-2-clause-mask : goal.returns-then-mask-ne0-2-clause-mask
 returns-then-mask-ne0-2-clause-mask g c =
@@ -22,9 +19,3 @@ loop-at-preserved g c =
 
 pub returns-clause-mask : goal.returns-clause-mask
 returns-clause-mask g c = front_wider c.loop-at.invariant.none c.rest_mask_from.ensures.mask c.loop-at.invariant.after (omega arith)
-
-pub grown-mask-requires-clause-mask : goal.grown-mask-requires-clause-mask
-grown-mask-requires-clause-mask g c = front_none (omega arith)
-
-pub returns-then-mask-ne0-clause-mask : goal.returns-then-mask-ne0-clause-mask
-returns-then-mask-ne0-clause-mask g c = rw c.if-from-eq0.true c.grown-mask.ensures

@@ -1,13 +1,7 @@
 use Rattle.std.proofs.Common.{refl, ◌∙◌, arith}
-use Rattle.sgb_masks.proofs.Known.{front_none, front_grown}
+use Rattle.sgb_masks.proofs.Known.{front_grown}
 use Rattle.sgb_masks.proofs.Marks.{mask_one}
 use Rattle.sgb_masks.proofs.fills.rest_mask_from.Goals as goal
-
-pub loop-at-init : goal.loop-at-init
-loop-at-init g c = record { after = omega arith; before = omega arith; mask = front_none (omega arith) }
-
-pub loop-at-preserved : goal.loop-at-preserved
-loop-at-preserved g c = record { after = omega arith; before = omega arith; mask = c.grown-mask.ensures }
 
 pub loop-at-2-preserved : goal.loop-at-2-preserved
 loop-at-2-preserved g c =
