@@ -26,10 +26,11 @@ module _ (bs : List Bool) where
   with_next : (at next n : ℕ) → next ≡ at + 16 → next ≤ length bs
       → mask_l (chunk at (16 + n) bs) ≡ mask_l (chunk at 16 bs) + 65536 * mask_l (chunk next n bs)
   with_next at next n e room =
-      let rest = ap (take n) (drop-drop 16 at bs ∙ ap (λ (i : ℕ). drop i bs) (sym e)) in
-      ap mask_l (take-add 16 n (drop at bs)) ∙ mask_l-append (chunk at 16 bs) (take n (drop 16 (drop at bs)))
-      ∙ ap (λ (k : ℕ). mask_l (chunk at 16 bs) + 2 ^ k * mask_l (take n (drop 16 (drop at bs)))) (length-chunk at 16 bs (omega (arith, e, room)))
-      ∙ ap (λ ys. mask_l (chunk at 16 bs) + 65536 * mask_l ys) rest
+      let lanes = chunk at 16 bs in
+      let rest = take n (drop 16 (drop at bs)) in
+      ap mask_l (take-add 16 n (drop at bs)) ∙ mask_l-append lanes rest
+      ∙ ap (λ (k : ℕ). mask_l lanes + 2 ^ k * mask_l rest) (length-chunk at 16 bs (omega (arith, e, room)))
+      ∙ ap (λ ys. mask_l lanes + 65536 * mask_l (take n ys)) (drop-drop 16 at bs ∙ ap (λ (i : ℕ). drop i bs) (sym e))
 
   module _ (h i j k a b c d : ℕ) (e : a ≡ mask_l (chunk h 16 bs)) (f : b ≡ mask_l (chunk i 16 bs)) (g : c ≡ mask_l (chunk j 16 bs))
       (l : d ≡ mask_l (chunk k 16 bs)) where

@@ -1,37 +1,37 @@
 -- What masks of boundaries tell, and how they grow and shrink. Those from the back are masks of the reversed list.
-use Rattle.std.proofs.Common.{◌≡◌, ℕ, ◌+◌, ◌-◌, ◌^◌, ◌<◌, ◌≤◌, max, Bool, true, List, length, sym, ap, ◌∙◌, arith, ⊎_elim}
-use Rattle.std.proofs.lemmas.Bool.{cases_lt, false_from_ne_true, false≢true}
+use Rattle.std.proofs.Common.{refl, subst, ◌≡◌, ℕ, ◌+◌, ◌-◌, ◌^◌, ◌<◌, ◌≤◌, max, Bool, List, length, sym, ap, ◌∙◌, arith, ⊎_elim}
+use Rattle.std.proofs.lemmas.Bool.{cases_lt, cond-true, false_from_ne_true, false≢true}
 use Rattle.std.proofs.lemmas.Nat.Bits.{bit_at-zero}
 use Rattle.std.specs.Int.{bit_at}
 use Rattle.std.specs.Simd.Lanes.{mask_l, chunk}
 use Rattle.sgb_numbers.specs.Neighbours.{boundaries, differs, AreSame}
+use Rattle.sgb_numbers.proofs.Scanned.{is_cut}
 use Rattle.sgb_masks.specs.Masks.{FrontMask}
 use Rattle.sgb_masks.proofs.Lowest.{lowest, lowest_below, lowest_set, below_clear, rest, rest_above, rest_set}
-use Rattle.sgb_masks.proofs.Pushed.{pushed, pushed_low, pushed_high}
-use Rattle.sgb_masks.proofs.Marks.{Marks, marks_of}
+use Rattle.sgb_masks.proofs.Pushed.{pushed, pushed_is, pushed_low, pushed_high}
+use Rattle.sgb_masks.proofs.Marks.{Marks, marks_of, mask_one}
 
-module _ {T : Type 0} (eq : T → T → Bool) (xs : List T) where
-  abbrev pub is_cut : ℕ → Type 0
-  is_cut p = differs eq xs p ≡ true
-
-  pub moved : (i j : ℕ) → i ≡ j → is_cut i → is_cut j
-  moved i j e cut = ap (differs eq xs) (sym e) ∙ cut
+moved : {T : Type 0} (eq : T → T → Bool) (xs : List T) (i j : ℕ) → i ≡ j → is_cut eq xs i → is_cut eq xs j
+moved eq xs i j e cut = ap (differs eq xs) (sym e) ∙ cut
 
 moved_bit : (m i j : ℕ) → i ≡ j → bit_at m i ≡ 1 → bit_at m j ≡ 1
 moved_bit m i j e set = ap (bit_at m) (sym e) ∙ set
 
 module _ {T : Type 0} {eq : T → T → Bool} {xs : List T} where
-  pub never : {i j : ℕ} (p : ℕ) → AreSame eq xs i j → i ≤ p → p < j → is_cut eq xs p → ⊥
+  never : {i j : ℕ} (p : ℕ) → AreSame eq xs i j → i ≤ p → p < j → is_cut eq xs p → ⊥
   never p s a b cut = false≢true (sym (s.at p a b) ∙ cut)
 
   same_unless : {i j : ℕ} → ((p : ℕ) → i ≤ p → p < j → is_cut eq xs p → ⊥) → AreSame eq xs i j
   same_unless h = record { at = λ p a b. false_from_ne_true (differs eq xs p) (h p a b) }
 
-  pub front_none : {low known : ℕ} → known ≤ low → FrontMask eq xs low 0 known
-  front_none l = record {
+  pub front_bare : {low known i j : ℕ} → AreSame eq xs i j → i ≤ low → known ≤ j → FrontMask eq xs low 0 known
+  front_bare same a b = record {
     sound = λ k set. absurd (omega (arith, set, bit_at-zero k));
-    complete = λ p a b cut. absurd (omega (arith, l, a, b));
+    complete = λ p l u cut. absurd (never p same (omega (arith, a, l)) (omega (arith, u, b)) cut);
   }
+
+  front_none : {low known : ℕ} → known ≤ low → FrontMask eq xs low 0 known
+  front_none {low} l = front_bare {i = low} {j = low} (same_unless (λ p a b cut. absurd (omega arith))) (omega arith) l
 
   pub front_same : {low m known : ℕ} → m ≡ 0 → FrontMask eq xs low m known → AreSame eq xs low known
   front_same {low} {m} {known} none mask =
@@ -42,27 +42,13 @@ module _ {T : Type 0} {eq : T → T → Bool} {xs : List T} where
   -- after pairs that do not differ
   pub front_wider : {low mid from m known : ℕ} → FrontMask eq xs low 0 mid → FrontMask eq xs from m known → low ≤ from → from ≤ max low mid
       → FrontMask eq xs low m known
-  front_wider {mid} {from} none mask l u = record {
+  front_wider {from = from} none mask l u = record {
     sound = λ k set. let s = mask.sound k set in (omega (arith, s.0, l), s.1);
     complete =
         λ p a b cut. ⊎_elim
-        (λ before. let s = none.complete p a (omega (arith, before, u)) cut in absurd (omega (arith, s.1, bit_at-zero (p + 64 - mid))))
+        (λ before. absurd (never p (front_same refl none) a (omega (arith, before, u)) cut))
         (λ after. mask.complete p after b cut) (cases_lt p from);
   }
-
-  pub front_block : {at m known : ℕ} → known ≡ at + 64 → known < length xs → m ≡ mask_l (chunk at 64 (boundaries eq xs))
-      → FrontMask eq xs at m known
-  front_block {at} {m} {known} e room is =
-      let marks = marks_of eq xs at 64 m (omega (arith, e, room)) is in
-      record {
-        sound = λ k set. (omega (arith, e), moved eq xs (at + k) (known + k - 64) (omega (arith, e)) (marks.sound k set).1);
-        complete =
-            λ p a b cut. (
-              omega (arith, a, e),
-              moved_bit m (p - at) (p + 64 - known) (omega (arith, e))
-                  (marks.complete (p - at) (omega (arith, a, b, e)) (moved eq xs p (at + (p - at)) (omega (arith, a)) cut)),
-            );
-      }
 
   -- w pairs more
   module _ {low m known c next : ℕ} (w v : ℕ) (all : w + v ≡ 64) (small : m < 2 ^ 64) (after : low ≤ known) (more : next ≡ known + w)
@@ -103,6 +89,25 @@ module _ {T : Type 0} {eq : T → T → Bool} {xs : List T} where
 
     pub front_grown : FrontMask eq xs low grown next
     front_grown = record { sound = grown_sound; complete = grown_complete }
+
+  pub front_block : {at m known : ℕ} → known ≡ at + 64 → known < length xs → m ≡ mask_l (chunk at 64 (boundaries eq xs))
+      → FrontMask eq xs at m known
+  front_block {at} {m} {known} e room is =
+      let few = (marks_of eq xs at 64 m (omega (arith, e, room)) is).few in
+      let all : pushed 64 0 0 m refl (omega arith) few ≡ m = omega (arith, pushed_is 64 0 0 m refl (omega arith) few) in
+      subst (λ (n : ℕ). FrontMask eq xs at n known) all
+      (front_grown 64 0 refl (omega arith) (omega arith) e (omega (arith, e)) room (front_none (omega arith)) is)
+
+  -- the pair j is the first that differs
+  pub front_top : {low known i j : ℕ} → AreSame eq xs i j → is_cut eq xs j → i ≤ low → known ≡ j + 1 → low < known → known < length xs
+      → FrontMask eq xs low (2 ^ 63) known
+  front_top {low} {known} {i} {j} same cut a b some room =
+      let one : 1 ≡ mask_l (chunk j 1 (boundaries eq xs)) =
+      sym (cond-true {A = ℕ} (differs eq xs j) 1 0 cut) ∙ mask_one eq xs j (omega (arith, b, room)) in
+      let none : FrontMask eq xs j 0 j = front_none (omega arith) in
+      let bare : FrontMask eq xs low 0 j = front_bare same a (omega arith) in
+      front_wider bare (front_grown 1 63 refl (omega arith) (omega arith) b (omega (arith, b)) room none one)
+      (omega (arith, some, b)) (omega arith)
 
   -- its lowest bit, which tells where the first group ends
   module _ {low m known : ℕ} (some : 0 < m) (small : m < 2 ^ 64) (mask : FrontMask eq xs low m known) where

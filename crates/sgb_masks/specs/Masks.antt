@@ -10,7 +10,7 @@ module _ {T : Type 0} (eq : T → T → Bool) where
     pub sound : (k : ℕ) → bit_at m k ≡ 1 → (low + 64 ≤ known + k) × (differs eq xs (known + k - 64) ≡ true)
     pub complete : (p : ℕ) → low ≤ p → p < known → differs eq xs p ≡ true → (known ≤ p + 64) × (bit_at m (p + 64 - known) ≡ 1)
 
-  -- the pairs from base on, of elements before the place high, from the last on: those of the reversed list, in which the pair p of n elements
-  -- is the pair n - 2 - p. Bit k of m is that of the pair base + 63 - k
+  -- the pairs from base on, of elements before the place high, from the last on: those of the reversed list, where pair p of n elements is
+  -- pair n - 2 - p. Bit k of m is that of the pair base + 63 - k
   abbrev pub BackMask : List T → ℕ → ℕ → ℕ → Type 0
   BackMask xs high m base = FrontMask (reverse xs) (length xs - high) m (length xs - 1 - base)

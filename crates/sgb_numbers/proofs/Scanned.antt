@@ -14,7 +14,7 @@ use Rattle.sgb_numbers.proofs.Reversed.{at_reverse, like_reverse, differs_revers
 use Rattle.sgb_numbers.proofs.Asked.{asked_front, asked_back}
 
 module _ {T : Type 0} (eq : T → T → Bool) (xs : List T) where
-  abbrev is_cut : ℕ → Type 0
+  abbrev pub is_cut : ℕ → Type 0
   is_cut p = differs eq xs p ≡ true
 
   module _ (laws : IsPartialEquivalence eq) (e : T) where

@@ -1,5 +1,6 @@
 use Rattle.std.proofs.Common.{arith}
-use Rattle.sgb_masks.proofs.OneBit.{front_top, front_bare}
+use Rattle.std.proofs.lemmas.List.{length-reverse}
+use Rattle.sgb_masks.proofs.Known.{front_top, front_bare}
 use Rattle.sgb_numbers.proofs.Scanned.{scanned_back_same, scanned_back_cut}
 use Rattle.sgb_masks.proofs.fills.scan_back.Goals as goal
 
@@ -12,7 +13,7 @@ returns-then-low-start-clause-mask g c =
     let e = c.index-slice-upto in
     front_top (scanned_back_same eq xs laws e.result s.result c.args.upto e.is s.ensures.high (omega arith) s.ensures.like)
     (scanned_back_cut eq xs laws e.result s.result c.args.upto e.is s.ensures.high (omega arith) s.ensures.like (omega arith)
-    (s.ensures.unlike c.if-low-start.true)) (omega arith) (omega arith) (omega arith)
+    (s.ensures.unlike c.if-low-start.true)) (omega arith) (omega arith) (omega arith) (omega (arith, length-reverse xs))
 
 pub returns-else-low-start-clause-mask : goal.returns-else-low-start-clause-mask
 returns-else-low-start-clause-mask g c =

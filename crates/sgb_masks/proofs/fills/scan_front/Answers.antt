@@ -1,5 +1,5 @@
 use Rattle.std.proofs.Common.{arith}
-use Rattle.sgb_masks.proofs.OneBit.{front_top, front_bare}
+use Rattle.sgb_masks.proofs.Known.{front_top, front_bare}
 use Rattle.sgb_numbers.proofs.Scanned.{scanned_same, scanned_cut}
 use Rattle.sgb_masks.proofs.fills.scan_front.Goals as goal
 
@@ -12,7 +12,7 @@ returns-then-end-high-clause-mask g c =
     let e = c.index-slice-from in
     front_top (scanned_same eq xs laws e.result c.args.from s.result e.is s.ensures.low (omega arith) s.ensures.like)
     (scanned_cut eq xs laws e.result c.args.from s.result e.is s.ensures.low (omega arith) s.ensures.like (omega arith)
-    (s.ensures.unlike c.if-end-high.true)) (omega arith) (omega arith) (omega arith)
+    (s.ensures.unlike c.if-end-high.true)) (omega arith) (omega arith) (omega arith) (omega arith)
 
 pub returns-else-end-high-clause-mask : goal.returns-else-end-high-clause-mask
 returns-else-end-high-clause-mask g c =
