@@ -1,7 +1,8 @@
 -- The mask of two vectors of neighbours.
-use Rattle.std.proofs.Common.{◌≡◌, ℕ, zero, suc, ◌+◌, ◌-◌, ◌%◌, ◌^◌, ◌<◌, not, cond, Bool, List, [], ◌∷◌, length, map, take, drop, refl, sym, ap, ◌∙◌, arith}
+use Rattle.std.proofs.Common.{◌≡◌, ℕ, zero, suc, ◌+◌, ◌-◌, ◌%◌, ◌^◌, ◌<◌, ◌≤◌, not, cond, Bool, List, [], ◌∷◌, length, map, take, drop, refl, sym, ap, ◌∙◌, arith}
 use Rattle.std.proofs.lemmas.List.{drop-drop}
-use Rattle.std.proofs.lemmas.Simd.{length-chunk, length-zip2, tops_compared, mask_l-mod}
+use Rattle.std.proofs.lemmas.Simd.{length-chunk, length-zip2, tops_compared, mask_l-mod, bitmask_splat}
+use Rattle.std.specs.Prelude.{replicate}
 use Rattle.std.specs.Int.{Width}
 use Rattle.std.specs.Simd.Lanes.{zip2, chunk, mask_l, top}
 use mir.Val.{bits, hbits}
@@ -66,3 +67,8 @@ module _ {X : Type 0} (w : Width) (eq : X → X → Bool) (xs : List X) (at : �
 
   pub mask_is : lanes_mask w (unequal eq) first_of second_of ≡ mask_l (chunk at 16 (boundaries eq xs))
   mask_is = mask_of w (unequal eq) first_of second_of long_first long_second ∙ ap mask_l (sym (boundaries-chunk eq at 16 xs))
+
+-- and one number in each lane
+pub unlike_is : {X : Type 0} (w : Width) (eq : X → X → Bool) (xs : List X) (at : ℕ) (y : X) → at + 16 ≤ length xs
+    → lanes_mask w (unequal eq) (chunk at 16 xs) (replicate 16 y) ≡ mask_l (map (λ x. not (eq x y)) (chunk at 16 xs))
+unlike_is w eq xs at y room = bitmask_splat w (unequal eq) (chunk at 16 xs) 16 y (length-chunk at 16 xs room) (omega arith)
