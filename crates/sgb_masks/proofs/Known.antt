@@ -102,8 +102,7 @@ module _ {T : Type 0} {eq : T → T → Bool} {xs : List T} where
   pub front_top : {low known i j : ℕ} → AreSame eq xs i j → is_cut eq xs j → i ≤ low → known ≡ j + 1 → low < known → known < length xs
       → FrontMask eq xs low (2 ^ 63) known
   front_top {low} {known} {i} {j} same cut a b some room =
-      let one : 1 ≡ mask_l (chunk j 1 (boundaries eq xs)) =
-      sym (cond-true {A = ℕ} (differs eq xs j) 1 0 cut) ∙ mask_one eq xs j (omega (arith, b, room)) in
+      let one = mask_one eq xs j 1 (omega (arith, b, room)) (sym (cond-true {A = ℕ} (differs eq xs j) 1 0 cut)) in
       let none : FrontMask eq xs j 0 j = front_none (omega arith) in
       let bare : FrontMask eq xs low 0 j = front_bare same a (omega arith) in
       front_wider bare (front_grown 1 63 refl (omega arith) (omega arith) b (omega (arith, b)) room none one)

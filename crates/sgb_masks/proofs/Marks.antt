@@ -1,5 +1,5 @@
 -- What a mask of some pairs says of each.
-use Rattle.std.proofs.Common.{◌≡◌, ℕ, ◌+◌, ◌*◌, ◌^◌, ◌<◌, cond, Bool, true, false, List, length, get_or, take}
+use Rattle.std.proofs.Common.{◌≡◌, ℕ, ◌+◌, ◌^◌, ◌<◌, cond, Bool, true, false, List, length, get_or, take}
 use Rattle.std.proofs.Common.{drop-cons, sym, ap, ◌∙◌, subst, arith}
 use Rattle.std.proofs.lemmas.Simd.{length-chunk, get_or-chunk, mask_l-lt}
 use Rattle.std.specs.Int.{bit_at}
@@ -37,12 +37,9 @@ module _ {T : Type 0} (eq : T → T → Bool) (xs : List T) (at w c : ℕ) where
     }
 
 -- one pair
-pub mask_one : {T : Type 0} (eq : T → T → Bool) (xs : List T) (at : ℕ) → at + 1 < length xs
-    → cond (differs eq xs at) 1 0 ≡ mask_l (chunk at 1 (boundaries eq xs))
+pub mask_one : {T : Type 0} (eq : T → T → Bool) (xs : List T) (at c : ℕ) → at + 1 < length xs → c ≡ cond (differs eq xs at) 1 0
+    → c ≡ mask_l (chunk at 1 (boundaries eq xs))
 unfolding differs
-mask_one eq xs at l =
-    sum (cond (differs eq xs at) 1 0)
-    ∙ ap mask_l (sym (ap (take 1) (drop-cons (boundaries eq xs) at false (omega (arith, l, length-boundaries eq xs)))))
-  where
-    sum : (n : ℕ) → n ≡ n + 2 * 0
-    sum n = omega arith
+mask_one eq xs at c l e =
+    let first = drop-cons (boundaries eq xs) at false (omega (arith, l, length-boundaries eq xs)) in
+    omega (arith, e, ap (λ bs. mask_l (take 1 bs)) first)

@@ -1,5 +1,5 @@
 -- A group cut off an end of what remains is what a linear call gives.
-use Rattle.std.proofs.Common.{◌≡◌, ℕ, ◌+◌, ◌-◌, ◌<◌, ◌≤◌, Bool, List, [], ◌++◌, length, take, drop, sym, ap, ◌∙◌, subst, arith}
+use Rattle.std.proofs.Common.{◌≡◌, ℕ, ◌+◌, ◌-◌, ◌≤◌, Bool, List, [], ◌++◌, length, take, drop, sym, ap, ◌∙◌, subst, arith}
 use Rattle.std.specs.Prelude.{slice_range}
 use Rattle.std.proofs.lemmas.List.{drop-drop}
 use Rattle.std.proofs.Math.Seq.{take-add}
@@ -39,8 +39,7 @@ module _ {T : Type 0} (eq : T → T → Bool) (xs : List T) (low high : ℕ) (in
 
 -- a judge that answers what eq says
 module _ {T J : Type 0} (eq : T → T → Bool) (g : Ghosts J T) (j : J) (asks : (q : T × T) → g.may_ask j q)
-    (tells : (q : T × T) → g.answers j q (eq q.0 q.1) j) (xs : List T) (low high : ℕ) (nonempty : low < high)
-    (inside : high ≤ length xs) where
+    (tells : (q : T × T) → g.answers j q (eq q.0 q.1) j) (xs : List T) (low high : ℕ) (inside : high ≤ length xs) where
   pub front_call : (end : ℕ) → IsFirstEnd eq xs low high end
       → IsGroupAt (LinearQuestions g) Front (record { remainder = slice_range xs low high; judge = j }) (slice_range xs low end)
       (record { remainder = slice_range xs end high; judge = j })
@@ -51,7 +50,7 @@ module _ {T J : Type 0} (eq : T → T → Bool) (g : Ghosts J T) (j : J) (asks :
         cut = range_split xs low end high (omega (arith, is.nonempty)) is.within;
         asked =
             subst (λ (n : ℕ). IsRun g.may_ask g.answers j (questions Front (slice_range xs low high) n) j) (sym long)
-            (asked_front eq g j asks tells xs low high nonempty inside end is);
+            (asked_front eq g j asks tells xs low high (omega (arith, is.nonempty, is.within)) inside end is);
       }
 
   pub back_call : (start : ℕ) → IsLastStart eq xs low high start
@@ -64,7 +63,7 @@ module _ {T J : Type 0} (eq : T → T → Bool) (g : Ghosts J T) (j : J) (asks :
         cut = range_split xs low start high is.within (omega (arith, is.nonempty));
         asked =
             subst (λ (n : ℕ). IsRun g.may_ask g.answers j (questions Back (slice_range xs low high) n) j) (sym long)
-            (asked_back eq g j asks tells xs low high nonempty inside start is);
+            (asked_back eq g j asks tells xs low high (omega (arith, is.nonempty, is.within)) inside start is);
       }
 
 -- what it keeps of itself is known in one way alone

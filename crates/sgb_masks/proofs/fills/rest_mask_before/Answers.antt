@@ -1,4 +1,4 @@
-use Rattle.std.proofs.Common.{◌-◌, cond, length, refl, ap, ◌∙◌, sym, arith}
+use Rattle.std.proofs.Common.{◌-◌, length, refl, arith}
 use Rattle.std.specs.Prelude.{reverse}
 use Rattle.std.proofs.lemmas.List.{length-reverse}
 use Rattle.sgb_numbers.proofs.Reversed.{differs_reverse}
@@ -16,6 +16,5 @@ loop-at-2-preserved g c =
       after = omega arith;
       before = omega arith;
       mask = front_grown 1 63 refl l.auto.mask-fits.fits (omega arith) (omega arith) (omega arith) (omega (arith, length-reverse xs))
-          l.invariant.mask (c.cut.ensures ∙ ap (λ b. cond b 1 0) (sym turned)
-          ∙ mask_one eq (reverse xs) (length xs - 1 - l.at) (omega (arith, length-reverse xs)));
+          l.invariant.mask (mask_one eq (reverse xs) (length xs - 1 - l.at) _ (omega (arith, length-reverse xs)) (rw turned c.cut.ensures));
     }

@@ -1,4 +1,4 @@
-use Rattle.std.proofs.Common.{refl, ◌∙◌, arith}
+use Rattle.std.proofs.Common.{refl, arith}
 use Rattle.sgb_masks.proofs.Known.{front_grown}
 use Rattle.sgb_masks.proofs.Marks.{mask_one}
 use Rattle.sgb_masks.proofs.fills.rest_mask_from.Goals as goal
@@ -10,5 +10,5 @@ loop-at-2-preserved g c =
       after = omega arith;
       before = omega arith;
       mask = front_grown 1 63 refl l.auto.mask-fits.fits l.invariant.after refl (omega arith) (omega arith) l.invariant.mask
-          (c.cut.ensures ∙ mask_one g.M.Masks.same c.args.slice.now l.at (omega arith));
+          (mask_one g.M.Masks.same c.args.slice.now l.at _ (omega arith) c.cut.ensures);
     }

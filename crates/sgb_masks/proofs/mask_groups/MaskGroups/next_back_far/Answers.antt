@@ -13,6 +13,6 @@ returns g c =
     record {
       call =
           back_call g.J.Masks.same g.J.Judge s.judge (g.met.J.MaskJudge.asks s.judge) (g.met.J.MaskJudge.tells s.judge)
-          s.slice.now s.low s.high c.if-self-high.false s.inside _ c.far_back-back.ensures.start;
+          s.slice.now s.low s.high s.inside _ c.far_back-back.ensures.start;
       place = refl;
     }

@@ -13,6 +13,6 @@ returns g c =
     record {
       call =
           front_call g.J.Masks.same g.J.Judge s.judge (g.met.J.MaskJudge.asks s.judge) (g.met.J.MaskJudge.tells s.judge)
-          s.slice.now s.low s.high c.if-low-self.false s.inside _ is;
+          s.slice.now s.low s.high s.inside _ is;
       place = front_place g.J.Masks.same s.slice.now s.low s.high s.inside _ is;
     }
