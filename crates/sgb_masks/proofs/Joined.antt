@@ -32,6 +32,7 @@ module _ (bs : List Bool) where
       ∙ ap (λ (k : ℕ). mask_l lanes + 2 ^ k * mask_l rest) (length-chunk at 16 bs (omega (arith, e, room)))
       ∙ ap (λ ys. mask_l lanes + 65536 * mask_l (take n ys)) (drop-drop 16 at bs ∙ ap (λ (i : ℕ). drop i bs) (sym e))
 
+  -- the masks a, b, c and d of sixteen each, from the places h, i, j and k on
   module _ (h i j k a b c d : ℕ) (e : a ≡ mask_l (chunk h 16 bs)) (f : b ≡ mask_l (chunk i 16 bs)) (g : c ≡ mask_l (chunk j 16 bs))
       (l : d ≡ mask_l (chunk k 16 bs)) where
     pub all_small : (a < 65536) × (b < 65536) × (c < 65536) × (d < 65536)
