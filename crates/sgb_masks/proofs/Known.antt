@@ -60,35 +60,33 @@ module _ {T : Type 0} {eq : T → T → Bool} {xs : List T} where
     abbrev grown : ℕ
     grown = pushed w v m c all small marks.few
 
-    grown_sound : (k : ℕ) → bit_at grown k ≡ 1 → (low + 64 ≤ next + k) × is_cut eq xs (next + k - 64)
-    grown_sound k set =
-        ⊎_elim
-        (λ l.
-        let s = mask.sound (w + k) (sym (pushed_low w v m c all small marks.few k l) ∙ set) in
-        (omega (arith, s.0, more), moved eq xs (known + (w + k) - 64) (next + k - 64) (omega (arith, more)) s.1))
-        (λ l.
-        let s = marks.sound (k - v) (sym (pushed_high w v m c all small marks.few k l) ∙ set) in
-        (omega (arith, after, l, all, more), moved eq xs (known + (k - v)) (next + k - 64) (omega (arith, l, all, more)) s.1))
-        (cases_lt k v)
-
-    grown_complete : (p : ℕ) → low ≤ p → p < next → is_cut eq xs p → (next ≤ p + 64) × (bit_at grown (p + 64 - next) ≡ 1)
-    grown_complete p a b cut =
-        let here : next ≤ p + 64 = omega (arith, a, fits) in (
-          here,
-          ⊎_elim
-              (λ before.
-              let s = mask.complete p a before cut in
-              pushed_low w v m c all small marks.few (p + 64 - next) (omega (arith, before, all, here, more))
-              ∙ moved_bit m (p + 64 - known) (w + (p + 64 - next)) (omega (arith, here, more)) s.1)
-              (λ from.
-              pushed_high w v m c all small marks.few (p + 64 - next) (omega (arith, from, all, here, more))
-              ∙ moved_bit c (p - known) (p + 64 - next - v) (omega (arith, from, all, here, more))
-              (marks.complete (p - known) (omega (arith, from, b, more)) (moved eq xs p (known + (p - known)) (omega (arith, from)) cut)))
-              (cases_lt p known),
-        )
-
     pub front_grown : FrontMask eq xs low grown next
-    front_grown = record { sound = grown_sound; complete = grown_complete }
+    front_grown = record {
+      sound =
+          λ k set. ⊎_elim
+          (λ l.
+          let s = mask.sound (w + k) (sym (pushed_low w v m c all small marks.few k l) ∙ set) in
+          (omega (arith, s.0, more), moved eq xs (known + (w + k) - 64) (next + k - 64) (omega (arith, more)) s.1))
+          (λ l.
+          let s = marks.sound (k - v) (sym (pushed_high w v m c all small marks.few k l) ∙ set) in
+          (omega (arith, after, l, all, more), moved eq xs (known + (k - v)) (next + k - 64) (omega (arith, l, all, more)) s.1))
+          (cases_lt k v);
+      complete =
+          λ p a b cut.
+          let here : next ≤ p + 64 = omega (arith, a, fits) in (
+            here,
+            ⊎_elim
+                (λ before.
+                let s = mask.complete p a before cut in
+                pushed_low w v m c all small marks.few (p + 64 - next) (omega (arith, before, all, here, more))
+                ∙ moved_bit m (p + 64 - known) (w + (p + 64 - next)) (omega (arith, here, more)) s.1)
+                (λ from.
+                pushed_high w v m c all small marks.few (p + 64 - next) (omega (arith, from, all, here, more))
+                ∙ moved_bit c (p - known) (p + 64 - next - v) (omega (arith, from, all, here, more))
+                (marks.complete (p - known) (omega (arith, from, b, more)) (moved eq xs p (known + (p - known)) (omega (arith, from)) cut)))
+                (cases_lt p known),
+          );
+    }
 
   pub front_block : {at m known : ℕ} → known ≡ at + 64 → known < length xs → m ≡ mask_l (chunk at 64 (boundaries eq xs))
       → FrontMask eq xs at m known

@@ -1,5 +1,6 @@
 -- A signed number that fits its type, and the bits that a vector holds of it.
-use Rattle.std.proofs.Common.{◌≡◌, ℕ, ◌+◌, ◌<◌, ◌≤◌, not, List, [], ◌∷◌, length, map, get_or, replicate, eqb, int_eq, ℤ, pos, of_z, to_z, refl, sym, ap, ap₂, ◌∙◌, arith, inl, inr}
+use Rattle.std.proofs.Common.{◌≡◌, ℕ, ◌+◌, ◌<◌, ◌≤◌, not, List, [], ◌∷◌, length, map, get_or, replicate, eqb, int_eq, ℤ, pos}
+use Rattle.std.proofs.Common.{of_z, to_z, refl, sym, ap, ap₂, ◌∙◌, arith, inl, inr}
 use Rattle.std.proofs.lemmas.Bool.{eqb-true, eq-eqb, false_from_ne_true, cases_Bool, false≢true}
 use Rattle.std.proofs.lemmas.Bool.Decides.{Decides-int_eq}
 use Rattle.std.proofs.lemmas.Int.{to_z-of_z}
@@ -57,7 +58,8 @@ module _ (w : Width) where
         Each1-from_get_or (FitsSigned w) (chunk from 16 xs) (pos 0)
         (λ i few.
         let long = length-chunk from 16 xs (omega (arith, u, room)) in
-        rw (get_or-chunk from 16 xs i (pos 0) (omega (arith, few, long))) (fits (from + i) (pos 0) (omega (arith, l)) (omega (arith, few, long, u))))
+        rw (get_or-chunk from 16 xs i (pos 0) (omega (arith, few, long)))
+        (fits (from + i) (pos 0) (omega (arith, l)) (omega (arith, few, long, u))))
 
     long_of : (from : ℕ) → from ≤ at + 1 → length (held from) ≡ 16
     long_of from u = length-map (chunk from 16 xs) (of_z w) ∙ length-chunk from 16 xs (omega (arith, u, room))

@@ -1,5 +1,6 @@
 -- The mask of two vectors of neighbours.
-use Rattle.std.proofs.Common.{◌≡◌, ℕ, zero, suc, ◌+◌, ◌-◌, ◌%◌, ◌^◌, ◌<◌, ◌≤◌, not, cond, Bool, List, [], ◌∷◌, length, map, take, drop, refl, sym, ap, ◌∙◌, arith}
+use Rattle.std.proofs.Common.{◌≡◌, ℕ, zero, suc, ◌+◌, ◌-◌, ◌%◌, ◌^◌, ◌<◌, ◌≤◌, not, cond, Bool, List, [], ◌∷◌, length, map, take}
+use Rattle.std.proofs.Common.{drop, refl, sym, ap, ◌∙◌, arith}
 use Rattle.std.proofs.lemmas.List.{drop-drop}
 use Rattle.std.proofs.lemmas.Simd.{length-chunk, length-zip2, tops_compared, mask_l-mod, bitmask_splat}
 use Rattle.std.specs.Prelude.{replicate}
@@ -38,7 +39,8 @@ module _ {T : Type 0} (eq : T → T → Bool) where
   boundaries-chunk at n xs =
       ap (chunk at n) (boundaries-zip2 xs) ∙ ap (take n) (zip2-drop unequal at xs (drop 1 xs))
       ∙ zip2-take unequal n (drop at xs) (drop at (drop 1 xs))
-      ∙ ap (λ zs. zip2 unequal (chunk at n xs) (take n zs)) (drop-drop at 1 xs ∙ ap (λ (k : ℕ). drop k xs) {x = 1 + at} {y = at + 1} (omega arith))
+      ∙ ap (λ zs. zip2 unequal (chunk at n xs) (take n zs))
+      (drop-drop at 1 xs ∙ ap (λ (k : ℕ). drop k xs) {x = 1 + at} {y = at + 1} (omega arith))
 
 -- which lanes of two vectors pass a test, as the code computes it
 abbrev pub lanes_mask : {X : Type 0} → Width → (X → X → Bool) → List X → List X → ℕ
