@@ -35,10 +35,6 @@ module _ (bs : List Bool) where
   -- the masks a, b, c and d of sixteen each, from the places h, i, j and k on
   module _ (h i j k a b c d : ℕ) (e : a ≡ mask_l (chunk h 16 bs)) (f : b ≡ mask_l (chunk i 16 bs)) (g : c ≡ mask_l (chunk j 16 bs))
       (l : d ≡ mask_l (chunk k 16 bs)) where
-    pub all_small : (a < 65536) × (b < 65536) × (c < 65536) × (d < 65536)
-    all_small =
-        (omega (arith, e, few h 16), omega (arith, f, few i 16), omega (arith, g, few j 16), omega (arith, l, few k 16))
-
     pub block_is : {m : ℕ} (at : ℕ) → h ≡ at → i ≡ at + 16 → j ≡ at + 32 → k ≡ at + 48 → at + 64 ≤ length bs
         → m ≡ a + 65536 * (b + 65536 * (c + 65536 * d)) → m ≡ mask_l (chunk at 64 bs)
     block_is at first second third fourth room r =

@@ -8,12 +8,12 @@ use Rattle.std.specs.Simd.Lanes.{chunk, mask_l}
 pub map-chunk : {X Y : Type 0} (f : X → Y) (at n : ℕ) (xs : List X) → chunk at n (map f xs) ≡ map f (chunk at n xs)
 map-chunk f at n xs = ap (take n) (drop-map f at xs) ∙ take-map f n (drop at xs)
 
+pub few_mapped : {X : Type 0} (f : X → Bool) (at n : ℕ) (xs : List X) → n ≤ 16 → mask_l (map f (chunk at n xs)) < 65536
+few_mapped f at n xs l = rw (← map-chunk f at n xs) (few (map f xs) at n l)
+
 -- one test more, before those of a mask
 module _ (bs : List Bool) (at k m : ℕ) (some : 0 < k) (most : k ≤ 16) (room : at + 16 ≤ length bs)
     (mask : m ≡ mask_l (chunk (at + k) (16 - k) bs)) where
-  pub more_fits : m < 65536
-  more_fits = omega (arith, mask, few bs (at + k) (16 - k) (omega arith))
-
   pub more : (b : Bool) → b ≡ get_or bs (at + (k - 1)) false
       → 2 * m + cond b 1 0 ≡ mask_l (chunk (at + (k - 1)) (16 - (k - 1)) bs)
   more b e =

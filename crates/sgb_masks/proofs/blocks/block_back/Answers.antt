@@ -3,13 +3,11 @@ use Rattle.std.specs.Prelude.{reverse}
 use Rattle.std.proofs.lemmas.List.{length-reverse}
 use Rattle.sgb_numbers.specs.Neighbours.{boundaries}
 use Rattle.sgb_numbers.proofs.Pairs.{length-boundaries}
-use Rattle.sgb_masks.proofs.Joined.{all_small, block_is}
+use Rattle.sgb_masks.proofs.Joined.{few, block_is}
 use Rattle.sgb_masks.proofs.blocks.block_back.Goals as goal
 
 pub joined-requires : goal.joined-requires
-joined-requires g c =
-    let bs = boundaries g.M.Masks.same (reverse c.args.slice.now) in
-    all_small bs _ _ _ _ _ _ _ _ c.cuts_back.ensures c.cuts_back-2.ensures c.cuts_back-3.ensures c.cuts_back-4.ensures
+joined-requires g c = (omega (arith, few), omega (arith, few), omega (arith, few), omega (arith, few))
 
 pub returns : goal.returns
 returns g c =

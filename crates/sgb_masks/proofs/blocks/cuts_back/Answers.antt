@@ -8,7 +8,7 @@ use Rattle.sgb_masks.proofs.Turned.{mask_turned}
 use Rattle.sgb_masks.proofs.blocks.cuts_back.Goals as goal
 
 pub overflow_cast-cuts : goal.overflow_cast-cuts
-overflow_cast-cuts g c = omega (arith, c.cuts.ensures, few (boundaries g.M.Masks.same c.args.slice.now) c.args.at 16)
+overflow_cast-cuts g c = omega (arith, few)
 
 pub returns : goal.returns
 returns g c =
