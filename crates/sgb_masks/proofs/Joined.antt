@@ -32,22 +32,12 @@ module _ (bs : List Bool) where
       ∙ ap (λ (k : ℕ). mask_l lanes + 2 ^ k * mask_l rest) (length-chunk at 16 bs (omega (arith, e, room)))
       ∙ ap (λ ys. mask_l lanes + 65536 * mask_l (take n ys)) (drop-drop 16 at bs ∙ ap (λ (i : ℕ). drop i bs) (sym e))
 
-  -- the masks a, b, c and d of sixteen each, from the places h, i, j and k on
-  module _ (h i j k a b c d : ℕ) (e : a ≡ mask_l (chunk h 16 bs)) (f : b ≡ mask_l (chunk i 16 bs)) (g : c ≡ mask_l (chunk j 16 bs))
-      (l : d ≡ mask_l (chunk k 16 bs)) where
-    pub block_is : {m : ℕ} (at : ℕ) → h ≡ at → i ≡ at + 16 → j ≡ at + 32 → k ≡ at + 48 → at + 64 ≤ length bs
-        → m ≡ a + 65536 * (b + 65536 * (c + 65536 * d)) → m ≡ mask_l (chunk at 64 bs)
-    block_is at first second third fourth room r =
-        let whole = ap (λ (n : ℕ). mask_l (chunk n 64 bs)) first in
-        omega (
-          arith,
-          r,
-          e,
-          f,
-          g,
-          l,
-          whole,
-          with_next h i 48 (omega arith) (omega arith),
-          with_next i j 32 (omega arith) (omega arith),
-          with_next j k 16 (omega arith) (omega arith),
-        )
+  -- sixty-four from the place at on, and sixteen each from h, i, j and k on
+  pub block_mask : (at h i j k : ℕ) → h ≡ at → i ≡ at + 16 → j ≡ at + 32 → k ≡ at + 48 → at + 64 ≤ length bs
+      → mask_l (chunk at 64 bs)
+      ≡ mask_l (chunk h 16 bs) + 65536 * (mask_l (chunk i 16 bs) + 65536 * (mask_l (chunk j 16 bs) + 65536 * mask_l (chunk k 16 bs)))
+  block_mask at h i j k first second third fourth room =
+      let whole = ap (λ (n : ℕ). mask_l (chunk n 64 bs)) first in
+      let three = with_next h i 48 (omega arith) (omega arith) in
+      let two = with_next i j 32 (omega arith) (omega arith) in
+      omega (arith, whole, three, two, with_next j k 16 (omega arith) (omega arith))

@@ -1,9 +1,9 @@
-use Rattle.std.proofs.Common.{◌+◌, ◌-◌, length, arith}
+use Rattle.std.proofs.Common.{ℕ, ◌+◌, ◌-◌, length, arith}
 use Rattle.std.specs.Prelude.{reverse}
 use Rattle.std.proofs.lemmas.List.{length-reverse}
 use Rattle.sgb_numbers.specs.Neighbours.{boundaries}
 use Rattle.sgb_numbers.proofs.Pairs.{length-boundaries}
-use Rattle.sgb_masks.proofs.Joined.{few, block_is}
+use Rattle.sgb_masks.proofs.Joined.{few, block_mask}
 use Rattle.sgb_masks.proofs.blocks.block_back.Goals as goal
 
 pub joined-requires : goal.joined-requires
@@ -13,7 +13,10 @@ pub returns : goal.returns
 returns g c =
     let xs = c.args.slice.now in
     let bs = boundaries g.M.Masks.same (reverse xs) in
-    let long = length-boundaries g.M.Masks.same (reverse xs) in
-    block_is bs _ _ _ _ _ _ _ _ c.cuts_back.ensures c.cuts_back-2.ensures c.cuts_back-3.ensures c.cuts_back-4.ensures
-    (length xs - 1 - (c.args.at + 64)) (omega arith) (omega arith) (omega arith) (omega arith)
-    (omega (arith, long, length-reverse xs, c.requires)) c.joined.ensures
+    let from = λ (at : ℕ). length xs - 1 - (at + 16) in
+    let at = c.args.at in
+    omega (
+      arith,
+      block_mask bs (length xs - 1 - (at + 64)) (from (at + 48)) (from (at + 32)) (from (at + 16)) (from at) (omega arith) (omega arith)
+          (omega arith) (omega arith) (omega (arith, length-boundaries g.M.Masks.same (reverse xs), length-reverse xs, c.requires)),
+    )
