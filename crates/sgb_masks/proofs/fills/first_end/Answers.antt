@@ -16,9 +16,9 @@ returns g c =
     let after = end_after some small mask in
     let few = first_few some small mask in
     record {
-      nonempty = omega (arith, after, few);
+      nonempty = omega arith;
       within = omega arith;
-      same = end_same some small mask _ (omega (arith, after, few));
-      differ = end_differs some small mask _ (omega (arith, after, few));
-      mask = end_mask some small mask _ (omega (arith, after, few));
+      same = end_same some small mask _ (omega arith);
+      differ = end_differs some small mask _ (omega arith);
+      mask = end_mask some small mask _ (omega arith);
     }

@@ -9,12 +9,9 @@ overflow_sub-result g c = omega (arith, first_few c.requires.some c.ranges.back.
 
 pub overflow_add-result : goal.overflow_add-result
 overflow_add-result g c =
-    omega (
-      arith,
-      first_few c.requires.some c.ranges.back.fits c.requires.mask,
-      end_after c.requires.some c.ranges.back.fits c.requires.mask,
-      c.ranges.high.fits,
-    )
+    let r = c.requires in
+    let small = c.ranges.back.fits in
+    omega (arith, first_few r.some small r.mask, end_after r.some small r.mask, c.ranges.high.fits)
 
 pub returns : goal.returns
 returns g c =
@@ -28,11 +25,9 @@ returns g c =
     let few = first_few some small mask in
     let end = length xs - (c.args.base + (64 - lowest c.args.back some small)) in
     record {
-      nonempty = omega (arith, after, few);
-      within = omega (arith, few);
-      same = same_reverse eq symm xs _ _ _ _ (omega (arith, after, few)) (omega (arith, after, few))
-          (end_same some small mask end (omega (arith, after, few)));
-      differ = sym (differs_reverse eq symm xs _ _ (omega (arith, after, few)))
-          ∙ end_differs some small mask end (omega (arith, after, few));
-      mask = end_mask some small mask end (omega (arith, after, few));
+      nonempty = omega arith;
+      within = omega arith;
+      same = same_reverse eq symm xs _ _ _ _ (omega arith) (omega arith) (end_same some small mask end (omega arith));
+      differ = sym (differs_reverse eq symm xs _ _ (omega arith)) ∙ end_differs some small mask end (omega arith);
+      mask = end_mask some small mask end (omega arith);
     }
