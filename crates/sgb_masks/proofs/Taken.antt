@@ -1,19 +1,15 @@
 -- A group cut off an end of what remains is what a linear call gives.
-use Rattle.std.proofs.Common.{◌≡◌, ℕ, ◌+◌, ◌-◌, ◌≤◌, Bool, List, [], ◌++◌, length, take, drop, sym, ap, ◌∙◌, subst, arith}
+use Rattle.std.proofs.Common.{◌≡◌, ℕ, ◌+◌, ◌-◌, ◌≤◌, Bool, List, ◌++◌, length, take, drop, sym, ap, ◌∙◌, subst, arith}
 use Rattle.std.specs.Prelude.{slice_range}
 use Rattle.std.proofs.lemmas.List.{drop-drop}
 use Rattle.std.proofs.Math.Seq.{take-add}
-use Rattle.std.proofs.Props.{props}
 use Rattle.sgb_search.specs.declared.end.End.TheVariants.{Front, Back}
 use Rattle.sgb_search.specs.declared.judge.Judge.{Ghosts}
 use Rattle.sgb_search.specs.Calls.{IsGroupAt, Place, place_after}
 use Rattle.sgb_search.specs.Linear.{LinearQuestions}
 use Rattle.sgb_search.specs.Questions.{IsRun, questions}
 use Rattle.sgb_search.proofs.Lists.Ranges.{length-range}
-use Rattle.sgb_numbers.specs.declared.masks.Masks as masks
-use Rattle.sgb_masks.specs.declared.mask_groups.MaskGroups.{MaskGroups}
 use Rattle.sgb_numbers.specs.Neighbours.{IsFirstEnd, IsLastStart}
-use Rattle.sgb_masks.specs.Masks.{FrontMask, BackMask}
 use Rattle.sgb_numbers.proofs.Asked.{asked_front, asked_back}
 
 range_split : {T : Type 0} (xs : List T) (low middle high : ℕ) → low ≤ middle → middle ≤ high
@@ -23,9 +19,6 @@ range_split xs low middle high a b =
     ∙ take-add (middle - low) (high - middle) (drop low xs)
     ∙ ap (λ ys. slice_range xs low middle ++ take (high - middle) ys)
     (drop-drop (middle - low) low xs ∙ ap (λ (n : ℕ). drop n xs) {x = low + (middle - low)} {y = middle} (omega arith))
-
-pub range_empty : {T : Type 0} (xs : List T) (low high : ℕ) → high ≤ low → slice_range xs low high ≡ []
-range_empty xs low high l = ap (λ (n : ℕ). take n (drop low xs)) {x = high - low} {y = 0} (omega arith)
 
 abbrev pub from_place : {T : Type 0} → List T → ℕ → Place T
 from_place xs low = record { input = xs; offset = low }
@@ -65,17 +58,3 @@ module _ {T J : Type 0} (eq : T → T → Bool) (g : Ghosts J T) (j : J) (asks :
             subst (λ (n : ℕ). IsRun g.may_ask g.answers j (questions Back (slice_range xs low high) n) j) (sym long)
             (asked_back eq g j asks tells xs low high (omega (arith, is.nonempty, is.within)) inside start is);
       }
-
--- what it keeps of itself is known in one way alone
-module _ {T J : Type 0} {P : masks.Ghosts J T} (s : MaskGroups T J P) where
-  abbrev Kept : Type 0
-  Kept = (s.low ≤ s.high) × (s.high ≤ length s.slice.now) × FrontMask P.same s.slice.now s.low s.front s.known
-      × BackMask P.same s.slice.now s.high s.back s.base
-
-  one_way : IsProp Kept
-  one_way = hlevel props
-
-  pub same_again : (k : Kept) → record s { order = k.0; inside = k.1; front_mask = k.2; back_mask = k.3 } ≡ s
-  same_again k =
-      ap (λ (k : Kept). record s { order = k.0; inside = k.1; front_mask = k.2; back_mask = k.3 })
-      (one_way k (s.order, s.inside, s.front_mask, s.back_mask))

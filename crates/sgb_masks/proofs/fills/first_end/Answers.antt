@@ -2,9 +2,6 @@ use Rattle.std.proofs.Common.{arith}
 use Rattle.sgb_masks.proofs.Known.{first_few, end_after, end_same, end_differs, end_mask}
 use Rattle.sgb_masks.proofs.fills.first_end.Goals as goal
 
-pub overflow_sub-result : goal.overflow_sub-result
-overflow_sub-result g c = first_few c.requires.some c.ranges.front.fits c.requires.mask
-
 pub overflow_sub-result-2 : goal.overflow_sub-result-2
 overflow_sub-result-2 g c = omega (arith, end_after c.requires.some c.ranges.front.fits c.requires.mask)
 

@@ -4,9 +4,6 @@ use Rattle.sgb_masks.proofs.Lowest.{lowest}
 use Rattle.sgb_masks.proofs.Known.{first_few, end_after, end_same, end_differs, end_mask}
 use Rattle.sgb_masks.proofs.fills.last_start.Goals as goal
 
-pub overflow_sub-result : goal.overflow_sub-result
-overflow_sub-result g c = omega (arith, first_few c.requires.some c.ranges.back.fits c.requires.mask)
-
 pub overflow_add-result : goal.overflow_add-result
 overflow_add-result g c =
     let r = c.requires in

@@ -1,7 +1,5 @@
 use Rattle.std.proofs.Common.{refl, arith}
-use Rattle.sgb_search.specs.declared.end.End.TheVariants.{Back}
 use Rattle.sgb_numbers.specs.Neighbours.{IsLastStart}
-use Rattle.sgb_masks.proofs.Queue.{goes}
 use Rattle.sgb_masks.proofs.Taken.{back_call}
 use Rattle.sgb_masks.proofs.mask_groups.MaskGroupsDoubleEndedIterator.next_back.Goals as goal
 
@@ -17,6 +15,3 @@ returns-then-self-start-clause-steps g c =
           s.slice.now s.low s.high s.inside c.last_start-start.result is;
       place = refl;
     }
-
-pub returns-clause-goes : goal.returns-clause-goes
-returns-clause-goes g c = goes g.J.Judge Back _ _ _ c.next_back_far.ensures

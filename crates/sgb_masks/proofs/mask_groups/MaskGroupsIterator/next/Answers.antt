@@ -1,7 +1,5 @@
 use Rattle.std.proofs.Common.{arith}
 use Rattle.sgb_numbers.specs.Neighbours.{IsFirstEnd}
-use Rattle.sgb_search.specs.declared.end.End.TheVariants.{Front}
-use Rattle.sgb_masks.proofs.Queue.{goes}
 use Rattle.sgb_masks.proofs.Taken.{front_call, front_place}
 use Rattle.sgb_masks.proofs.mask_groups.MaskGroupsIterator.next.Goals as goal
 
@@ -17,6 +15,3 @@ returns-then-end-self-clause-steps g c =
           s.slice.now s.low s.high s.inside c.first_end-end.result is;
       place = front_place g.J.Masks.same s.slice.now s.low s.high s.inside c.first_end-end.result is;
     }
-
-pub returns-clause-goes : goal.returns-clause-goes
-returns-clause-goes g c = goes g.J.Judge Front _ _ _ c.next_far.ensures
