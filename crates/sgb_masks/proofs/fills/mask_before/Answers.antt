@@ -17,6 +17,3 @@ loop-at-preserved g c =
       none = front_wider c.loop-at.invariant.none (front_block (omega arith) (omega (arith, length-reverse c.args.slice.now)) none)
           (omega arith) (omega arith);
     }
-
-pub returns-clause-mask : goal.returns-clause-mask
-returns-clause-mask g c = front_wider c.loop-at.invariant.none c.rest_mask_before.ensures.mask (omega arith) (omega arith)

@@ -17,8 +17,5 @@ loop-at-preserved g c =
       none = front_wider l.none (front_block refl (omega arith) none) l.after (omega arith);
     }
 
-pub returns-clause-mask : goal.returns-clause-mask
-returns-clause-mask g c = front_wider c.loop-at.invariant.none c.rest_mask_from.ensures.mask c.loop-at.invariant.after (omega arith)
-
 pub returns-then-mask-ne0-clause-mask : goal.returns-then-mask-ne0-clause-mask
 returns-then-mask-ne0-clause-mask g c = rw c.if-from-eq0.true c.grown-mask.ensures
