@@ -123,21 +123,10 @@ module _ (k : AsciiClass) (before : Option AsciiClass) (xs : List ℕ) where
 
 is_class_true : (c d : AsciiClass) → is_class c d ≡ true → c ≡ d
 is_class_true Letter Letter e = refl
-is_class_true Letter Digit e = cc
-is_class_true Letter Space e = cc
-is_class_true Letter Other e = cc
-is_class_true Digit Letter e = cc
 is_class_true Digit Digit e = refl
-is_class_true Digit Space e = cc
-is_class_true Digit Other e = cc
-is_class_true Space Letter e = cc
-is_class_true Space Digit e = cc
 is_class_true Space Space e = refl
-is_class_true Space Other e = cc
-is_class_true Other Letter e = cc
-is_class_true Other Digit e = cc
-is_class_true Other Space e = cc
 is_class_true Other Other e = refl
+is_class_true c d e = cc
 
 is_class_same : (c : AsciiClass) → is_class c c ≡ true
 is_class_same Letter = refl

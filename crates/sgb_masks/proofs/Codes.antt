@@ -99,21 +99,10 @@ same = on ascii_class is_class
 
 equal_codes : (c d : AsciiClass) → eqb (code c) (code d) ≡ is_class c d
 equal_codes Letter Letter = refl
-equal_codes Letter Digit = refl
-equal_codes Letter Space = refl
-equal_codes Letter Other = refl
-equal_codes Digit Letter = refl
 equal_codes Digit Digit = refl
-equal_codes Digit Space = refl
-equal_codes Digit Other = refl
-equal_codes Space Letter = refl
-equal_codes Space Digit = refl
 equal_codes Space Space = refl
-equal_codes Space Other = refl
-equal_codes Other Letter = refl
-equal_codes Other Digit = refl
-equal_codes Other Space = refl
 equal_codes Other Other = refl
+equal_codes c d = refl
 
 coded : (xs ys : List ℕ) → zip2 (unequal eqb) (map code_of xs) (map code_of ys) ≡ zip2 (unequal same) xs ys
 coded [] ys = refl

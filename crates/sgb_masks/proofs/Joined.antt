@@ -1,21 +1,11 @@
 -- Four masks of sixteen pairs as one of sixty-four.
-use Rattle.std.proofs.Common.{◌≡◌, ℕ, suc, ◌+◌, ◌*◌, ◌^◌, ◌<◌, ◌≤◌, Bool, List, [], ◌∷◌, ◌++◌, length, take, drop}
-use Rattle.std.proofs.Common.{append_assoc, sym, ap, ◌∙◌, subst, arith}
-use Rattle.std.specs.Prelude.{reverse}
-use Rattle.std.proofs.lemmas.List.{length-reverse, reverse-append, drop-drop}
+use Rattle.std.proofs.Common.{◌≡◌, ℕ, suc, ◌+◌, ◌*◌, ◌^◌, ◌<◌, ◌≤◌, pow_mono, Bool, List, [], ◌∷◌, ◌++◌, length, take, drop, sym, ap}
+use Rattle.std.proofs.Common.{◌∙◌, arith}
+use Rattle.std.proofs.lemmas.List.{drop-drop, length-take}
 use Rattle.std.proofs.Math.Seq.{take-add}
 use Rattle.std.proofs.lemmas.Simd.{length-chunk, mask_l-lt}
 use Rattle.std.specs.Simd.Lanes.{chunk, mask_l}
 use Rattle.std.proofs.Math.Nat.{two-pow-succ, mul_assoc}
-
-pub chunk-add : {X : Type 0} (at m n : ℕ) (xs : List X) → chunk at (m + n) xs ≡ chunk at m xs ++ chunk (at + m) n xs
-chunk-add at m n xs =
-    take-add m n (drop at xs)
-    ∙ ap (λ ys. chunk at m xs ++ take n ys) (drop-drop m at xs)
-
--- the lower sixteen bits, and those above
-abbrev pub joined : ℕ → ℕ → ℕ
-joined low high = low + 65536 * high
 
 mask_l-append : (xs ys : List Bool) → mask_l (xs ++ ys) ≡ mask_l xs + 2 ^ length xs * mask_l ys
 mask_l-append [] ys = omega arith
@@ -25,90 +15,29 @@ mask_l-append (x ∷ xs) ys =
     ∙ mul_assoc 2 (2 ^ length xs) (mask_l ys) in
     omega (arith, more, mask_l-append xs ys)
 
-pub mask_joined : (xs ys : List Bool) → length xs ≡ 16 → mask_l (xs ++ ys) ≡ joined (mask_l xs) (mask_l ys)
-mask_joined xs ys long = mask_l-append xs ys ∙ ap (λ (n : ℕ). mask_l xs + 2 ^ n * mask_l ys) long
+-- bs: the tests of a list
+module _ (bs : List Bool) where
+  pub few : (at n : ℕ) → n ≤ 16 → mask_l (chunk at n bs) < 65536
+  few at n l =
+      let lanes = chunk at n bs in
+      omega (arith, mask_l-lt lanes, pow_mono {i = length lanes} {j = 16} (omega (arith, length-take n (drop at bs), l)))
 
-pub mask_small : (xs : List Bool) → length xs ≡ 16 → mask_l xs < 65536
-mask_small xs long = subst (λ (n : ℕ). mask_l xs < 2 ^ n) long (mask_l-lt xs)
+  -- sixteen, and n that come next
+  with_next : (at next n : ℕ) → next ≡ at + 16 → next ≤ length bs
+      → mask_l (chunk at (16 + n) bs) ≡ mask_l (chunk at 16 bs) + 65536 * mask_l (chunk next n bs)
+  with_next at next n e room =
+      let lanes = chunk at 16 bs in
+      let rest = take n (drop 16 (drop at bs)) in
+      ap mask_l (take-add 16 n (drop at bs)) ∙ mask_l-append lanes rest
+      ∙ ap (λ (k : ℕ). mask_l lanes + 2 ^ k * mask_l rest) (length-chunk at 16 bs (omega (arith, e, room)))
+      ∙ ap (λ ys. mask_l lanes + 65536 * mask_l (take n ys)) (drop-drop 16 at bs ∙ ap (λ (i : ℕ). drop i bs) (sym e))
 
--- bs: the tests of a list; the masks of sixteen from `at` on, of the next sixteen and so on
-module _ (bs : List Bool) (at : ℕ) (room : at + 64 ≤ length bs) where
-  abbrev lanes : ℕ → List Bool
-  lanes from = chunk from 16 bs
-
-  long : (from : ℕ) → from + 16 ≤ length bs → length (lanes from) ≡ 16
-  long from l = length-chunk from 16 bs l
-
-  pub small : (from : ℕ) → from + 16 ≤ length bs → mask_l (lanes from) < 65536
-  small from l = mask_small (lanes from) (long from l)
-
-  pub small_back : (from : ℕ) → from + 16 ≤ length bs → mask_l (reverse (lanes from)) < 65536
-  small_back from l = mask_small (reverse (lanes from)) (length-reverse (lanes from) ∙ long from l)
-
-  place : (n i j : ℕ) → i ≡ j → chunk i n bs ≡ chunk j n bs
-  place n i j e = ap (λ (k : ℕ). chunk k n bs) e
-
-  parts : chunk at 64 bs ≡ lanes at ++ (lanes (at + 16) ++ (lanes (at + 32) ++ lanes (at + 48)))
-  parts =
-      chunk-add at 16 48 bs
-      ∙ ap (λ zs. lanes at ++ zs) (chunk-add (at + 16) 16 32 bs
-      ∙ ap (λ zs. lanes (at + 16) ++ zs) (place 32 (at + 16 + 16) (at + 32) (omega arith) ∙ chunk-add (at + 32) 16 16 bs
-      ∙ ap (λ zs. lanes (at + 32) ++ zs) (place 16 (at + 32 + 16) (at + 48) (omega arith))))
-
-  four : (a b c d : List Bool) → length a ≡ 16 → length b ≡ 16 → length c ≡ 16
-      → mask_l (a ++ (b ++ (c ++ d))) ≡ joined (mask_l a) (joined (mask_l b) (joined (mask_l c) (mask_l d)))
-  four a b c d la lb lc =
-      mask_joined a (b ++ (c ++ d)) la
-      ∙ ap (joined (mask_l a)) (mask_joined b (c ++ d) lb ∙ ap (joined (mask_l b)) (mask_joined c d lc))
-
-  pub block_mask : joined (mask_l (lanes at)) (joined (mask_l (lanes (at + 16))) (joined (mask_l (lanes (at + 32))) (mask_l (lanes (at + 48)))))
-      ≡ mask_l (chunk at 64 bs)
-  block_mask =
-      sym (ap mask_l parts ∙ four (lanes at) (lanes (at + 16)) (lanes (at + 32)) (lanes (at + 48))
-      (long at (omega arith)) (long (at + 16) (omega arith)) (long (at + 32) (omega arith)))
-
-  turned_parts : (a b c d : List Bool) → reverse (a ++ (b ++ (c ++ d))) ≡ reverse d ++ (reverse c ++ (reverse b ++ reverse a))
-  turned_parts a b c d =
-      reverse-append a (b ++ (c ++ d))
-      ∙ ap (λ zs. zs ++ reverse a) (reverse-append b (c ++ d) ∙ ap (λ zs. zs ++ reverse b) (reverse-append c d))
-      ∙ append_assoc (reverse d ++ reverse c) (reverse b) (reverse a)
-      ∙ append_assoc (reverse d) (reverse c) (reverse b ++ reverse a)
-
-  long_back : (from : ℕ) → from + 16 ≤ length bs → length (reverse (lanes from)) ≡ 16
-  long_back from l = length-reverse (lanes from) ∙ long from l
-
-  pub block_mask_back : joined (mask_l (reverse (lanes (at + 48)))) (joined (mask_l (reverse (lanes (at + 32))))
-      (joined (mask_l (reverse (lanes (at + 16)))) (mask_l (reverse (lanes at)))))
-      ≡ mask_l (reverse (chunk at 64 bs))
-  block_mask_back =
-      sym (ap (λ zs. mask_l (reverse zs)) parts ∙ ap mask_l (turned_parts (lanes at) (lanes (at + 16)) (lanes (at + 32)) (lanes (at + 48)))
-      ∙ four (reverse (lanes (at + 48))) (reverse (lanes (at + 32))) (reverse (lanes (at + 16))) (reverse (lanes at))
-      (long_back (at + 48) (omega arith)) (long_back (at + 32) (omega arith)) (long_back (at + 16) (omega arith)))
-
--- the same of four masks that are given
-module _ (bs : List Bool) (at a b c d : ℕ) (room : at + 64 ≤ length bs) where
-  module _ (e : a ≡ mask_l (chunk at 16 bs)) (f : b ≡ mask_l (chunk (at + 16) 16 bs)) (g : c ≡ mask_l (chunk (at + 32) 16 bs))
-      (h : d ≡ mask_l (chunk (at + 48) 16 bs)) where
-    pub all_small : (a < 65536) × (b < 65536) × (c < 65536) × (d < 65536)
-    all_small = (
-      omega (arith, e, small bs at room at (omega arith)),
-      omega (arith, f, small bs at room (at + 16) (omega arith)),
-      omega (arith, g, small bs at room (at + 32) (omega arith)),
-      omega (arith, h, small bs at room (at + 48) (omega arith)),
-    )
-
-    pub block_is : {m : ℕ} → m ≡ a + 65536 * (b + 65536 * (c + 65536 * d)) → m ≡ mask_l (chunk at 64 bs)
-    block_is i = i ∙ rw (e, f, g, h) (block_mask bs at room)
-
-  module _ (e : a ≡ mask_l (reverse (chunk (at + 48) 16 bs))) (f : b ≡ mask_l (reverse (chunk (at + 32) 16 bs)))
-      (g : c ≡ mask_l (reverse (chunk (at + 16) 16 bs))) (h : d ≡ mask_l (reverse (chunk at 16 bs))) where
-    pub all_small_back : (a < 65536) × (b < 65536) × (c < 65536) × (d < 65536)
-    all_small_back = (
-      omega (arith, e, small_back bs at room (at + 48) (omega arith)),
-      omega (arith, f, small_back bs at room (at + 32) (omega arith)),
-      omega (arith, g, small_back bs at room (at + 16) (omega arith)),
-      omega (arith, h, small_back bs at room at (omega arith)),
-    )
-
-    pub block_back_is : {m : ℕ} → m ≡ a + 65536 * (b + 65536 * (c + 65536 * d)) → m ≡ mask_l (reverse (chunk at 64 bs))
-    block_back_is i = i ∙ rw (e, f, g, h) (block_mask_back bs at room)
+  -- sixty-four from the place at on, and sixteen each from h, i, j and k on
+  pub block_mask : (at h i j k : ℕ) → h ≡ at → i ≡ at + 16 → j ≡ at + 32 → k ≡ at + 48 → at + 64 ≤ length bs
+      → mask_l (chunk at 64 bs)
+      ≡ mask_l (chunk h 16 bs) + 65536 * (mask_l (chunk i 16 bs) + 65536 * (mask_l (chunk j 16 bs) + 65536 * mask_l (chunk k 16 bs)))
+  block_mask at h i j k first second third fourth room =
+      let whole = ap (λ (n : ℕ). mask_l (chunk n 64 bs)) first in
+      let three = with_next h i 48 (omega arith) (omega arith) in
+      let two = with_next i j 32 (omega arith) (omega arith) in
+      omega (arith, whole, three, two, with_next j k 16 (omega arith) (omega arith))

@@ -7,6 +7,5 @@ mod Pushed
 mod Marks
 mod Known
 mod Taken
-mod OneBit
 mod Beginnings
 pub mod Queue

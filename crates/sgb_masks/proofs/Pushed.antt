@@ -11,7 +11,7 @@ module _ (w v m c : ℕ) (all : w + v ≡ 64) (small : m < 2 ^ 64) (few : c < 2 
   lower : m / 2 ^ w < 2 ^ v
   lower = let e : 64 ≡ v + w = omega (arith, all) in shr_below m v w (subst (λ (n : ℕ). m < 2 ^ n) e small)
 
-  pushed_is : pushed ≡ c * 2 ^ v + m / 2 ^ w
+  pub pushed_is : pushed ≡ c * 2 ^ v + m / 2 ^ w
   pushed_is = ap (bit_or (m / 2 ^ w)) (shl_whole c w v 64 few (omega arith)) ∙ or_comm (m / 2 ^ w) (c * 2 ^ v)
       ∙ or_shifted c v (m / 2 ^ w) lower
 

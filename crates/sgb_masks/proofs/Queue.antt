@@ -1,12 +1,10 @@
 -- A call of an iterator over groups by masks is a linear call on what it shows.
-use Rattle.std.proofs.Common.{◌<◌, List, Option, None, Some, length, ap, arith, length-append}
-use Rattle.std.specs.Prelude.{option_copied, ⊤}
-use Rattle.std.specs.Iterator.{MakesProgress}
+use Rattle.std.proofs.Common.{List, Option, None, Some, ap}
+use Rattle.std.specs.Prelude.{option_copied}
 use Rattle.std.specs.Borrow.{Bor}
 use Rattle.sgb_search.specs.declared.end.End.{End}
 use Rattle.sgb_search.specs.declared.judge.Judge.{Ghosts}
-use Rattle.sgb_search.specs.declared.end.End.TheVariants.{Front, Back}
-use Rattle.sgb_search.specs.Calls.{CallAt, groups_to_come}
+use Rattle.sgb_search.specs.Calls.{CallAt}
 use Rattle.sgb_search.specs.Linear.{LinearQuestions}
 use Rattle.sgb_numbers.specs.declared.masks.Masks as masks
 use Rattle.sgb_masks.specs.declared.mask_groups.MaskGroups.{MaskGroups}
@@ -17,16 +15,3 @@ module _ {T J : Type 0} {P : masks.Ghosts J T} (g : Ghosts J T) where
       → CallAt (LinearQuestions g) e (groups_of s) (option_copied o) (groups_of t)
   call e s None t h = (h.0, ap groups_of h.1)
   call e s (Some x) t h = h.call
-
-  lessened : (e : End) (s : MaskGroups T J P) (x : Bor (List T)) (t : MaskGroups T J P) → Gives g e s (Some x) t
-      → length (groups_of t).remainder < length (groups_of s).remainder
-  lessened Front s x t h =
-      omega (arith, h.call.nonempty, ap length h.call.cut, length-append x.now (groups_of t).remainder)
-  lessened Back s x t h =
-      omega (arith, h.call.nonempty, ap length h.call.cut, length-append (groups_of t).remainder x.now)
-
-  -- a group that a call gives leaves less
-  pub goes : (e : End) (s : MaskGroups T J P) (o : Option (Bor (List T))) (t : MaskGroups T J P) → Gives g e s o t
-      → MakesProgress (λ (q : MaskGroups T J P). ⊤) (λ (q : MaskGroups T J P). groups_to_come (groups_of q)) s o t
-  goes e s None t h = record { on = λ _. tt; keeps = tt; rests = λ _. tt }
-  goes e s (Some x) t h = record { on = λ _. (tt, tt, lessened e s x t h); keeps = tt; rests = λ _. tt }

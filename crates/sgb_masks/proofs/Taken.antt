@@ -1,19 +1,15 @@
 -- A group cut off an end of what remains is what a linear call gives.
-use Rattle.std.proofs.Common.{◌≡◌, ℕ, ◌+◌, ◌-◌, ◌<◌, ◌≤◌, Bool, List, [], ◌++◌, length, take, drop, sym, ap, ◌∙◌, subst, arith}
+use Rattle.std.proofs.Common.{◌≡◌, ℕ, ◌+◌, ◌-◌, ◌≤◌, Bool, List, ◌++◌, length, take, drop, sym, ap, ◌∙◌, subst, arith}
 use Rattle.std.specs.Prelude.{slice_range}
 use Rattle.std.proofs.lemmas.List.{drop-drop}
 use Rattle.std.proofs.Math.Seq.{take-add}
-use Rattle.std.proofs.Props.{props}
 use Rattle.sgb_search.specs.declared.end.End.TheVariants.{Front, Back}
 use Rattle.sgb_search.specs.declared.judge.Judge.{Ghosts}
 use Rattle.sgb_search.specs.Calls.{IsGroupAt, Place, place_after}
 use Rattle.sgb_search.specs.Linear.{LinearQuestions}
 use Rattle.sgb_search.specs.Questions.{IsRun, questions}
 use Rattle.sgb_search.proofs.Lists.Ranges.{length-range}
-use Rattle.sgb_numbers.specs.declared.masks.Masks as masks
-use Rattle.sgb_masks.specs.declared.mask_groups.MaskGroups.{MaskGroups}
 use Rattle.sgb_numbers.specs.Neighbours.{IsFirstEnd, IsLastStart}
-use Rattle.sgb_masks.specs.Masks.{FrontMask, BackMask}
 use Rattle.sgb_numbers.proofs.Asked.{asked_front, asked_back}
 
 range_split : {T : Type 0} (xs : List T) (low middle high : ℕ) → low ≤ middle → middle ≤ high
@@ -23,9 +19,6 @@ range_split xs low middle high a b =
     ∙ take-add (middle - low) (high - middle) (drop low xs)
     ∙ ap (λ ys. slice_range xs low middle ++ take (high - middle) ys)
     (drop-drop (middle - low) low xs ∙ ap (λ (n : ℕ). drop n xs) {x = low + (middle - low)} {y = middle} (omega arith))
-
-pub range_empty : {T : Type 0} (xs : List T) (low high : ℕ) → high ≤ low → slice_range xs low high ≡ []
-range_empty xs low high l = ap (λ (n : ℕ). take n (drop low xs)) {x = high - low} {y = 0} (omega arith)
 
 abbrev pub from_place : {T : Type 0} → List T → ℕ → Place T
 from_place xs low = record { input = xs; offset = low }
@@ -39,8 +32,7 @@ module _ {T : Type 0} (eq : T → T → Bool) (xs : List T) (low high : ℕ) (in
 
 -- a judge that answers what eq says
 module _ {T J : Type 0} (eq : T → T → Bool) (g : Ghosts J T) (j : J) (asks : (q : T × T) → g.may_ask j q)
-    (tells : (q : T × T) → g.answers j q (eq q.0 q.1) j) (xs : List T) (low high : ℕ) (nonempty : low < high)
-    (inside : high ≤ length xs) where
+    (tells : (q : T × T) → g.answers j q (eq q.0 q.1) j) (xs : List T) (low high : ℕ) (inside : high ≤ length xs) where
   pub front_call : (end : ℕ) → IsFirstEnd eq xs low high end
       → IsGroupAt (LinearQuestions g) Front (record { remainder = slice_range xs low high; judge = j }) (slice_range xs low end)
       (record { remainder = slice_range xs end high; judge = j })
@@ -51,7 +43,7 @@ module _ {T J : Type 0} (eq : T → T → Bool) (g : Ghosts J T) (j : J) (asks :
         cut = range_split xs low end high (omega (arith, is.nonempty)) is.within;
         asked =
             subst (λ (n : ℕ). IsRun g.may_ask g.answers j (questions Front (slice_range xs low high) n) j) (sym long)
-            (asked_front eq g j asks tells xs low high nonempty inside end is);
+            (asked_front eq g j asks tells xs low high (omega (arith, is.nonempty, is.within)) inside end is);
       }
 
   pub back_call : (start : ℕ) → IsLastStart eq xs low high start
@@ -64,43 +56,5 @@ module _ {T J : Type 0} (eq : T → T → Bool) (g : Ghosts J T) (j : J) (asks :
         cut = range_split xs low start high is.within (omega (arith, is.nonempty));
         asked =
             subst (λ (n : ℕ). IsRun g.may_ask g.answers j (questions Back (slice_range xs low high) n) j) (sym long)
-            (asked_back eq g j asks tells xs low high nonempty inside start is);
+            (asked_back eq g j asks tells xs low high (omega (arith, is.nonempty, is.within)) inside start is);
       }
-
--- what it keeps of itself is known in one way alone
-module _ {T J : Type 0} {P : masks.Ghosts J T} (s : MaskGroups T J P) where
-  abbrev again : s.low ≤ s.high → s.high ≤ length s.slice.now → FrontMask P.same s.slice.now s.low s.front s.known
-      → BackMask P.same s.slice.now s.high s.back s.base → MaskGroups T J P
-  again o n f b = record {
-    slice = s.slice;
-    judge = s.judge;
-    low = s.low;
-    high = s.high;
-    front = s.front;
-    known = s.known;
-    back = s.back;
-    base = s.base;
-    order = o;
-    inside = n;
-    front_mask = f;
-    back_mask = b;
-  }
-
-  order_known : IsProp (s.low ≤ s.high)
-  order_known = hlevel props
-
-  inside_known : IsProp (s.high ≤ length s.slice.now)
-  inside_known = hlevel props
-
-  front_known : IsProp (FrontMask P.same s.slice.now s.low s.front s.known)
-  front_known = hlevel props
-
-  back_known : IsProp (BackMask P.same s.slice.now s.high s.back s.base)
-  back_known = hlevel props
-
-  pub same_again : (o : s.low ≤ s.high) (n : s.high ≤ length s.slice.now) (f : FrontMask P.same s.slice.now s.low s.front s.known)
-      (b : BackMask P.same s.slice.now s.high s.back s.base) → again o n f b ≡ s
-  same_again o n f b =
-      ap (λ x. again x n f b) (order_known o s.order) ∙ ap (λ x. again s.order x f b) (inside_known n s.inside)
-      ∙ ap (λ x. again s.order s.inside x b) (front_known f s.front_mask)
-      ∙ ap (λ x. again s.order s.inside s.front_mask x) (back_known b s.back_mask)

@@ -1,12 +1,11 @@
 -- The bits of a mask in the other order.
 use Rattle.std.proofs.Common.{◌≡◌, ℕ, ◌+◌, ◌*◌, ◌/◌, ◌%◌, ◌≤◌, cond, Bool, true, false, List, [], ◌∷◌, ◌++◌, length}
-use Rattle.std.proofs.Common.{append_assoc, refl, sym, ap, ap₂, ◌∙◌, arith, Fits, w16}
+use Rattle.std.proofs.Common.{append_assoc, refl, sym, ap, ap₂, ◌∙◌, arith, w16}
 use Rattle.std.specs.Prelude.{reverse}
 use Rattle.std.proofs.lemmas.List.{append-nil, reverse-append}
 use Rattle.std.proofs.lemmas.Simd.{length-chunk}
 use Rattle.std.specs.Int.{reverse_bits, reverse_bits_onto}
 use Rattle.std.specs.Simd.Lanes.{chunk, mask_l}
-use Rattle.sgb_masks.proofs.Joined.{mask_small}
 
 bit_off : (b : Bool) (m : ℕ) → (cond b 1 0 + 2 * m) / 2 ≡ m
 bit_off true m = omega arith
@@ -25,17 +24,9 @@ turned_onto (x ∷ xs) ys =
     ∙ ap mask_l (sym (append_assoc (reverse xs) (x ∷ []) ys) ∙ ap (λ zs. zs ++ ys) (sym (reverse-append (x ∷ []) xs)))
 
 -- a mask of sixteen tests
-module _ (bs : List Bool) (at m : ℕ) (room : at + 16 ≤ length bs) (mask : m ≡ mask_l (chunk at 16 bs)) where
-  abbrev lanes : List Bool
-  lanes = chunk at 16 bs
-
-  long : length lanes ≡ 16
-  long = length-chunk at 16 bs room
-
-  pub mask_fits : Fits w16 m
-  mask_fits = omega (arith, mask, mask_small lanes long)
-
-  pub mask_turned : reverse_bits w16 m ≡ mask_l (reverse lanes)
-  mask_turned =
-      ap (λ (n : ℕ). reverse_bits w16 n) mask ∙ ap (λ (n : ℕ). reverse_bits_onto n (mask_l lanes) 0) (sym long)
-      ∙ turned_onto lanes [] ∙ ap mask_l (append-nil (reverse lanes))
+pub mask_turned : (bs : List Bool) (at m : ℕ) → at + 16 ≤ length bs → m ≡ mask_l (chunk at 16 bs)
+    → reverse_bits w16 m ≡ mask_l (reverse (chunk at 16 bs))
+mask_turned bs at m room mask =
+    let lanes = chunk at 16 bs in
+    ap (λ (n : ℕ). reverse_bits w16 n) mask ∙ ap (λ (n : ℕ). reverse_bits_onto n (mask_l lanes) 0) (sym (length-chunk at 16 bs room))
+    ∙ turned_onto lanes [] ∙ ap mask_l (append-nil (reverse lanes))

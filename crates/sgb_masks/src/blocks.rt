@@ -1,5 +1,5 @@
 //! Sixty-four neighbouring pairs, or elements, at a time.
-ghost use Rattle.std.specs.Prelude.{◌≡◌, ◌+◌, ◌*◌, ◌<◌, ◌≤◌, not, length, map, reverse};
+ghost use Rattle.std.specs.Prelude.{◌≡◌, ◌+◌, ◌-◌, ◌*◌, ◌<◌, ◌≤◌, not, length, map, reverse};
 ghost use Rattle.std.specs.Simd.Lanes.{mask_l, chunk};
 ghost use Rattle.sgb_numbers.specs.Neighbours.{boundaries};
 
@@ -19,20 +19,20 @@ pub(crate) fn block<T, M: Masks<T>>(slice: &[T], at: usize) -> u64
     )
 }
 
-/// Which of sixteen neighbouring pairs from the place `at` on differ, the last one first.
+/// Which of sixteen neighbouring pairs from the place `at` on differ, the last one first: pairs of the reversed slice.
 #[inline(always)]
 pub(crate) fn cuts_back<T, M: Masks<T>>(slice: &[T], at: usize) -> u64
     requires { at + 16 < length slice.now }
-    ensures { result ≡ mask_l (reverse (chunk at 16 (boundaries M.same slice.now))) }
+    ensures { result ≡ mask_l (chunk (length slice.now - 1 - (at + 16)) 16 (boundaries M.same (reverse slice.now))) }
 {
     (M::cuts(slice, at) as u16).reverse_bits() as u64
 }
 
-/// Which of 64 neighbouring pairs from the place `at` on differ, the last one first.
+/// Which of 64 neighbouring pairs from the place `at` on differ, the last one first: pairs of the reversed slice.
 #[inline(always)]
 pub(crate) fn block_back<T, M: Masks<T>>(slice: &[T], at: usize) -> u64
     requires { at + 64 < length slice.now }
-    ensures { result ≡ mask_l (reverse (chunk at 64 (boundaries M.same slice.now))) }
+    ensures { result ≡ mask_l (chunk (length slice.now - 1 - (at + 64)) 64 (boundaries M.same (reverse slice.now))) }
 {
     joined(
         cuts_back::<T, M>(slice, at + 48),

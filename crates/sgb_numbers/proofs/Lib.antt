@@ -1,4 +1,6 @@
 pub mod Pairs
+pub mod Reversed
+pub mod Bits
 mod Sixteen
 mod SignedBits
 pub mod Asked

@@ -1,19 +1,21 @@
 -- A scan that compares with the element at the end finds the first pair of neighbours that differs: equality is symmetric and transitive.
-use Rattle.std.proofs.Common.{◌≡◌, ℕ, ◌+◌, ◌-◌, ◌<◌, ◌≤◌, Bool, true, false, not, List, [], ◌∷◌, length, get_or, ◌⊎◌, inl, inr, sym, ap, ◌∙◌, subst, arith, ⊎_elim}
+use Rattle.std.proofs.Common.{◌≡◌, ℕ, ◌+◌, ◌-◌, ◌<◌, ◌≤◌, Bool, true, false, not, List, [], ◌∷◌, length, get_or, ◌⊎◌, inl, inr}
+use Rattle.std.proofs.Common.{sym, ap, ◌∙◌, subst, arith, ⊎_elim}
 use Rattle.std.proofs.lemmas.Bool.{cases_lt, false_from_ne_true, false≢true}
-use Rattle.std.proofs.lemmas.List.{get_or_default}
+use Rattle.std.proofs.lemmas.List.{get_or_default, length-reverse}
 use Rattle.std.specs.Cmp.{IsPartialEquivalence}
-use Rattle.std.specs.Prelude.{slice_range}
+use Rattle.std.specs.Prelude.{reverse, slice_range}
 use Rattle.sgb_search.specs.declared.end.End.TheVariants.{Front, Back}
 use Rattle.sgb_search.specs.declared.judge.Judge.{Ghosts}
 use Rattle.sgb_search.specs.Questions.{IsRun, questions}
 use Rattle.sgb_numbers.specs.Alike.{AreLike, IsFirstLen, IsLastLen}
 use Rattle.sgb_numbers.specs.Neighbours.{differs, AreSame, IsFirstEnd, IsLastStart}
 use Rattle.sgb_numbers.proofs.Pairs.{differs_or}
+use Rattle.sgb_numbers.proofs.Reversed.{at_reverse, like_reverse, differs_reverse, same_reverse}
 use Rattle.sgb_numbers.proofs.Asked.{asked_front, asked_back}
 
 module _ {T : Type 0} (eq : T → T → Bool) (xs : List T) where
-  abbrev is_cut : ℕ → Type 0
+  abbrev pub is_cut : ℕ → Type 0
   is_cut p = differs eq xs p ≡ true
 
   module _ (laws : IsPartialEquivalence eq) (e : T) where
@@ -60,31 +62,24 @@ module _ {T : Type 0} (eq : T → T → Bool) (xs : List T) where
           back (inl i) same = laws.symm (at (end - 1 + 1)) e ∙ subst (λ x. eq x (at (end - 1 + 1)) ≡ true) i same
           back (inr k) same = laws.trans (at (end - 1 + 1)) (at (end - 1)) e (laws.symm (at (end - 1 + 1)) (at (end - 1)) ∙ same) k
 
-    -- going down from the place of the number
-    module _ (start upto : ℕ) (here : e ≡ at upto) (order : start ≤ upto) (within : upto < length xs)
-        (like : AreLike eq e xs start upto) where
-      like_upto : (p : ℕ) → start ≤ p → p ≤ upto → IsLike p
-      like_upto p a b =
-          ⊎_elim (λ l. inr (like.at p a l)) (λ l. inl (ap at {x = p} {y = upto} (omega (arith, b, l)) ∙ sym here)) (cases_lt p upto)
+-- going down from the place of the number: up in the reversed list
+module _ {T : Type 0} (eq : T → T → Bool) (xs : List T) (laws : IsPartialEquivalence eq) (e : T) (start upto : ℕ)
+    (here : e ≡ get_or xs upto e) (order : start ≤ upto) (within : upto < length xs) (like : AreLike eq e xs start upto) where
+  here_back : e ≡ get_or (reverse xs) (length xs - 1 - upto) e
+  here_back = here ∙ sym (at_reverse xs (length xs - 1 - upto) upto e (omega arith))
 
-      pub scanned_back_same : AreSame eq xs start upto
-      scanned_back_same = record {
-        at =
-            λ p a b. same_pair p (omega (arith, b, within)) (equal_before p (like.at p a b) (like_upto (p + 1) (omega (arith, a)) (omega (arith, b))));
-      }
-        where
-          equal_before : (p : ℕ) → eq (at p) e ≡ true → IsLike (p + 1) → eq (at p) (at (p + 1)) ≡ true
-          equal_before p h (inl i) = subst (λ y. eq (at p) y ≡ true) (sym i) h
-          equal_before p h (inr k) = laws.trans (at p) e (at (p + 1)) h (laws.symm e (at (p + 1)) ∙ k)
+  like_back : AreLike eq e (reverse xs) (length xs - 1 - upto + 1) (length xs - start)
+  like_back = like_reverse eq e xs _ _ start upto (omega arith) (omega arith) like
 
-      pub scanned_back_cut : 0 < start → eq (at (start - 1)) e ≡ false → is_cut (start - 1)
-      scanned_back_cut more unlike =
-          cut_pair (start - 1) (omega (arith, order, within, more))
-          (λ same. false≢true (sym unlike ∙ back (like_upto (start - 1 + 1) (omega (arith, more)) (omega (arith, order, more))) same))
-        where
-          back : IsLike (start - 1 + 1) → eq (at (start - 1)) (at (start - 1 + 1)) ≡ true → eq (at (start - 1)) e ≡ true
-          back (inl i) same = subst (λ y. eq (at (start - 1)) y ≡ true) i same
-          back (inr k) same = laws.trans (at (start - 1)) (at (start - 1 + 1)) e same k
+  pub scanned_back_same : AreSame eq (reverse xs) (length xs - 1 - upto) (length xs - start - 1)
+  scanned_back_same =
+      scanned_same eq (reverse xs) laws e _ (length xs - start) here_back (omega arith) (omega (arith, length-reverse xs)) like_back
+
+  pub scanned_back_cut : 0 < start → eq (get_or xs (start - 1) e) e ≡ false → is_cut eq (reverse xs) (length xs - start - 1)
+  scanned_back_cut more unlike =
+      scanned_cut eq (reverse xs) laws e _ (length xs - start) here_back (omega arith) (omega (arith, length-reverse xs)) like_back
+      (omega (arith, length-reverse xs))
+      (ap (λ x. eq x e) (at_reverse xs (length xs - start) (start - 1) e (omega arith)) ∙ unlike)
 
 -- what a scan of a part finds, as the end of the part's first or last group
 module _ {T : Type 0} (eq : T → T → Bool) (laws : IsPartialEquivalence eq) (xs : List T) (low high n : ℕ) (inside : high ≤ length xs)
@@ -116,9 +111,11 @@ module _ {T : Type 0} (eq : T → T → Bool) (laws : IsPartialEquivalence eq) (
       record {
         nonempty = omega (arith, r.nonempty, r.within);
         within = omega (arith, r.within);
-        same = scanned_back_same eq xs laws e (high - n) (high - 1) here order within (r.like d);
+        same = same_reverse eq laws.symm xs _ _ _ _ (omega (arith, within)) (omega (arith, r.within, within))
+            (scanned_back_same eq xs laws e (high - n) (high - 1) here order within (r.like d));
         differ =
-            λ more. scanned_back_cut eq xs laws e (high - n) (high - 1) here order within (r.like d) (omega (arith, more))
+            λ more. sym (differs_reverse eq laws.symm xs (high - n - 1) _ (omega (arith, more, within)))
+            ∙ scanned_back_cut eq xs laws e (high - n) (high - 1) here order within (r.like d) (omega (arith, more))
             (ap (λ y. eq y e) (sym (read (high - n - 1) e (omega (arith, more, inside)))) ∙ r.unlike d (omega (arith, more)));
       }
 

@@ -1,5 +1,6 @@
 -- A signed number that fits its type, and the bits that a vector holds of it.
-use Rattle.std.proofs.Common.{◌≡◌, ℕ, ◌+◌, ◌-◌, ◌%◌, ◌^◌, ◌<◌, ◌≤◌, not, cond, List, [], ◌∷◌, length, map, get_or, replicate, eqb, int_eq, ℤ, pos, of_z, to_z, refl, sym, ap, ap₂, ◌∙◌, arith, inl, inr}
+use Rattle.std.proofs.Common.{◌≡◌, ℕ, ◌+◌, ◌<◌, ◌≤◌, not, List, [], ◌∷◌, length, map, get_or, replicate, eqb, int_eq, ℤ, pos}
+use Rattle.std.proofs.Common.{of_z, to_z, refl, sym, ap, ap₂, ◌∙◌, arith, inl, inr}
 use Rattle.std.proofs.lemmas.Bool.{eqb-true, eq-eqb, false_from_ne_true, cases_Bool, false≢true}
 use Rattle.std.proofs.lemmas.Bool.Decides.{Decides-int_eq}
 use Rattle.std.proofs.lemmas.Int.{to_z-of_z}
@@ -7,8 +8,7 @@ use Rattle.std.proofs.lemmas.List.{length-map}
 use Rattle.std.proofs.lemmas.Simd.{map-map, length-chunk, get_or-chunk, bitmask_splat, Each1-from_get_or}
 use Rattle.std.specs.Int.{Width}
 use Rattle.std.specs.Int.RustNames.{FitsSigned}
-use Rattle.std.specs.Simd.Lanes.{Each1, zip2, chunk, mask_l, top}
-use mir.Val.{bits, hbits}
+use Rattle.std.specs.Simd.Lanes.{Each1, zip2, chunk, mask_l}
 use Rattle.sgb_numbers.specs.Neighbours.{boundaries}
 use Rattle.sgb_numbers.proofs.Vectors.{unequal, lanes_mask, boundaries-chunk, mask_of}
 
@@ -30,8 +30,7 @@ module _ (w : Width) (e : ℤ) (here : FitsSigned w e) where
   -- the mask of sixteen signed numbers
   pub signed_mask : (xs : List ℤ) (at : ℕ) → at + 16 ≤ length xs
       → ((k : ℕ) (d : ℤ) → at ≤ k → k < at + 16 → FitsSigned w (get_or xs k d))
-      → mask_l (map (top (hbits w)) (zip2 (λ a b. cond (not (eqb a b)) (2 ^ bits w - 1) 0)
-      (map (of_z w) (chunk at 16 xs)) (replicate 16 (of_z w e)))) % 2 ^ 64
+      → lanes_mask w (unequal eqb) (map (of_z w) (chunk at 16 xs)) (replicate 16 (of_z w e))
       ≡ mask_l (map (λ x. not (int_eq x e)) (chunk at 16 xs))
   signed_mask xs at room fits =
       let v = chunk at 16 xs in
@@ -59,7 +58,8 @@ module _ (w : Width) where
         Each1-from_get_or (FitsSigned w) (chunk from 16 xs) (pos 0)
         (λ i few.
         let long = length-chunk from 16 xs (omega (arith, u, room)) in
-        rw (get_or-chunk from 16 xs i (pos 0) (omega (arith, few, long))) (fits (from + i) (pos 0) (omega (arith, l)) (omega (arith, few, long, u))))
+        rw (get_or-chunk from 16 xs i (pos 0) (omega (arith, few, long)))
+        (fits (from + i) (pos 0) (omega (arith, l)) (omega (arith, few, long, u))))
 
     long_of : (from : ℕ) → from ≤ at + 1 → length (held from) ≡ 16
     long_of from u = length-map (chunk from 16 xs) (of_z w) ∙ length-chunk from 16 xs (omega (arith, u, room))

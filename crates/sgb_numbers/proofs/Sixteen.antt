@@ -1,13 +1,16 @@
 -- From the mask of sixteen elements to the elements.
-use Rattle.std.proofs.Common.{◌≡◌, ℕ, suc, ◌+◌, ◌-◌, ◌*◌, ◌/◌, ◌%◌, ◌^◌, ◌<◌, ◌≤◌, cond, pow_mono, Bool, true, false, not, inl, inr, w64, List, length, map, get_or, ap, ◌∙◌, subst, sym, arith, ⊎_elim}
-use Rattle.std.proofs.lemmas.Bool.{not-false, not-true, cases_lt, cases_Bool, cond-true, cond-false, false_from_ne_true}
-use Rattle.std.proofs.lemmas.Simd.{length-chunk, get_or-chunk, bit_mask_l, mask_l-lt, trailing_mask_l, run_in_chunk_le, run_in_chunk_fails, none_from_empty_mask}
+use Rattle.std.proofs.Common.{◌≡◌, ℕ, suc, ◌+◌, ◌-◌, ◌*◌, ◌/◌, ◌%◌, ◌^◌, ◌<◌, ◌≤◌, pow_mono, Bool, false, not, w64, List, length}
+use Rattle.std.proofs.Common.{map, get_or, ap, ◌∙◌, subst, sym, arith, ⊎_elim}
+use Rattle.std.proofs.lemmas.Bool.{not-false, not-true, cases_lt}
+use Rattle.std.proofs.lemmas.Simd.{length-chunk, get_or-chunk, mask_l-lt, trailing_mask_l, run_in_chunk_le, run_in_chunk_fails}
+use Rattle.std.proofs.lemmas.Simd.{none_from_empty_mask}
 use Rattle.std.proofs.lemmas.List.{get_or-map, length-map}
 use Rattle.std.proofs.Math.Nat.{div-eq_of_lt, div-eq_of_lt-le, two-pow-succ}
 use Rattle.std.proofs.lemmas.Nat.Bits.{bit_at-trailing_zeros}
 use Rattle.std.specs.List.{prefix_len}
 use Rattle.std.specs.Simd.Lanes.{mask_l, chunk}
 use lib.Count.{count_trailing_zeros}
+use Rattle.sgb_numbers.proofs.Bits.{passed, failed, inside}
 use Rattle.sgb_numbers.specs.Alike.{AreLike}
 
 -- after a stretch of like elements another
@@ -42,40 +45,40 @@ module _ {T : Type 0} (eq : T → T → Bool) (e : T) (xs : List T) (at : ℕ) (
   like_before some =
       record { at = λ k low high. not-false _ (run_in_chunk_fails differs xs at 16 _ e room (counted some) k low high) }
 
-  pub like_all : m ≡ 0 → AreLike eq e xs at (at + 16)
-  like_all none =
-      record { at = λ k low high. not-false _ (none_from_empty_mask differs xs at 16 e room (sym mask ∙ none) k low high) }
+  pub like_all : (i j : ℕ) → at ≤ i → j ≤ at + 16 → m ≡ 0 → AreLike eq e xs i j
+  like_all i j l u none =
+      record {
+        at =
+            λ k low high.
+            not-false _ (none_from_empty_mask differs xs at 16 e room (sym mask ∙ none) k (omega (arith, l, low)) (omega (arith, u, high)));
+      }
 
   -- a bit that is set
   module _ (i : ℕ) (set : m / 2 ^ i % 2 ≡ 1) where
-    pub lane_below : i < 16
-    lane_below =
-        let small : m < 2 ^ 16 = subst (λ n. m < 2 ^ n) long (omega (arith, mask_l-lt (map differs lanes))) in
-        ⊎_elim (λ l. l) (λ l.
-        let clear = ap (λ x. x % 2) (div-eq_of_lt {n = m} {m = 2 ^ i} (omega (arith, small, pow_mono {i = 16} {j = i} l))) in
-        absurd (omega (arith, set, clear))) (cases_lt i 16)
+    lane_below : i < 16
+    lane_below = omega (arith, inside (map differs lanes) m mask i set, long)
 
-    pub unlike_lane : eq (get_or xs (at + i) e) e ≡ false
+    unlike_lane : eq (get_or xs (at + i) e) e ≡ false
     unlike_lane =
-        let bit : cond (get_or (map differs lanes) i false) 1 0 ≡ 1 =
-        sym (bit_mask_l (map differs lanes) i) ∙ ap (λ n. n / 2 ^ i % 2) (sym mask) ∙ set in
-        let marked : get_or (map differs lanes) i false ≡ true =
-        elim (cases_Bool (get_or (map differs lanes) i false)) [
-          | inl marks ↦ marks
-          | inr clear ↦ absurd (omega (arith, bit, cond-false {A = ℕ} (get_or (map differs lanes) i false) 1 0 clear))
-        ] in
-        not-true _ (ap differs (sym (get_or-chunk at 16 xs i e lane_below)) ∙ sym (lane_read i lane_below) ∙ marked)
+        not-true _ (ap differs (sym (get_or-chunk at 16 xs i e lane_below)) ∙ sym (lane_read i lane_below)
+        ∙ passed (map differs lanes) m mask i set)
 
   -- the lowest bit that is set
-  pub lowest_set : 0 < m → m / 2 ^ count_trailing_zeros 64 m % 2 ≡ 1
-  lowest_set some =
-      let small : m < 2 ^ 16 = subst (λ n. m < 2 ^ n) long (omega (arith, mask_l-lt (map differs lanes))) in
-      (bit_at-trailing_zeros w64 m some (omega arith)).1
+  pub unlike_lowest : 0 < m → eq (get_or xs (at + count_trailing_zeros 64 m) e) e ≡ false
+  unlike_lowest some =
+      let small : m < 2 ^ 16 = subst (λ n. m < 2 ^ n) long (omega (arith, mask, mask_l-lt (map differs lanes))) in
+      unlike_lane (count_trailing_zeros 64 m) (bit_at-trailing_zeros w64 m some (omega arith)).1
 
   -- r: the highest bit that is set
   module _ (r : ℕ) (least : 2 ^ r ≤ m) (most : m < 2 * 2 ^ r) where
-    pub highest_set : m / 2 ^ r % 2 ≡ 1
+    highest_set : m / 2 ^ r % 2 ≡ 1
     highest_set = ap (λ x. x % 2) (div-eq_of_lt-le {k = 1} (2 ^ r) {m = m} (omega arith) (omega arith))
+
+    pub highest_below : r < 16
+    highest_below = lane_below r highest_set
+
+    pub unlike_highest : (i : ℕ) → at + r ≡ i → eq (get_or xs i e) e ≡ false
+    unlike_highest i here = subst (λ (k : ℕ). eq (get_or xs k e) e ≡ false) here (unlike_lane r highest_set)
 
     clear_above : (k : ℕ) → r < k → m / 2 ^ k % 2 ≡ 0
     clear_above k l =
@@ -84,14 +87,11 @@ module _ {T : Type 0} (eq : T → T → Bool) (e : T) (xs : List T) (at : ℕ) (
 
     lane_above : (k : ℕ) → r < k → k < 16 → differs (get_or xs (at + k) e) ≡ false
     lane_above k l few =
-        let bit : cond (get_or (map differs lanes) k false) 1 0 ≡ 0 =
-        sym (bit_mask_l (map differs lanes) k) ∙ ap (λ n. n / 2 ^ k % 2) (sym mask) ∙ clear_above k l in
-        let unset : get_or (map differs lanes) k false ≡ false =
-        false_from_ne_true _ (λ set. absurd (omega (arith, bit, cond-true {A = ℕ} (get_or (map differs lanes) k false) 1 0 set))) in
-        ap differs (sym (get_or-chunk at 16 xs k e few)) ∙ sym (lane_read k few) ∙ unset
+        ap differs (sym (get_or-chunk at 16 xs k e few)) ∙ sym (lane_read k few)
+        ∙ failed (map differs lanes) m mask k (clear_above k l)
 
-    pub like_after : AreLike eq e xs (at + suc r) (at + 16)
-    like_after =
+    pub like_after : (i j : ℕ) → at + r < i → j ≤ at + 16 → AreLike eq e xs i j
+    like_after i j l u =
         record {
           at =
               λ k low high.

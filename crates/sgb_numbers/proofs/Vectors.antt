@@ -1,7 +1,9 @@
 -- The mask of two vectors of neighbours.
-use Rattle.std.proofs.Common.{◌≡◌, ℕ, zero, suc, ◌+◌, ◌-◌, ◌%◌, ◌^◌, ◌<◌, not, cond, Bool, List, [], ◌∷◌, length, map, take, drop, refl, sym, ap, ◌∙◌, arith}
+use Rattle.std.proofs.Common.{◌≡◌, ℕ, zero, suc, ◌+◌, ◌-◌, ◌%◌, ◌^◌, ◌<◌, ◌≤◌, not, cond, Bool, List, [], ◌∷◌, length, map, take}
+use Rattle.std.proofs.Common.{drop, refl, sym, ap, ◌∙◌, arith}
 use Rattle.std.proofs.lemmas.List.{drop-drop}
-use Rattle.std.proofs.lemmas.Simd.{length-chunk, length-zip2, tops_compared, mask_l-mod}
+use Rattle.std.proofs.lemmas.Simd.{length-chunk, length-zip2, tops_compared, mask_l-mod, bitmask_splat}
+use Rattle.std.specs.Prelude.{replicate}
 use Rattle.std.specs.Int.{Width}
 use Rattle.std.specs.Simd.Lanes.{zip2, chunk, mask_l, top}
 use mir.Val.{bits, hbits}
@@ -37,7 +39,8 @@ module _ {T : Type 0} (eq : T → T → Bool) where
   boundaries-chunk at n xs =
       ap (chunk at n) (boundaries-zip2 xs) ∙ ap (take n) (zip2-drop unequal at xs (drop 1 xs))
       ∙ zip2-take unequal n (drop at xs) (drop at (drop 1 xs))
-      ∙ ap (λ zs. zip2 unequal (chunk at n xs) (take n zs)) (drop-drop at 1 xs ∙ ap (λ (k : ℕ). drop k xs) {x = 1 + at} {y = at + 1} (omega arith))
+      ∙ ap (λ zs. zip2 unequal (chunk at n xs) (take n zs))
+      (drop-drop at 1 xs ∙ ap (λ (k : ℕ). drop k xs) {x = 1 + at} {y = at + 1} (omega arith))
 
 -- which lanes of two vectors pass a test, as the code computes it
 abbrev pub lanes_mask : {X : Type 0} → Width → (X → X → Bool) → List X → List X → ℕ
@@ -66,3 +69,8 @@ module _ {X : Type 0} (w : Width) (eq : X → X → Bool) (xs : List X) (at : �
 
   pub mask_is : lanes_mask w (unequal eq) first_of second_of ≡ mask_l (chunk at 16 (boundaries eq xs))
   mask_is = mask_of w (unequal eq) first_of second_of long_first long_second ∙ ap mask_l (sym (boundaries-chunk eq at 16 xs))
+
+-- and one number in each lane
+pub unlike_is : {X : Type 0} (w : Width) (eq : X → X → Bool) (xs : List X) (at : ℕ) (y : X) → at + 16 ≤ length xs
+    → lanes_mask w (unequal eq) (chunk at 16 xs) (replicate 16 y) ≡ mask_l (map (λ x. not (eq x y)) (chunk at 16 xs))
+unlike_is w eq xs at y room = bitmask_splat w (unequal eq) (chunk at 16 xs) 16 y (length-chunk at 16 xs room) (omega arith)

@@ -1,17 +1,17 @@
-use Rattle.std.proofs.Common.{arith}
+use Rattle.std.proofs.Common.{refl, arith, ◌+◌}
 use Rattle.sgb_numbers.specs.Neighbours.{boundaries}
 use Rattle.sgb_numbers.proofs.Pairs.{length-boundaries}
-use Rattle.sgb_masks.proofs.Joined.{all_small, block_is}
+use Rattle.sgb_masks.proofs.Joined.{few, block_mask}
 use Rattle.sgb_masks.proofs.blocks.block.Goals as goal
 
 pub joined-requires : goal.joined-requires
-joined-requires g c =
-    let bs = boundaries g.M.Masks.same c.args.slice.now in
-    all_small bs c.args.at _ _ _ _ (omega (arith, length-boundaries g.M.Masks.same c.args.slice.now, c.requires))
-    c.cuts.ensures c.cuts-2.ensures c.cuts-3.ensures c.cuts-4.ensures
+joined-requires g c = (omega (arith, few), omega (arith, few), omega (arith, few), omega (arith, few))
 
 pub returns : goal.returns
 returns g c =
     let bs = boundaries g.M.Masks.same c.args.slice.now in
-    block_is bs c.args.at _ _ _ _ (omega (arith, length-boundaries g.M.Masks.same c.args.slice.now, c.requires))
-    c.cuts.ensures c.cuts-2.ensures c.cuts-3.ensures c.cuts-4.ensures c.joined.ensures
+    omega (
+      arith,
+      block_mask bs c.args.at _ (c.args.at + 16) (c.args.at + 32) (c.args.at + 48) refl refl refl refl
+          (omega (arith, length-boundaries g.M.Masks.same c.args.slice.now, c.requires)),
+    )

@@ -1,16 +1,19 @@
-use Rattle.std.proofs.Common.{◌∙◌, arith}
+use Rattle.std.proofs.Common.{ap, ◌∙◌, arith}
+use Rattle.std.specs.Simd.Lanes.{mask_l}
 use Rattle.sgb_numbers.specs.Neighbours.{boundaries}
 use Rattle.sgb_numbers.proofs.Pairs.{length-boundaries}
-use Rattle.sgb_masks.proofs.Turned.{mask_fits, mask_turned}
+use Rattle.sgb_numbers.proofs.Reversed.{chunk_reverse}
+use Rattle.sgb_masks.proofs.Joined.{few}
+use Rattle.sgb_masks.proofs.Turned.{mask_turned}
 use Rattle.sgb_masks.proofs.blocks.cuts_back.Goals as goal
 
 pub overflow_cast-cuts : goal.overflow_cast-cuts
-overflow_cast-cuts g c =
-    let bs = boundaries g.M.Masks.same c.args.slice.now in
-    mask_fits bs c.args.at _ (omega (arith, length-boundaries g.M.Masks.same c.args.slice.now, c.requires)) c.cuts.ensures
+overflow_cast-cuts g c = omega (arith, few)
 
 pub returns : goal.returns
 returns g c =
-    let bs = boundaries g.M.Masks.same c.args.slice.now in
+    let eq = g.M.Masks.same in
+    let xs = c.args.slice.now in
     c.reverse_bits.ensures
-    ∙ mask_turned bs c.args.at _ (omega (arith, length-boundaries g.M.Masks.same c.args.slice.now, c.requires)) c.cuts.ensures
+    ∙ mask_turned (boundaries eq xs) c.args.at _ (omega (arith, length-boundaries eq xs, c.requires)) c.cuts.ensures
+    ∙ ap mask_l (chunk_reverse eq g.met.M.Masks.laws.symm xs c.args.at _ 16 (omega (arith, c.requires)))

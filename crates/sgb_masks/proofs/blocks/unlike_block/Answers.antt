@@ -1,23 +1,19 @@
-use Rattle.std.proofs.Common.{◌≡◌, ℕ, map, not, sym, ap, ◌∙◌, arith}
+use Rattle.std.proofs.Common.{◌+◌, map, not, refl, arith}
 use Rattle.std.proofs.lemmas.List.{length-map}
-use Rattle.std.specs.Simd.Lanes.{mask_l, chunk}
-use Rattle.sgb_masks.proofs.OneByOne.{map-chunk}
-use Rattle.sgb_masks.proofs.Joined.{all_small, block_is}
+use Rattle.sgb_masks.proofs.OneByOne.{few_mapped, map-chunk}
+use Rattle.sgb_masks.proofs.Joined.{block_mask}
 use Rattle.sgb_masks.proofs.blocks.unlike_block.Goals as goal
 
 pub joined-requires : goal.joined-requires
-joined-requires g c =
-    let xs = c.args.slice.now in
-    let test = λ (y : g.row.T.Denot). not (g.M.Masks.same y c.args.one.now) in
-    let part = λ (m at : ℕ) (e : m ≡ mask_l (map test (chunk at 16 xs))). e ∙ ap mask_l (sym (map-chunk test at 16 xs)) in
-    all_small (map test xs) c.args.at _ _ _ _ (omega (arith, length-map xs test, c.requires))
-    (part _ _ c.unlike.ensures) (part _ _ c.unlike-2.ensures) (part _ _ c.unlike-3.ensures) (part _ _ c.unlike-4.ensures)
+joined-requires g c = (omega (arith, few_mapped), omega (arith, few_mapped), omega (arith, few_mapped), omega (arith, few_mapped))
 
 pub returns : goal.returns
 returns g c =
     let xs = c.args.slice.now in
     let test = λ (y : g.row.T.Denot). not (g.M.Masks.same y c.args.one.now) in
-    let part = λ (m at : ℕ) (e : m ≡ mask_l (map test (chunk at 16 xs))). e ∙ ap mask_l (sym (map-chunk test at 16 xs)) in
-    block_is (map test xs) c.args.at _ _ _ _ (omega (arith, length-map xs test, c.requires))
-    (part _ _ c.unlike.ensures) (part _ _ c.unlike-2.ensures) (part _ _ c.unlike-3.ensures) (part _ _ c.unlike-4.ensures) c.joined.ensures
-    ∙ ap mask_l (map-chunk test c.args.at 64 xs)
+    let at = c.args.at in
+    omega (
+      arith,
+      simp map-chunk at (block_mask (map test xs) at _ (at + 16) (at + 32) (at + 48) refl refl refl refl
+          (omega (arith, length-map xs test, c.requires))),
+    )

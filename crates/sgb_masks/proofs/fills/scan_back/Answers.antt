@@ -1,6 +1,6 @@
-use Rattle.std.proofs.Common.{◌+◌, ◌-◌, arith}
-use Rattle.sgb_masks.proofs.Known.{same_part}
-use Rattle.sgb_masks.proofs.OneBit.{back_top, back_bare}
+use Rattle.std.proofs.Common.{arith}
+use Rattle.std.proofs.lemmas.List.{length-reverse}
+use Rattle.sgb_masks.proofs.Known.{front_top, front_bare}
 use Rattle.sgb_numbers.proofs.Scanned.{scanned_back_same, scanned_back_cut}
 use Rattle.sgb_masks.proofs.fills.scan_back.Goals as goal
 
@@ -11,20 +11,13 @@ returns-then-low-start-clause-mask g c =
     let laws = g.met.M.Masks.laws in
     let s = c.like_back_by_vectors-start in
     let e = c.index-slice-upto in
-    back_top eq xs (c.args.upto + 1) (s.result - 1) (omega arith)
-    (same_part eq xs s.result c.args.upto (s.result - 1 + 1) (c.args.upto + 1 - 1)
-    (scanned_back_same eq xs laws e.result s.result c.args.upto e.is s.ensures.high (omega arith) s.ensures.like)
-    (omega arith) (omega arith))
+    front_top (scanned_back_same eq xs laws e.result s.result c.args.upto e.is s.ensures.high (omega arith) s.ensures.like)
     (scanned_back_cut eq xs laws e.result s.result c.args.upto e.is s.ensures.high (omega arith) s.ensures.like (omega arith)
-    (s.ensures.unlike c.if-low-start.true))
+    (s.ensures.unlike c.if-low-start.true)) (omega arith) (omega arith) (omega arith) (omega (arith, length-reverse xs))
 
 pub returns-else-low-start-clause-mask : goal.returns-else-low-start-clause-mask
 returns-else-low-start-clause-mask g c =
-    let eq = g.M.Masks.same in
-    let xs = c.args.slice.now in
     let s = c.like_back_by_vectors-start in
     let e = c.index-slice-upto in
-    back_bare eq xs (c.args.upto + 1) c.args.low
-    (same_part eq xs s.result c.args.upto c.args.low (c.args.upto + 1 - 1)
-    (scanned_back_same eq xs g.met.M.Masks.laws e.result s.result c.args.upto e.is s.ensures.high (omega arith) s.ensures.like)
-    (omega arith) (omega arith))
+    front_bare (scanned_back_same g.M.Masks.same c.args.slice.now g.met.M.Masks.laws e.result s.result c.args.upto e.is s.ensures.high
+    (omega arith) s.ensures.like) (omega arith) (omega arith)

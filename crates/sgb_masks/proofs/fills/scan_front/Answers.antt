@@ -1,6 +1,5 @@
-use Rattle.std.proofs.Common.{◌-◌, arith}
-use Rattle.sgb_masks.proofs.Known.{same_part}
-use Rattle.sgb_masks.proofs.OneBit.{front_top, front_bare}
+use Rattle.std.proofs.Common.{arith}
+use Rattle.sgb_masks.proofs.Known.{front_top, front_bare}
 use Rattle.sgb_numbers.proofs.Scanned.{scanned_same, scanned_cut}
 use Rattle.sgb_masks.proofs.fills.scan_front.Goals as goal
 
@@ -11,18 +10,13 @@ returns-then-end-high-clause-mask g c =
     let laws = g.met.M.Masks.laws in
     let s = c.like_by_vectors-end in
     let e = c.index-slice-from in
-    front_top eq xs c.args.from s.result (omega arith)
-    (scanned_same eq xs laws e.result c.args.from s.result e.is s.ensures.low (omega arith) s.ensures.like)
+    front_top (scanned_same eq xs laws e.result c.args.from s.result e.is s.ensures.low (omega arith) s.ensures.like)
     (scanned_cut eq xs laws e.result c.args.from s.result e.is s.ensures.low (omega arith) s.ensures.like (omega arith)
-    (s.ensures.unlike c.if-end-high.true))
+    (s.ensures.unlike c.if-end-high.true)) (omega arith) (omega arith) (omega arith) (omega arith)
 
 pub returns-else-end-high-clause-mask : goal.returns-else-end-high-clause-mask
 returns-else-end-high-clause-mask g c =
-    let eq = g.M.Masks.same in
-    let xs = c.args.slice.now in
     let s = c.like_by_vectors-end in
     let e = c.index-slice-from in
-    front_bare eq xs c.args.from (c.args.high - 1)
-    (same_part eq xs c.args.from (s.result - 1) c.args.from (c.args.high - 1)
-    (scanned_same eq xs g.met.M.Masks.laws e.result c.args.from s.result e.is s.ensures.low (omega arith) s.ensures.like)
-    (omega arith) (omega arith))
+    front_bare (scanned_same g.M.Masks.same c.args.slice.now g.met.M.Masks.laws e.result c.args.from s.result e.is s.ensures.low
+    (omega arith) s.ensures.like) (omega arith) (omega arith)

@@ -1,5 +1,5 @@
 use Rattle.std.proofs.Common.{arith, rules}
-use Rattle.sgb_numbers.proofs.Sixteen.{like_then, lanes_before, like_before, like_all, lowest_set, unlike_lane}
+use Rattle.sgb_numbers.proofs.Sixteen.{like_then, lanes_before, like_before, like_all, unlike_lowest}
 use Rattle.sgb_numbers.proofs.scans.like_by_vectors.Goals as goal
 
 pub overflow_add-result : goal.overflow_add-result
@@ -28,15 +28,10 @@ loop-place-preserved g c = record {
   high = omega arith;
   like =
       like_then _ _ _ _ _ _ c.loop-place.invariant.like
-      (like_all g.M.Masks.same c.args.number.now c.args.slice.now c.loop-place.place (omega arith) _ c.unlike-unlike.ensures
-      (omega arith));
+      (like_all g.M.Masks.same c.args.number.now c.args.slice.now c.loop-place.place (omega arith) _ c.unlike-unlike.ensures _ _
+      (omega arith) (omega arith) (omega arith));
 }
 
 pub returns-then-unlike-ne0-clause-unlike : goal.returns-then-unlike-ne0-clause-unlike
 returns-then-unlike-ne0-clause-unlike g c before =
-    let eq = g.M.Masks.same in
-    let number = c.args.number.now in
-    let xs = c.args.slice.now in
-    let place = c.loop-place.place in
-    let set = lowest_set eq number xs place (omega arith) _ c.unlike-unlike.ensures (omega arith) in
-    unlike_lane eq number xs place (omega arith) _ c.unlike-unlike.ensures _ set
+    unlike_lowest g.M.Masks.same c.args.number.now c.args.slice.now c.loop-place.place (omega arith) _ c.unlike-unlike.ensures (omega arith)

@@ -2,16 +2,12 @@ use Rattle.std.proofs.Common.{◌+◌, ◌-◌, ◌≡◌, get_or, not, sym, ap,
 use Rattle.std.specs.Ordering.{on}
 use Rattle.sgb_numbers.specs.Neighbours.{boundaries, differs}
 use Rattle.sgb_numbers.proofs.Pairs.{length-boundaries, differs_or}
-use Rattle.sgb_masks.proofs.OneByOne.{more, more_fits}
+use Rattle.sgb_masks.proofs.Joined.{few}
+use Rattle.sgb_masks.proofs.OneByOne.{more}
 use Rattle.sgb_masks.proofs.byte_classes.ByteClasses.cuts.Goals as goal
 
 pub pushed-mask-requires : goal.pushed-mask-requires
-pushed-mask-requires g c =
-    let same = on g.Self.ByteClasses.class_of g.Self.Class.PartialEq.eq in
-    let xs = c.args.slice.now in
-    let l = c.loop-k in
-    more_fits (boundaries same xs) c.args.at l.k l.mask c.loop-k-test.true l.invariant.most
-    (omega (arith, length-boundaries same xs, c.requires)) l.invariant.mask
+pushed-mask-requires g c = omega (arith, few)
 
 pub loop-k-preserved : goal.loop-k-preserved
 unfolding differs

@@ -2,15 +2,12 @@ use Rattle.std.proofs.Common.{ℕ, ◌+◌, ◌-◌, ◌≡◌, get_or, map, fal
 use Rattle.std.specs.Ordering.{on}
 use Rattle.std.specs.Simd.Lanes.{mask_l, chunk}
 use Rattle.std.proofs.lemmas.List.{length-map, get_or-map}
-use Rattle.sgb_masks.proofs.OneByOne.{more, more_fits, map-chunk}
+use Rattle.sgb_masks.proofs.Joined.{few}
+use Rattle.sgb_masks.proofs.OneByOne.{more, map-chunk}
 use Rattle.sgb_masks.proofs.byte_classes.ByteClasses.unlike.Goals as goal
 
 pub pushed-mask-requires : goal.pushed-mask-requires
-pushed-mask-requires g c =
-    let test = λ (y : ℕ). not (on g.Self.ByteClasses.class_of g.Self.Class.PartialEq.eq y c.args.byte) in
-    let l = c.loop-k in
-    more_fits (map test c.args.slice.now) c.args.at l.k l.mask c.loop-k-test.true l.invariant.most
-    (omega (arith, length-map c.args.slice.now test, c.requires)) l.invariant.mask
+pushed-mask-requires g c = omega (arith, few)
 
 pub loop-k-preserved : goal.loop-k-preserved
 loop-k-preserved g c =

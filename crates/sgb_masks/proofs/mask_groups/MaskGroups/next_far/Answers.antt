@@ -1,10 +1,5 @@
-use Rattle.sgb_masks.proofs.Taken.{range_empty, front_call, front_place, same_again}
+use Rattle.sgb_masks.proofs.Taken.{front_call, front_place}
 use Rattle.sgb_masks.proofs.mask_groups.MaskGroups.next_far.Goals as goal
-
-pub returns-then-low-self : goal.returns-then-low-self
-returns-then-low-self g c =
-    let s = c.args.self.now in
-    (range_empty s.slice.now s.low s.high c.if-low-self.true, same_again s _ _ _ _)
 
 pub returns : goal.returns
 returns g c =
@@ -13,6 +8,6 @@ returns g c =
     record {
       call =
           front_call g.J.Masks.same g.J.Judge s.judge (g.met.J.MaskJudge.asks s.judge) (g.met.J.MaskJudge.tells s.judge)
-          s.slice.now s.low s.high c.if-low-self.false s.inside _ is;
+          s.slice.now s.low s.high s.inside _ is;
       place = front_place g.J.Masks.same s.slice.now s.low s.high s.inside _ is;
     }

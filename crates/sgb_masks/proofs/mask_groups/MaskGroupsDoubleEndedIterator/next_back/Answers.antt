@@ -1,7 +1,5 @@
-use Rattle.std.proofs.Common.{◌<◌, refl, arith}
-use Rattle.sgb_search.specs.declared.end.End.TheVariants.{Back}
+use Rattle.std.proofs.Common.{refl, arith}
 use Rattle.sgb_numbers.specs.Neighbours.{IsLastStart}
-use Rattle.sgb_masks.proofs.Queue.{goes}
 use Rattle.sgb_masks.proofs.Taken.{back_call}
 use Rattle.sgb_masks.proofs.mask_groups.MaskGroupsDoubleEndedIterator.next_back.Goals as goal
 
@@ -9,15 +7,11 @@ pub returns-then-self-start-clause-steps : goal.returns-then-self-start-clause-s
 returns-then-self-start-clause-steps g c =
     let s = c.args.self.now in
     let e = c.last_start-start.ensures in
-    let order : s.low < s.high = omega (arith, e.nonempty, c.if-self-start.true) in
     let is : IsLastStart g.J.Masks.same s.slice.now s.low s.high c.last_start-start.result =
     record { nonempty = e.nonempty; within = omega (arith, c.if-self-start.true); same = e.same; differ = λ _. e.differ } in
     record {
       call =
           back_call g.J.Masks.same g.J.Judge s.judge (g.met.J.MaskJudge.asks s.judge) (g.met.J.MaskJudge.tells s.judge)
-          s.slice.now s.low s.high order s.inside c.last_start-start.result is;
+          s.slice.now s.low s.high s.inside c.last_start-start.result is;
       place = refl;
     }
-
-pub returns-clause-goes : goal.returns-clause-goes
-returns-clause-goes g c = goes g.J.Judge Back _ _ _ c.next_back_far.ensures

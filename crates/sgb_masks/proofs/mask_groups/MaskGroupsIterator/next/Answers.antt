@@ -1,7 +1,5 @@
-use Rattle.std.proofs.Common.{◌<◌, arith}
+use Rattle.std.proofs.Common.{arith}
 use Rattle.sgb_numbers.specs.Neighbours.{IsFirstEnd}
-use Rattle.sgb_search.specs.declared.end.End.TheVariants.{Front}
-use Rattle.sgb_masks.proofs.Queue.{goes}
 use Rattle.sgb_masks.proofs.Taken.{front_call, front_place}
 use Rattle.sgb_masks.proofs.mask_groups.MaskGroupsIterator.next.Goals as goal
 
@@ -9,15 +7,11 @@ pub returns-then-end-self-clause-steps : goal.returns-then-end-self-clause-steps
 returns-then-end-self-clause-steps g c =
     let s = c.args.self.now in
     let e = c.first_end-end.ensures in
-    let order : s.low < s.high = omega (arith, e.nonempty, c.if-end-self.true) in
     let is : IsFirstEnd g.J.Masks.same s.slice.now s.low s.high c.first_end-end.result =
     record { nonempty = e.nonempty; within = omega (arith, c.if-end-self.true); same = e.same; differ = λ _. e.differ } in
     record {
       call =
           front_call g.J.Masks.same g.J.Judge s.judge (g.met.J.MaskJudge.asks s.judge) (g.met.J.MaskJudge.tells s.judge)
-          s.slice.now s.low s.high order s.inside c.first_end-end.result is;
+          s.slice.now s.low s.high s.inside c.first_end-end.result is;
       place = front_place g.J.Masks.same s.slice.now s.low s.high s.inside c.first_end-end.result is;
     }
-
-pub returns-clause-goes : goal.returns-clause-goes
-returns-clause-goes g c = goes g.J.Judge Front _ _ _ c.next_far.ensures

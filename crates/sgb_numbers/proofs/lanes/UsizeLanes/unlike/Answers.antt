@@ -1,9 +1,6 @@
-use Rattle.std.proofs.Common.{not, eqb, arith, w64}
-use Rattle.std.proofs.lemmas.Simd.{length-chunk, bitmask_splat}
-use Rattle.std.specs.Simd.Lanes.{chunk}
+use Rattle.std.proofs.Common.{eqb, w64}
+use Rattle.sgb_numbers.proofs.Vectors.{unlike_is}
 use Rattle.sgb_numbers.proofs.lanes.UsizeLanes.unlike.Goals as goal
 
 pub returns : goal.returns
-returns c =
-    let v = chunk c.args.at 16 c.args.slice.now in
-    bitmask_splat w64 (λ a b. not (eqb a b)) v 16 c.args.number.now (length-chunk c.args.at 16 c.args.slice.now c.requires) (omega arith)
+returns c = unlike_is w64 eqb c.args.slice.now c.args.at c.args.number.now c.requires
