@@ -5,7 +5,7 @@ ghost use Rattle.sgb_masks.specs.Counted.{class_count, count_of};
 ghost use Rattle.sgb_masks.specs.Counters.{HasCounted};
 
 use crate::ascii_classes::AsciiClass;
-use crate::class_counts::{ClassCounts, class_after, count_classes};
+use crate::class_counts::{ClassCounts, class_after, class_counts_add_up, count_classes};
 
 /// How many groups of each class some bytes have, while the bytes come in blocks: a group may go on over several.
 ///
@@ -37,6 +37,7 @@ impl ClassCounter {
     pub fn push(&mut self, block: &[u8])
         ensures { (bytes : List ℕ) → HasCounted self.old bytes → HasCounted self.new (bytes ++ block.now) }
     {
+        class_counts_add_up();
         self.counts = self.counts.saturating_add(count_classes(self.last, block));
         self.last = class_after(self.last, block);
     }

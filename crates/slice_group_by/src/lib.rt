@@ -17,7 +17,7 @@
 //! |---|---|
 //! | any slice, or short groups | `LinearGroup` |
 //! | integers or floats, to group by `==` | `LinearNumberGroup` |
-//! | bytes, to group by class | `LinearClassGroup`; `count_classes`, which counts groups with no walk |
+//! | bytes, to group by class | `LinearClassGroup`; `count_classes` and `ClassCounter`, which count groups with no walk |
 //! | a sorted slice with long groups | `ExponentialGroup` |
 //! | a sorted slice with few groups, of very different lengths | `BinaryGroup` |
 //! | a text | `LinearStrGroup` |
@@ -68,7 +68,8 @@ pub use sgb_masks::ascii_classes::{AsciiClass, AsciiClasses};
 pub use sgb_masks::by_class::LinearClassGroup;
 pub use sgb_masks::by_number::LinearNumberGroup;
 pub use sgb_masks::byte_classes::ByteClasses;
-pub use sgb_masks::class_counts::{ClassCounts, class_after, count_classes};
+pub use sgb_masks::class_counter::ClassCounter;
+pub use sgb_masks::class_counts::{ClassCounts, count_classes};
 pub use sgb_merge_join::{EitherOrBoth, MergeJoinBy, joinable_prefixes};
 pub use sgb_numbers::lanes::Lanes;
 pub use sgb_search::partition::{exponential_partition_point, exponential_partition_point_ref};
