@@ -19,7 +19,14 @@ use sgb_linear_str_group::text_judge::TextJudge;
 use sgb_search::judge::Judge;
 use std::iter::FusedIterator;
 
-/// Groups that know where what remains begins in their input: by elements of a slice, and by bytes of a text.
+/// Groups that know where what remains begins in their input, in elements of a slice or bytes of a text: what `with_offsets`
+/// takes.
+///
+/// ```
+/// let mut groups = LinearGroup::new(&[1, 1, 2]);
+/// groups.next();   // Some([1, 1])
+/// groups.offset(); // 2
+/// ```
 pub trait Offsets: RemainderLen {
     // The input, and where the remainder begins in it.
     ghost place: { Self → Place Self.Unit };

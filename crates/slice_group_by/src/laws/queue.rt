@@ -16,6 +16,12 @@ pub use sgb_search::end::End;
 /// tests it is settled (`is_settled`), and how many questions lie between two of its states (`asked`). An implementation
 /// chooses what these mean, and `walk` promises no more of it than they say; this library's say what each type's own
 /// calls promise.
+///
+/// ```
+/// let mut groups = LinearGroup::new(&[1, 1, 2]);
+/// groups.pop_back();  // Some([2])
+/// groups.pop_front(); // Some([1, 1])
+/// ```
 pub trait GroupQueue {
     type Item: Drop;
 

@@ -16,7 +16,12 @@ use std::iter::FusedIterator;
 mod slices;
 mod texts;
 
-/// Groups by a key that can be asked for the key of a group.
+/// Groups by a key that can be asked for the key of a group: what `with_keys` takes.
+///
+/// ```
+/// let mut groups = LinearGroupByKey::new(&[10, 11, 20], |x| *x / 10);
+/// groups.first_key(&[20, 21].as_slice()); // 2
+/// ```
 pub trait Keyed: RemainderLen {
     type Key;
 
