@@ -7,8 +7,8 @@ ghost use Rattle.slice_group_by.specs.Texts.{in_characters};
 
 use slice_group_by::laws::{always_callable, always_callable_apart, always_callable_chars};
 use slice_group_by::{
-    AsMutSlice, Elements, ExponentialGroupByKey, ExponentialGroupByKeyMut, GroupBy, GroupByMut,
-    Lanes, StrGroupBy, StrGroupByMut,
+    AsMutSlice, ByteClasses, Elements, ExponentialGroupByKey, ExponentialGroupByKeyMut, GroupBy,
+    GroupByClass, GroupByMut, Lanes, StrGroupBy, StrGroupByMut,
 };
 use std::alloc::Allocator;
 use std::convert::AsStr;
