@@ -74,10 +74,6 @@ pub fn counted_groups<'a, T: 'a, Q: RemainderLen + SliceQueue<'a, T>>(
     dedup_with_count(groups)
 }
 
-pub fn groups_with_offsets<Q: Offsets + Drop>(groups: Q) -> WithOffsets<Q> {
-    groups.with_offsets()
-}
-
 pub fn groups_with_both<Q: Offsets + Keyed + Drop>(groups: Q) -> WithKeys<WithOffsets<Q>> {
     groups.with_offsets().with_keys()
 }

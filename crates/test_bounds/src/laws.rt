@@ -155,15 +155,11 @@ pub fn of_texts<F: FnMut(char) -> K, K: PartialEq + Drop>(
 
 pub fn of_joins<A, B, FA: Fn(&A) -> K, FB: Fn(&B) -> K, K: Ord + Drop>(
     join: &MergeJoin<'_, A, B, FA, FB, K>,
+    outer: &OuterJoin<'_, A, B, FA, FB, K>,
 ) {
+    sees_keys_of_both(outer);
     sees_pairs(join);
     joins_may_go_on(join);
-}
-
-pub fn of_outer_joins<A, B, FA: Fn(&A) -> K, FB: Fn(&B) -> K, K: Ord + Drop>(
-    join: &OuterJoin<'_, A, B, FA, FB, K>,
-) {
-    sees_keys_of_both(join);
 }
 
 pub fn of_merges<A, B, K: Ord, F: FnMut(&A, &B) -> Ordering, G: FnMut(&K, &K) -> Ordering>(

@@ -3,9 +3,8 @@ ghost use Rattle.std.specs.Vec.{with_items};
 
 use sgb_search::judge::EqualityJudge;
 use slice_group_by::{
-    AsMutSlice, BinaryGroupByKeyMut, Elements, ExponentialGroupByKey, GroupAdapters, GroupBy,
-    GroupByMut, LinearGroup, LinearGroupMut, LinearStrGroup, LinearStrGroupMut, StrGroupBy,
-    StrGroupByMut,
+    AsMutSlice, BinaryGroupByKeyMut, Elements, ExponentialGroupByKey, GroupBy, GroupByMut,
+    LinearGroup, LinearGroupMut, LinearStrGroup, LinearStrGroupMut, StrGroupBy, StrGroupByMut,
 };
 use std::cell::Cell;
 use std::convert::AsSlice;
@@ -85,14 +84,6 @@ fn texts_where_they_lie(rt: HostRuntime) -> Result<(), Fail> {
     assert!(rt; text.linear_group().next() == Some("éé"));
     assert_eq!(rt; count_in_vector(vec![in rt.alloc(); b'b', b'b', b'a']?), 2);
     Ok(())
-}
-
-#[test]
-fn groups_with_offsets(rt: HostRuntime) {
-    let mut groups = LinearGroup::new(&[1, 1, 1, 3, 3, 2, 2, 2]).with_offsets();
-    assert!(rt; groups.next_back() == Some((5, [2, 2, 2].as_slice())));
-    let mut texts = LinearStrGroup::new("éé-").with_offsets();
-    assert!(rt; texts.next() == Some((0, "éé")) && texts.next() == Some((4, "-")));
 }
 
 // An iterator takes its input and its closure, and one for reading two places: the count of questions, the key's type and the tokens

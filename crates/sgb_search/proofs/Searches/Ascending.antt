@@ -66,7 +66,8 @@ module _ {K : Type 0} (cmp : K → K → Ordering) (o : IsTotalOrder cmp) (low h
   second Greater Greater h = omega arith
 
   both : (r s t u : Ordering) → ordering_index r ≤ ordering_index t → ordering_index s ≤ ordering_index u
-      → ordering_index (cond (is_lt r) Less (cond (is_gt s) Greater Equal)) ≤ ordering_index (cond (is_lt t) Less (cond (is_gt u) Greater Equal))
+      → ordering_index (cond (is_lt r) Less (cond (is_gt s) Greater Equal))
+      ≤ ordering_index (cond (is_lt t) Less (cond (is_gt u) Greater Equal))
   both Less s t u h k = omega arith
   both Equal s Less u h k = absurd (omega (arith, h))
   both Equal s Equal u h k = second s u k
@@ -80,7 +81,8 @@ module _ {K : Type 0} (cmp : K → K → Ordering) (o : IsTotalOrder cmp) (low h
   ascends_between key xs h = rises (λ x. ordering_index (between cmp low high (key x))) xs (keys xs h)
     where
       keys : (xs : _) → NeverDescends cmp (map key xs)
-          → AllByRecursion (λ q. ordering_index (between cmp low high (key q.0)) ≤ ordering_index (between cmp low high (key q.1))) (neighbours xs)
+          → AllByRecursion (λ q. ordering_index (between cmp low high (key q.0)) ≤ ordering_index (between cmp low high (key q.1)))
+          (neighbours xs)
       keys [] h = tt
       keys (x ∷ []) h = tt
       keys (x ∷ y ∷ ys) h = (
