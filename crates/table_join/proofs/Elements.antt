@@ -1,8 +1,9 @@
 -- Elements of lists and of filters.
-use Rattle.std.proofs.Common.{◌≡◌, Some, ℕ, ◌≤◌, cond, Bool, true, false, zero, suc}
-use Rattle.std.proofs.Common.{List, [], ◌∷◌, length, take, drop, map, refl, sym, ap, subst}
+use Rattle.std.proofs.Common.{◌≡◌, Some, ℕ, ◌<◌, ◌≤◌, cond, Bool, true, false, zero, suc}
+use Rattle.std.proofs.Common.{List, [], ◌∷◌, length, take, drop, map, refl, sym, ap, ◌∙◌, subst}
 use Rattle.std.proofs.Common.{arith, inl, inr, ◌⊎◌}
-use Rattle.std.specs.List.{AllByRecursion, AllWithin, Contains, filter}
+use Rattle.std.proofs.lemmas.List.{get_or-map, get_or-take, length-map, length-take}
+use Rattle.std.specs.List.{AllWithin, Contains, filter}
 
 module _ {X : Type 0} where
   pub here : (x : X) (xs : List X) → Contains (x ∷ xs) x
@@ -46,33 +47,15 @@ module _ {X : Type 0} where
         by true e more = cases e (first_or_later x (filter test xs) y (rw e at c)) more
         by false e more = let k = more (rw e at c) in (later x xs y k.0, k.1)
 
-pub all_contains : {X : Type 0} (P : X → Type 0) (xs : List X) (x : X) → AllByRecursion P xs → Contains xs x → P x
-all_contains P [] x h c = absurd (omega arith)
-all_contains P (y ∷ xs) x h c = by (first_or_later y xs x c) (all_contains P xs x h.1)
-  where
-    by : (y ≡ x) ⊎ Contains xs x → (Contains xs x → P x) → P x
-    by (inl e) more = subst P e h.0
-    by (inr k) more = more k
-
 pub in_map : {X Y : Type 0} (f : X → Y) (xs : List X) (x : X) → Contains xs x → Contains (map f xs) (f x)
-in_map f [] x c = absurd (omega arith)
-in_map {X} {Y} f (y ∷ xs) x c = by (first_or_later y xs x c) (in_map f xs x)
-  where
-    by : (y ≡ x) ⊎ Contains xs x → (Contains xs x → Contains (map f xs) (f x)) → Contains (f y ∷ map f xs) (f x)
-    by (inl e) more = let P : X → Type 0 = λ z. Contains (f y ∷ map f xs) (f z) in subst P e (here (f y) (map f xs))
-    by (inr k) more = later (f y) (map f xs) (f x) (more k)
+in_map f xs x (k, l, e) = (k, omega (arith, l, length-map xs f), get_or-map f xs k x (f x) l ∙ ap f e)
 
 -- the elements before a place, and those from it on
-pub before_place : {X : Type 0} (P : X → Type 0) (n : ℕ) (xs : List X) (x : X) → n ≤ length xs → AllWithin P xs 0 n → Contains
-    (take n xs) x → P x
-before_place P zero xs x l h c = absurd (omega arith)
-before_place P (suc n) [] x l h c = absurd (omega arith)
-before_place P (suc n) (y ∷ xs) x l h c =
-    by (first_or_later y (take n xs) x c) (before_place P n xs x (omega arith) (λ k d low high. h (suc k) d (omega arith) (omega arith)))
-  where
-    by : (y ≡ x) ⊎ Contains (take n xs) x → (Contains (take n xs) x → P x) → P x
-    by (inl e) more = subst P e (h 0 x (omega arith) (omega arith))
-    by (inr k) more = more k
+pub before_place : {X : Type 0} (P : X → Type 0) (n : ℕ) (xs : List X) (x : X) → n ≤ length xs → AllWithin P xs 0 n
+    → Contains (take n xs) x → P x
+before_place P n xs x l h (k, m, e) =
+    let within : k < n = omega (arith, m, length-take n xs) in
+    subst P (sym (get_or-take n xs k x within) ∙ e) (h k x (omega arith) within)
 
 pub from_place : {X : Type 0} (P : X → Type 0) (n : ℕ) (xs : List X) (x : X) → AllWithin P xs n (length xs) → Contains (drop n xs) x → P x
 from_place P zero xs x h (k, l, e) = subst P e (h k x (omega arith) l)
