@@ -73,9 +73,3 @@ of_map {X} f (x ∷ xs) y c = by (first_or_later (f x) (map f xs) y c) (of_map f
         → (z : X) × Contains (x ∷ xs) z × (f z ≡ y)
     by (inl e) more = (x, here x xs, e)
     by (inr k) more = let (z, d, e) = more k in (z, later x xs z d, e)
-
--- what stands behind all
-pub none_left : {A : Type 0} (n : ℕ) (xs : List A) → n ≡ length xs → drop n xs ≡ []
-none_left n [] e = rw e refl
-none_left zero (x ∷ xs) e = absurd (omega arith)
-none_left (suc n) (x ∷ xs) e = none_left n xs (omega arith)
