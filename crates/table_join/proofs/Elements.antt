@@ -1,8 +1,9 @@
 -- Elements of lists and of filters.
 use Rattle.std.proofs.Common.{◌≡◌, Some, ℕ, ◌<◌, ◌≤◌, cond, Bool, true, false, zero, suc}
-use Rattle.std.proofs.Common.{List, [], ◌∷◌, length, take, drop, map, refl, sym, ap, ◌∙◌, subst}
+use Rattle.std.proofs.Common.{List, [], ◌∷◌, length, take, drop, get_or, map, refl, sym, ap, ◌∙◌, subst}
 use Rattle.std.proofs.Common.{arith, inl, inr, ◌⊎◌}
 use Rattle.std.proofs.lemmas.List.{get_or-map, get_or-take, length-map, length-take}
+use Rattle.std.proofs.lemmas.List.Elements.{All-contains, All-contains_itself, All-filter, All-map, Contains-get_or, filter_passes}
 use Rattle.std.specs.List.{AllWithin, Contains, filter}
 
 module _ {X : Type 0} where
@@ -34,18 +35,10 @@ module _ {X : Type 0} where
 
     -- what a filter keeps stands in the list, and passes the test
     pub of_filter : (xs : List X) (y : X) → Contains (filter test xs) y → Contains xs y × (test y ≡ true)
-    of_filter [] y c = absurd (omega arith)
-    of_filter (x ∷ xs) y c = by (test x) refl (of_filter xs y)
-      where
-        cases : test x ≡ true → (x ≡ y) ⊎ Contains (filter test xs) y → (Contains (filter test xs) y → Contains xs y × (test y ≡ true))
-            → Contains (x ∷ xs) y × (test y ≡ true)
-        cases e (inl same) more = rw (sym same) (here x xs, e)
-        cases e (inr c) more = let k = more c in (later x xs y k.0, k.1)
-
-        by : (b : Bool) → test x ≡ b → (Contains (filter test xs) y → Contains xs y × (test y ≡ true))
-            → Contains (x ∷ xs) y × (test y ≡ true)
-        by true e more = cases e (first_or_later x (filter test xs) y (rw e at c)) more
-        by false e more = let k = more (rw e at c) in (later x xs y k.0, k.1)
+    of_filter xs y c = (
+      All-contains (Contains xs) (filter test xs) y (All-filter test (Contains xs) xs (All-contains_itself xs)) c,
+      All-contains (λ x. test x ≡ true) (filter test xs) y (filter_passes test xs) c,
+    )
 
 pub in_map : {X Y : Type 0} (f : X → Y) (xs : List X) (x : X) → Contains xs x → Contains (map f xs) (f x)
 in_map f xs x (k, l, e) = (k, omega (arith, l, length-map xs f), get_or-map f xs k x (f x) l ∙ ap f e)
@@ -66,10 +59,6 @@ pub some_same : {X : Type 0} (x y : X) → Some x ≡ Some y → x ≡ y
 some_same x y e = cc
 
 pub of_map : {X Y : Type 0} (f : X → Y) (xs : List X) (y : Y) → Contains (map f xs) y → (x : X) × Contains xs x × (f x ≡ y)
-of_map f [] y c = absurd (omega arith)
-of_map {X} f (x ∷ xs) y c = by (first_or_later (f x) (map f xs) y c) (of_map f xs y)
-  where
-    by : (f x ≡ y) ⊎ Contains (map f xs) y → (Contains (map f xs) y → (z : X) × Contains xs z × (f z ≡ y))
-        → (z : X) × Contains (x ∷ xs) z × (f z ≡ y)
-    by (inl e) more = (x, here x xs, e)
-    by (inr k) more = let (z, d, e) = more k in (z, later x xs z d, e)
+of_map {X} {Y} f xs y c =
+    let P : Y → Type 0 = λ z. (x : X) × Contains xs x × (f x ≡ z) in
+    All-contains P (map f xs) y (All-map P f xs (λ k d l. (get_or xs k d, Contains-get_or xs k d l, refl))) c
