@@ -2,7 +2,6 @@ pub mod Input
 pub mod Joined
 pub mod Joins
 pub mod Kinds
-pub mod Merged
 pub mod Rows
 pub mod Runs
 pub mod Tables
