@@ -1,14 +1,13 @@
 //! Sums the amounts of each department in the rows of standard input: `program.rt` has what is read and what is written.
 //!
-//! The amount of a row is added to an entry of its department, if one stands where it is guessed. Else the row becomes
-//! an entry. When there are as many of these as sums, and a block more, all are sorted, grouped and added up. What is
-//! kept in memory is at most twice the departments and one block, the guesses, while entries are added up also what
-//! that takes and the new sums, and the longest line.
+//! The amount of a row is added to the sum of its department. If there is none yet, the row becomes an entry. When there
+//! are as many of these as sums, and a block more, all are sorted, grouped and added up. What is kept in memory is at most
+//! twice the departments and one block, while entries are added up also what that takes and the new sums, and the longest
+//! line.
 #![tactic(auto)]
 
 mod entry;
 mod fold;
-mod guesses;
 mod output;
 mod program;
 mod row;

@@ -26,7 +26,7 @@ pub fn report_rows<R: BufRead + Drop, W: Write, E: Write>(
         (E.contents complaints.old) (E.contents complaints.new))) }
 {
     let mut lines = Lines::new(alloc, input);
-    let mut sums = Sums::new(alloc)?;
+    let mut sums = Sums::new(alloc);
     let is_whole = read_rows(alloc, name, &mut lines, &mut sums, complaints)?;
     write_report(&sums.report(alloc)?, out)?;
     out.flush()?;

@@ -13,18 +13,18 @@
 //! groups.next_back(); // None
 //! ```
 //!
-//! | you have | take |
-//! |---|---|
-//! | any slice, or short groups | `LinearGroup` |
-//! | integers or floats, to group by `==` | `LinearNumberGroup` |
-//! | bytes, to group by class | `LinearClassGroup`; `count_classes` and `ClassCounter`, which count groups with no walk |
-//! | a sorted slice with long groups | `ExponentialGroup` |
-//! | a sorted slice with few groups, of very different lengths | `BinaryGroup` |
-//! | a text | `LinearStrGroup` |
-//! | a stream that comes in blocks | `StreamGroups` |
-//! | two sorted slices | `MergeJoinBy`, `MergeJoin`; in blocks with `joinable_prefixes` |
-//! | a sorted slice, and what is sought in it | `exponential_search`, `exponential_partition_point`, `exponential_equal_places` |
-//! | a slice to cut between two groups | `linear_boundary`, `exponential_boundary` |
+//! Which to take:
+//!
+//! - `LinearGroup`: any slice, or short groups;
+//! - `LinearNumberGroup`: integers or floats, to group by `==`;
+//! - `LinearClassGroup`: bytes by class; `count_classes` and `ClassCounter` count such groups with no walk;
+//! - `ExponentialGroup`: a sorted slice with long groups;
+//! - `BinaryGroup`: a sorted slice with few groups, of very different lengths;
+//! - `LinearStrGroup`: a text;
+//! - `StreamGroups`: a stream that comes in blocks;
+//! - `MergeJoinBy`, `MergeJoin`: two sorted slices; `joinable_prefixes`, if they come in blocks;
+//! - `exponential_search`, `exponential_partition_point`, `exponential_equal_places`: a sorted slice, and what is sought;
+//! - `linear_boundary`, `exponential_boundary`: a slice to cut between two groups.
 //!
 //! Types come as `..By` (a predicate), `..ByKey` (a key function) and `..Mut` (for writing) too, and as methods of slices,
 //! arrays, vectors and texts (`GroupBy`, `GroupByMut`, `StrGroupBy`, `StrGroupByMut`). `adapters` gives each group its

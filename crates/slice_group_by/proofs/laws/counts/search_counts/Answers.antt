@@ -9,6 +9,8 @@ returns-clause-search g c count name each step reads xs f t found = search_raise
 
 pub returns-clause-range : goal.returns-clause-range
 returns-clause-range g c count name each step less equal xs equals f t a =
-    let one = search_raises g.F.FnMut count name each step (λ k. as_ordering (less k)) xs f a.state_between (Err (length a.before)) a.less_search in
-    let two = search_raises g.F.FnMut count name each step (λ k. as_ordering (equal k)) _ a.state_between t (Err (length equals)) a.equal_search in
+    let one = search_raises g.F.FnMut count name each step (λ k. as_ordering (less k)) xs f a.state_between (Err (length a.before))
+    a.less_search in
+    let two = search_raises g.F.FnMut count name each step (λ k. as_ordering (equal k)) _ a.state_between t (Err (length equals))
+    a.equal_search in
     (two.0 ∙ one.0, omega (arith, one.1, two.1))
