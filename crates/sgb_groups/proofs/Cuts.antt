@@ -1,6 +1,7 @@
 -- A call of an iterator for reading is a call on what it shows; and a group cut off a part between two places.
-use Rattle.std.proofs.Common.{◌≡◌, ℕ, ◌+◌, ◌-◌, ◌<◌, ◌≤◌, true, List, ◌++◌, length, Option, None, Some, arith, ap, subst, ◌∙◌, sym}
+use Rattle.std.proofs.Common.{◌≡◌, ℕ, ◌+◌, ◌-◌, ◌<◌, ◌≤◌, true, List, ◌++◌, length, drop, min, Option, None, Some, arith, ap, subst, ◌∙◌, sym}
 use Rattle.std.proofs.lemmas.Bool.Decides.{nat_tests}
+use Rattle.std.proofs.lemmas.List.{drop_at, drop_min}
 use Rattle.std.specs.Prelude.{option_copied, slice_range}
 use Rattle.std.specs.Borrow.{Bor}
 use Rattle.sgb_search.specs.declared.end.End.{End}
@@ -32,6 +33,18 @@ pub part_is : {T : Type 0} (xs : List T) (low high : ℕ) → low ≤ high → h
 part_is xs low high order inside =
     between_places (lies_within xs) xs low high
     (record { order = order; low_is = within_place xs low (omega arith); high_is = within_place xs high inside })
+
+-- such a part without its first elements
+pub part_behind : {T : Type 0} (xs : List T) (low high len : ℕ) → low ≤ high → high ≤ length xs
+    → slice_range xs (low + min len (high - low)) high ≡ drop len (slice_range xs low high)
+part_behind xs low high len order inside =
+    let n = min len (high - low) in
+    let front = slice_range xs low (low + n) in
+    let behind = slice_range xs (low + n) high in
+    let long : length front ≡ n = omega (arith, length-range xs low (low + n) (omega arith) (omega arith)) in
+    sym (drop_at front behind n long) ∙ ap (drop n) (sym (range_split xs low (low + n) high (omega arith) (omega arith)))
+    ∙ ap (λ (k : ℕ). drop (min len k) (slice_range xs low high)) (sym (length-range xs low high order inside))
+    ∙ drop_min len (slice_range xs low high)
 
 -- a group of n elements at the front of such a part leaves the place behind it
 pub moved_behind : {T : Type 0} (xs : List T) (low high n : ℕ) → high ≤ length xs → low + n ≤ high

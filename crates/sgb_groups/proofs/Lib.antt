@@ -2,3 +2,4 @@ pub mod Cuts
 pub mod CutsMut
 pub mod Outward
 pub mod Parts
+pub mod ShardCuts

@@ -1,5 +1,5 @@
 //! The groups of a slice for reading, over any judge and any way to find where a group ends.
-ghost use Rattle.std.specs.Prelude.{◌≡◌, ◌<◌, ◌≤◌, ◌+◌, ◌^◌, [], length, Option, MatchOption, nat_eq, IfSome, if◌then◌else◌};
+ghost use Rattle.std.specs.Prelude.{◌≡◌, ◌<◌, ◌≤◌, ◌+◌, ◌^◌, [], length, drop, Option, MatchOption, nat_eq, IfSome, if◌then◌else◌};
 ghost use Rattle.std.specs.Iterator.{UpTo};
 ghost use Rattle.std.specs.Iterator.SizeHint.{IsWithinCount};
 ghost use Rattle.sgb_search.specs.declared.end.End.TheVariants.{Front, Back};
@@ -93,6 +93,17 @@ impl<'a, T, J, W> SliceGroups<'a, T, J, W> {
         ensures { result ≡ length (groups_of self.now).remainder }
     {
         self.remainder().len()
+    }
+
+    // Leaves out the first `len` elements of the remainder, or all if there are fewer, and asks nothing.
+    #[inline]
+    pub(crate) fn skip_front(&mut self, len: usize)
+        ensures remainder { (groups_of self.new).remainder ≡ drop len (groups_of self.old).remainder }
+        ensures judge { (groups_of self.new).judge ≡ (groups_of self.old).judge }
+    {
+        if let Some((low, high)) = self.places() {
+            self.low = low + len.min(high - low);
+        }
     }
 
     /// Whether all elements are handed out.

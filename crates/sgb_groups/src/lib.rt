@@ -10,4 +10,5 @@ pub mod debug;
 pub mod groups;
 pub mod groups_mut;
 pub mod searching;
+pub mod shards;
 pub mod way;

@@ -81,6 +81,10 @@ impl<S: GroupSearch> Way for Search<S> {
 
     ghost keeps = { λ T J g. laws.keeps g S.cost };
 
+    ghost callable_behind = { λ T J g. laws.callable_behind g S.cost };
+
+    ghost settled_behind = { λ T J g. laws.settled_behind g S.cost };
+
     ghost asks_due = { λ T J g. laws.asks g S.cost };
 
     #[inline]

@@ -1,5 +1,5 @@
 //! The way in which a family of groups finds where a group ends.
-ghost use Rattle.std.specs.Prelude.{◌<◌, ◌≤◌, ◌+◌, ℕ, Bool, List, length, Option, slice_range};
+ghost use Rattle.std.specs.Prelude.{◌<◌, ◌≤◌, ◌+◌, ◌++◌, ℕ, Bool, List, length, Option, slice_range};
 ghost use Rattle.sgb_search.specs.declared.end.End.{End};
 ghost use Rattle.sgb_search.specs.declared.judge.Judge.{Ghosts};
 ghost use Rattle.sgb_search.specs.Calls.{CallAt, IsCallableBy, ComputesBy, Groups};
@@ -47,6 +47,15 @@ pub trait Way {
     // Where a call may be made, one may be made after it.
     ghost keeps: { (T J : Type 0) (g : Ghosts J T) (e : End) (s : Groups T J) (group : Option (List T)) (t : Groups T J)
         → CallAt (asks T J g) e s group t → IsCallableBy (allowed T) g s → IsCallableBy (allowed T) g t };
+
+    // Where a call may be made, one may be made on the elements behind some others, and there it is settled if it is settled here.
+    ghost callable_behind: { (T J : Type 0) (g : Ghosts J T) (before rest : List T) (j : J)
+        → IsCallableBy (allowed T) g (record { remainder = before ++ rest; judge = j })
+        → IsCallableBy (allowed T) g (record { remainder = rest; judge = j }) };
+
+    ghost settled_behind: { (T J : Type 0) (g : Ghosts J T) (before rest : List T) (j : J) (p : T → T → Bool)
+        → settled T J g (record { remainder = before ++ rest; judge = j }) p
+        → settled T J g (record { remainder = rest; judge = j }) p };
 
     // Whatever is answered, a call asks no more than it takes off what is due.
     ghost asks_due: { (T J : Type 0) (g : Ghosts J T) (e : End) (s : Groups T J) (group : Option (List T))

@@ -136,6 +136,10 @@ impl Way for Linear {
 
     ghost keeps = { λ T J. laws.keeps };
 
+    ghost callable_behind = { λ T J. laws.callable_behind };
+
+    ghost settled_behind = { λ T J. laws.settled_behind };
+
     ghost asks_due = { λ T J. laws.asks };
 
     #[inline]

@@ -5,3 +5,4 @@ pub mod FirstPiece
 pub mod Grouped
 pub mod AscendingGroups
 pub mod Lens
+pub mod Boundaries

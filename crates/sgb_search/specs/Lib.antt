@@ -7,3 +7,4 @@ pub mod Searching
 pub mod Search
 pub mod Ranges
 pub mod Seams
+pub mod Boundaries

@@ -4,4 +4,3 @@ pub mod TextParts
 pub mod WrittenPieces
 pub mod PiecesOfLists
 pub mod Adjacent
-pub mod Boundaries

@@ -10,7 +10,7 @@ ghost use Rattle.sgb_search.specs.declared.judge.KeyJudge.{KeyJudge};
 ghost use Rattle.sgb_search.specs.Judges.{by_predicate, predicate_judge, by_key, key_judge};
 ghost use Rattle.sgb_search.specs.Linear.{LinearQuestions};
 ghost use Rattle.sgb_search.specs.Searching.{SearchQuestions, exponential};
-ghost use Rattle.slice_group_by.specs.Boundaries.{PartsAt};
+ghost use Rattle.sgb_search.specs.Boundaries.{PartsAt};
 
 use crate::laws::calls_take_pieces;
 use crate::laws::queue::SliceQueue;
@@ -161,7 +161,7 @@ pub fn linear_boundary_by_key<T, K: PartialEq + Drop, F: FnMut(&T) -> K>(
 /// ```
 /// exponential_boundary(&[1, 1, 1, 3, 3, 7], 4); // 5
 /// ```
-#[tactic(auto, using(crate::proofs::Pieces::Boundaries::grouped_rest))]
+#[tactic(auto, using(sgb_search::proofs::Splits::Boundaries::grouped_rest))]
 pub fn exponential_boundary<T: PartialEq>(slice: &[T], index: usize) -> usize
     ensures within { result ≤ length slice.now }
     ensures behind { min index (length slice.now) ≤ result }
@@ -179,7 +179,7 @@ pub fn exponential_boundary<T: PartialEq>(slice: &[T], index: usize) -> usize
 
 /// `exponential_boundary` by a predicate, for a slice that is grouped for it and the groups of `ExponentialGroupBy`. It asks what
 /// one call of it asks: at most `2 * digits(g) + 1` questions (`questions`).
-#[tactic(auto, using(crate::proofs::Pieces::Boundaries::grouped_rest))]
+#[tactic(auto, using(sgb_search::proofs::Splits::Boundaries::grouped_rest))]
 pub fn exponential_boundary_by<T, P: FnMut(&T, &T) -> bool>(
     slice: &[T],
     index: usize,
@@ -208,7 +208,7 @@ pub fn exponential_boundary_by<T, P: FnMut(&T, &T) -> bool>(
 
 /// `exponential_boundary` by a key, for a slice that is grouped by it, such as one that ascends by it, and the groups of
 /// `ExponentialGroupByKey`. It asks what one call of it asks: at most `2 * digits(g) + 1` questions (`questions`).
-#[tactic(auto, using(crate::proofs::Pieces::Boundaries::grouped_rest))]
+#[tactic(auto, using(sgb_search::proofs::Splits::Boundaries::grouped_rest))]
 pub fn exponential_boundary_by_key<T, K: PartialEq + Drop, F: FnMut(&T) -> K>(
     slice: &[T],
     index: usize,

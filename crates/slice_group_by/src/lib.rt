@@ -57,6 +57,7 @@ pub use sgb_exponential_group::exponential_group::{
     ExponentialGroup, ExponentialGroupBy, ExponentialGroupByKey, ExponentialGroupByKeyMut,
     ExponentialGroupByMut, ExponentialGroupMut,
 };
+pub use sgb_groups::shards::Shards;
 pub use sgb_linear_group::linear_group::{
     LinearGroup, LinearGroupBy, LinearGroupByKey, LinearGroupByKeyMut, LinearGroupByMut,
     LinearGroupMut, LinearNumberGroupMut,

@@ -1,5 +1,5 @@
 -- The laws of calls of linear groups: a call on a settled iterator gives the outermost piece, and leaves it settled.
-use Rattle.std.proofs.Common.{Bool, List, [], ◌∷◌, length, Option, None, Some, arith, true, ℕ, refl}
+use Rattle.std.proofs.Common.{Bool, List, [], ◌∷◌, ◌++◌, length, Option, None, Some, arith, true, ℕ, refl}
 use Rattle.sgb_search.specs.declared.end.End.{End}
 use Rattle.sgb_search.specs.declared.judge.Judge.{Ghosts}
 use Rattle.sgb_search.specs.Linear.{questions, IsSettled, LinearQuestions}
@@ -34,6 +34,14 @@ module _ {T J : Type 0} (g : Ghosts J T) where
   pub keeps : (e : End) (s : Groups T J) (r : Option (List T)) (t : Groups T J) → CallAt (LinearQuestions g) e s r t
       → IsCallableBy AreNeighbours g s → IsCallableBy AreNeighbours g t
   keeps = calls.keeps g AreNeighbours neighbours_of_rest (LinearQuestions g) asks_neighbours
+
+  pub callable_behind : (before rest : List T) (j : J) → IsCallableBy AreNeighbours g (record { remainder = before ++ rest; judge = j })
+      → IsCallableBy AreNeighbours g (record { remainder = rest; judge = j })
+  callable_behind = calls.callable_behind g AreNeighbours neighbours_of_rest
+
+  pub settled_behind : (before rest : List T) (j : J) (p : T → T → Bool) → IsSettled g (record { remainder = before ++ rest; judge = j }) p
+      → IsSettled g (record { remainder = rest; judge = j }) p
+  settled_behind = calls.computes_behind g AreNeighbours neighbours_of_rest
 
   pub piece : (e : End) (s : Groups T J) (r : Option (List T)) (t : Groups T J) (p : T → T → Bool) → CallAt (LinearQuestions g) e s r t
       → IsSettled g s p → TakesPiece p e s.remainder r t.remainder × IsSettled g t p

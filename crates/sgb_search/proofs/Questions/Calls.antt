@@ -1,8 +1,9 @@
 -- Of calls, whatever they ask.
-use Rattle.std.proofs.Common.{◌≡◌, ℕ, ◌+◌, ◌<◌, Bool, List, [], length, Option, None, Some, refl, sym, ap, subst, ◌∙◌, arith}
+use Rattle.std.proofs.Common.{◌≡◌, ℕ, ◌+◌, ◌<◌, Bool, List, [], ◌++◌, length, Option, None, Some, refl, sym, ap, subst, ◌∙◌, arith}
 use Rattle.std.specs.List.{AllByRecursion}
 use Rattle.std.specs.Prelude.{option_map}
 use Rattle.sgb_search.specs.declared.end.End.{End}
+use Rattle.sgb_search.specs.declared.end.End.TheVariants.{Front}
 use Rattle.sgb_search.specs.declared.judge.Judge.{Ghosts}
 use Rattle.sgb_search.specs.Judges.{IsRun, IsRunOf, AsksWithin}
 use Rattle.sgb_search.specs.Split.{put_at, TakesPart, on_pairs}
@@ -46,6 +47,18 @@ module _ {T J : Type 0} (g : Ghosts J T) (allowed : List T → T × T → Type 0
       let a = asked e _ _ _ _ h.asked in
       answers_after _ _ (allowed s.remainder) (allowed t.remainder) (λ q n. rw h.cut (of_rest e x t.remainder q n)) (on_pairs p) s.judge
       a.questions t.judge a.run a.about by
+
+-- behind some elements may be asked what may be asked of all, and it still has the answer that the test says
+module _ {T J : Type 0} (g : Ghosts J T) (allowed : List T → T × T → Type 0)
+    (of_rest : (e : End) (part rest : List T) (q : T × T) → allowed rest q → allowed (put_at e part rest) q)
+    (before rest : List T) (j : J) where
+  pub callable_behind : IsCallableBy allowed g (record { remainder = before ++ rest; judge = j })
+      → IsCallableBy allowed g (record { remainder = rest; judge = j })
+  callable_behind = may_after _ _ (allowed (before ++ rest)) (allowed rest) (of_rest Front before rest) j [] j refl tt
+
+  pub computes_behind : (p : T → T → Bool) → ComputesBy allowed g (record { remainder = before ++ rest; judge = j }) p
+      → ComputesBy allowed g (record { remainder = rest; judge = j }) p
+  computes_behind p = answers_after _ _ (allowed (before ++ rest)) (allowed rest) (of_rest Front before rest) (on_pairs p) j [] j refl tt
 
 -- nothing was asked
 pub nothing_asked : {T J : Type 0} (g : Ghosts J T) (due : Groups T J → ℕ) (exact : Bool) (s t : Groups T J) → t ≡ s

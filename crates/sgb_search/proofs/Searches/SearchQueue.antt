@@ -230,6 +230,18 @@ module _ {T J : Type 0} (g : Ghosts J T) (cost : SearchCost) where
       → IsCallableBy AreApart g s → IsCallableBy AreApart g t
   keeps = calls.keeps g AreApart apart_of_rest (SearchQuestions g cost) asks_apart
 
+  pub callable_behind : (before rest : List T) (j : J) → IsCallableBy AreApart g (record { remainder = before ++ rest; judge = j })
+      → IsCallableBy AreApart g (record { remainder = rest; judge = j })
+  callable_behind = calls.callable_behind g AreApart apart_of_rest
+
+  pub settled_behind : (before rest : List T) (j : J) (p : T → T → Bool)
+      → IsSettledApart g (record { remainder = before ++ rest; judge = j }) p
+      → IsSettledApart g (record { remainder = rest; judge = j }) p
+  settled_behind before rest j p m = record {
+    computes = calls.computes_behind g AreApart apart_of_rest before rest j p m.computes;
+    grouped = grouped_rest p Front before rest m.grouped;
+  }
+
   pub computes_on : (p : T → T → Bool) (e : End) (s : Groups T J) (r : Option (List T)) (t : Groups T J) → CallAt
       (SearchQuestions g cost) e s r t
       → ComputesBy AreApart g s p → ComputesBy AreApart g t p

@@ -1,5 +1,5 @@
 use Rattle.std.proofs.Common.{arith}
-use Rattle.slice_group_by.proofs.Pieces.Boundaries.{parts_of, first_of}
+use Rattle.sgb_search.proofs.Splits.Boundaries.{parts_of, first_of}
 use Rattle.slice_group_by.proofs.boundaries.first_boundary.Goals as goal
 
 pub returns-clause-parts : goal.returns-clause-parts

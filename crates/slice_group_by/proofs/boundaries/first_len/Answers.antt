@@ -1,8 +1,8 @@
 use Rattle.std.proofs.Common.{◌≡◌, rules, subst, length, take}
 use Rattle.sgb_search.specs.Split.{IsAccepted}
 use Rattle.sgb_search.specs.declared.end.End.TheVariants.{Front}
-use Rattle.slice_group_by.specs.Boundaries.{PartsAt}
-use Rattle.slice_group_by.proofs.Pieces.Boundaries.{after_piece}
+use Rattle.sgb_search.specs.Boundaries.{PartsAt}
+use Rattle.sgb_search.proofs.Splits.Boundaries.{after_piece}
 use Rattle.slice_group_by.proofs.boundaries.first_len.Goals as goal
 
 pub returns-in-Some-clause-accepted : goal.returns-in-Some-clause-accepted

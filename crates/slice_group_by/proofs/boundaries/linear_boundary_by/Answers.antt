@@ -2,7 +2,7 @@ use Rattle.std.proofs.Common.{◌∙◌}
 use Rattle.sgb_search.specs.declared.end.End.TheVariants.{Front}
 use Rattle.sgb_search.specs.Judges.{by_predicate}
 use Rattle.sgb_search.specs.Linear.{LinearQuestions}
-use Rattle.slice_group_by.proofs.Pieces.Boundaries.{asks_same}
+use Rattle.sgb_search.proofs.Splits.Boundaries.{asks_same}
 use Rattle.slice_group_by.proofs.boundaries.linear_boundary_by.Goals as goal
 
 pub returns-clause-questions : goal.returns-clause-questions

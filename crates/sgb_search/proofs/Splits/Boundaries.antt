@@ -8,7 +8,7 @@ use Rattle.std.proofs.lemmas.List.{append-nil, length-append, take-append-drop, 
 use Rattle.std.proofs.Math.Seq.{take-add}
 use Rattle.std.proofs.Math.ListN.{drop_of_length-le}
 use Rattle.sgb_search.specs.Split.{IsAccepted, IsGrouped, IsSplit, put_before, split}
-use Rattle.slice_group_by.specs.Boundaries.{PartsAt}
+use Rattle.sgb_search.specs.Boundaries.{PartsAt}
 use Rattle.sgb_search.specs.Seams.{is_accepted_across}
 use Rattle.sgb_search.proofs.Splits.Grouped.{grouped_part}
 use Rattle.sgb_search.proofs.Splits.Joined.{joined_count}

@@ -1,0 +1,96 @@
+//! The shards of a slice: parts that end where groups end, to be walked apart.
+ghost use Rattle.std.specs.Prelude.{◌≡◌, ◌<◌, Bool, List, length};
+ghost use Rattle.std.specs.Iterator.{at_most};
+ghost use Rattle.std.proofs.lemmas.Iterator.{YieldsList};
+ghost use Rattle.sgb_search.specs.Calls.{IsCallableBy};
+ghost use Rattle.sgb_groups.specs.Gives.{groups_of};
+ghost use Rattle.sgb_groups.specs.Shards.{AreShards, CutsShard, GivesShard, groups_to_cut, shards_left};
+ghost use Rattle.sgb_groups.specs.declared.shards.Shards.{Shards};
+
+use crate::groups::SliceGroups;
+use crate::way::Way;
+use sgb_search::judge::Judge;
+use std::iter::FusedIterator;
+
+/// An iterator over the shards of a slice: what `shards` of its groups gives.
+#[derive(Drop)]
+pub struct Shards<'a, T, J, W> {
+    groups: SliceGroups<'a, T, J, W>,
+    count: usize,
+}
+
+impl<'a, T, J: Judge<T> + Drop, W: Way> SliceGroups<'a, T, J, W> {
+    /// Cuts the remainder where groups end, into at most `count` parts, at least one, of about the same length. None is empty. The
+    /// groups of the parts are the groups of the whole, so that each part can be walked apart, also in threads of yours.
+    ///
+    /// Each part is its share of what remains, with the rest of the group in which the share ends: a call asks what one call of these
+    /// groups asks that begins with the last element of the share. Long groups leave fewer parts.
+    ///
+    /// If the judge depends only on its arguments, `laws::sees_shards` says what a loop or an adapter sees. Binary and exponential
+    /// groups need a grouped slice.
+    ///
+    /// ```
+    /// let slice = [1, 1, 1, 3, 3, 2, 2, 2];
+    /// for shard in LinearGroup::new(&slice).shards(3) {
+    ///     // [1, 1, 1], [3, 3, 2, 2, 2]
+    /// }
+    /// ```
+    #[inline]
+    pub fn shards(self, count: usize) -> Shards<'a, T, J, W>
+        ensures groups { groups_to_cut result ≡ groups_of self.entry }
+        ensures count { shards_left result ≡ count }
+    {
+        Shards {
+            groups: self,
+            count,
+        }
+    }
+
+    // The elements up to the place, and the rest of the group of the one that stands there.
+    #[inline]
+    fn take_shard(&mut self, place: usize) -> &'a [T]
+        requires callable { IsCallableBy (W.allowed T) J.Judge (groups_of self.old) }
+        requires within { place < length (groups_of self.old).remainder }
+        ensures cut { CutsShard (W.asks T J J.Judge) place (groups_of self.old) result.now (groups_of self.new) }
+        ensures callable { IsCallableBy (W.allowed T) J.Judge (groups_of self.new) }
+    {
+        let remainder = self.remainder();
+        self.skip_front(place);
+        match self.next() {
+            Some(group) => &remainder[..place + group.len()],
+            None => remainder,
+        }
+    }
+}
+
+impl<'a, T, J: Judge<T> + Drop, W: Way> Iterator for Shards<'a, T, J, W> {
+    type Item = &'a [T];
+
+    ghost can_next = { λ s. IsCallableBy (W.allowed T) J.Judge (groups_to_cut s) };
+
+    ghost next_gives = { GivesShard (W.asks T J J.Judge) };
+
+    ghost remaining = { λ s. at_most (length (groups_to_cut s).remainder) };
+
+    /// The next part, or `None` if nothing remains.
+    #[inline]
+    fn next(&mut self) -> Option<&'a [T]> {
+        let len = self.groups.remainder_len();
+        if len == 0 {
+            return None;
+        }
+        let shard = self.groups.take_shard((len - 1) / self.count.max(1));
+        self.count = self.count.saturating_sub(1);
+        Some(shard)
+    }
+}
+
+impl<'a, T, J: Judge<T> + Drop, W: Way> FusedIterator for Shards<'a, T, J, W> {}
+
+/// What a loop or an adapter sees of the shards of groups that are settled for a test: nonempty parts of what remains, which joined
+/// are the whole, and whose groups are the groups of the whole. There are no more than were asked for, or one.
+pub fn sees_shards<T, J: Judge<T> + Drop, W: Way>(_shards: &Shards<'_, T, J, W>)
+    ensures { (p : T → T → Bool) (s : Shards T J W) → W.settled T J J.Judge (groups_to_cut s) p
+        → (shards : List (List T)) × AreShards p (shards_left s) (groups_to_cut s).remainder shards
+        × YieldsList (GivesShard (W.asks T J J.Judge)) (λ x. x.now) s shards }
+{}
