@@ -1,7 +1,7 @@
 //! What groups and searches are good for, each in a few lines.
 use slice_group_by::{
-    LinearGroup, LinearGroupBy, LinearGroupByKeyMut, exponential_equal_places_by,
-    exponential_partition_point,
+    LinearGroup, LinearGroupBy, exponential_equal_places_by, exponential_partition_point,
+    partition_best_by_key,
 };
 use std::alloc::{AllocError, Global};
 use std::cmp::Ordering;
@@ -66,10 +66,8 @@ pub fn longest_runs(alloc: Global, slice: &[u32], k: usize) -> Result<Vec<&[u32]
 
 /// Keeps the last row of each run of rows with one key.
 pub fn keep_last(rows: &mut Vec<(u32, u64)>) {
-    for group in LinearGroupByKeyMut::new(rows.as_mut_slice(), |row: &(u32, u64)| row.0) {
-        group[0] = group[group.len() - 1];
-    }
-    rows.dedup_by_key(|row| row.0);
+    let len = partition_best_by_key(rows, |row: &(u32, u64)| row.0, |_, _| true);
+    rows.truncate(len);
 }
 
 /// Prints what these give.

@@ -4,7 +4,7 @@ ghost use Rattle.std.specs.Option.{option_copied};
 ghost use Rattle.slice_group_by.specs.Split.{split};
 ghost use Rattle.slice_group_by.specs.Seams.{are_accepted, lens_joined};
 
-use slice_group_by::laws::{groups_still_come, pieces_add_up, sees_pieces, splits_join};
+use slice_group_by::laws::{groups_still_come, pieces_add_up, sees_pieces, sees_shards, splits_join};
 use slice_group_by::{LinearGroup, linear_boundary};
 use std::alloc::{AllocError, Global};
 
@@ -51,6 +51,16 @@ pub fn count_in_two(slice: &[u32]) -> usize
 {
     let (left, right) = slice.split_at(linear_boundary(slice, slice.len() / 2));
     count_groups(left) + count_groups(right)
+}
+
+/// The same of at most so many shards, which a pool of threads could count side by side.
+pub fn count_in_shards(slice: &[u32], count: usize) -> usize
+    ensures { result ≡ length (split nat_eq slice.now) }
+{
+    let shards = LinearGroup::new(slice).shards(count);
+    sees_shards(&shards);
+    pieces_add_up::<u32>();
+    shards.map(|shard| count_groups(shard)).sum()
 }
 
 // So many elements are grouped in one walk.

@@ -1,4 +1,5 @@
 //! Linear groups: one scan along the neighbouring pairs.
 #![tactic(auto)]
 
+pub mod best;
 pub mod linear_group;

@@ -30,6 +30,7 @@ pub use Rattle.sgb_merge_join.specs.JoinKinds
 pub use Rattle.sgb_merge_join.specs.Blocks
 pub use Rattle.sgb_groups.specs.Gives
 pub use Rattle.sgb_groups.specs.Shards
+pub use Rattle.sgb_linear_group.specs.Best
 pub use Rattle.sgb_stream_group.specs.Streams
 pub use Rattle.sgb_linear_str_group.specs.Texts
 pub use Rattle.sgb_linear_str_group.specs.TextsMut

@@ -24,7 +24,8 @@
 //! - `StreamGroups`: a stream that comes in blocks;
 //! - `MergeJoinBy`, `MergeJoin`: two sorted slices; `joinable_prefixes`, if they come in blocks;
 //! - `exponential_search`, `exponential_partition_point`, `exponential_equal_places`: a sorted slice, and what is sought;
-//! - `linear_boundary`, `exponential_boundary`: a slice to cut between two groups.
+//! - `linear_boundary`, `exponential_boundary`: a slice to cut between two groups; `shards` of its groups: into parts for threads;
+//! - `partition_best_by`: to keep the first or the best element of each group, in place.
 //!
 //! Types come as `..By` (a predicate), `..ByKey` (a key function) and `..Mut` (for writing) too, and as methods of slices,
 //! arrays, vectors and texts (`GroupBy`, `GroupByMut`, `StrGroupBy`, `StrGroupByMut`). `adapters` gives each group its
@@ -58,6 +59,7 @@ pub use sgb_exponential_group::exponential_group::{
     ExponentialGroupByMut, ExponentialGroupMut,
 };
 pub use sgb_groups::shards::Shards;
+pub use sgb_linear_group::best::{partition_best_by, partition_best_by_key};
 pub use sgb_linear_group::linear_group::{
     LinearGroup, LinearGroupBy, LinearGroupByKey, LinearGroupByKeyMut, LinearGroupByMut,
     LinearGroupMut, LinearNumberGroupMut,

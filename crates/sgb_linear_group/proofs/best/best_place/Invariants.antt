@@ -1,0 +1,12 @@
+use Rattle.std.proofs.Common.{◌≡◌, ◌<◌, ◌≤◌, Bool}
+use denote.Param.Always.{always_mut}
+use Rattle.std.specs.Prelude.{slice_get, slice_range}
+use Rattle.std.specs.Fn.{ComputesOnPairs}
+use Rattle.sgb_linear_group.specs.Best.{best}
+use Rattle.sgb_linear_group.proofs.best.best_place.Given as goal
+
+abbrev pub invariant-loop-i : goal.invariant-loop-i
+invariant-loop-i g l =
+    (l.low ≤ l.place) × (l.place < l.i) × always_mut g.B.FnMut l.beats
+    × ((b : _) → ComputesOnPairs g.B.FnMut b l.fn.beats
+    → ComputesOnPairs g.B.FnMut b l.beats × (slice_get l.slice l.place ≡ best b (slice_range l.slice l.low l.i)))
