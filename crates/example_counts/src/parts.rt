@@ -4,7 +4,7 @@ ghost use Rattle.std.specs.Option.{option_copied};
 ghost use Rattle.slice_group_by.specs.Split.{split};
 ghost use Rattle.slice_group_by.specs.Seams.{are_accepted, lens_joined};
 
-use slice_group_by::laws::{groups_still_come, pieces_add_up, sees_pieces, sees_shards, splits_join};
+use slice_group_by::laws::{groups_still_come, one_split, pieces_add_up, sees_pieces, sees_shards, splits_join};
 use slice_group_by::{LinearGroup, linear_boundary};
 use std::alloc::{AllocError, Global};
 
@@ -59,7 +59,7 @@ pub fn count_in_shards(slice: &[u32], count: usize) -> usize
 {
     let shards = LinearGroup::new(slice).shards(count);
     sees_shards(&shards);
-    pieces_add_up::<u32>();
+    one_split::<u32>();
     shards.map(|shard| count_groups(shard)).sum()
 }
 

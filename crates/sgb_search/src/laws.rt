@@ -21,12 +21,13 @@ ghost use Rattle.sgb_search.specs.Judges.{by_char_predicate, char_predicate_judg
 ghost use Rattle.sgb_search.specs.declared.judge.EqualityJudge.{EqualityJudge};
 
 /// Each list has exactly one split for a test, whose pieces joined are the list. It has one piece more than the test refuses
-/// pairs, and none if it is empty.
+/// pairs, and none if it is empty: no more pieces than elements.
 pub fn one_split<T>()
     ensures covers { (p : T → T → Bool) (xs : List T) → concat (split p xs) ≡ xs }
     ensures exists { (p : T → T → Bool) (xs : List T) → IsSplit p xs (split p xs) }
     ensures unique { (p : T → T → Bool) (xs : List T) (ps : List (List T)) → IsSplit p xs ps → ps ≡ split p xs }
     ensures count { (p : T → T → Bool) (xs : List T) → 0 < length xs → length (split p xs) ≡ refused_pairs p xs + 1 }
+    ensures few { (p : T → T → Bool) (xs : List T) → length (split p xs) ≤ length xs }
 {}
 
 /// The split of `xs ++ ys` is the split of `xs` and then that of `ys`, but where the pair across the seam is accepted, the two pieces

@@ -1,5 +1,5 @@
 -- A split exists, it is the only one, and its outermost pieces come off alone.
-use Rattle.std.proofs.Common.{◌≡◌, ◌+◌, ◌<◌, Bool, true, false, not, cond, List, [], ◌∷◌, ◌++◌, length, None, Some, refl, sym, ap, ◌∙◌, subst, arith}
+use Rattle.std.proofs.Common.{◌≡◌, ◌+◌, ◌<◌, ◌≤◌, Bool, true, false, not, cond, List, [], ◌∷◌, ◌++◌, length, None, Some, refl, sym, ap, ◌∙◌, subst, arith}
 use Rattle.std.specs.Prelude.{◌≢◌}
 use Rattle.std.specs.List.{AllByRecursion}
 use Rattle.std.proofs.lemmas.List.{append-nil}
@@ -147,3 +147,16 @@ module _ {A : Type 0} (p : A → A → Bool) where
       let m : refused_pairs p (x ∷ y ∷ ys) ≡ cond (not (p x y)) 1 0 + refused_pairs p (y ∷ ys) = sum_by-cons
       (λ q. cond (not (on_pairs p q)) 1 0) (x, y) (neighbours (y ∷ ys)) in
       omega (arith, n, m, length-split (y ∷ ys) (omega arith))
+
+  -- and no more than elements
+  pub split_few : (xs : List A) → length (split p xs) ≤ length xs
+  split_few [] = omega arith
+  split_few (x ∷ []) = omega arith
+  split_few (x ∷ y ∷ ys) = by (p x y)
+    where
+      h : Begins y ys (split p (y ∷ ys))
+      h = split_begins y ys
+
+      by : (b : Bool) → length (put_before p b x (split p (y ∷ ys))) ≤ length (x ∷ y ∷ ys)
+      by true = rw h.is (omega (arith, ap length h.is, split_few (y ∷ ys)))
+      by false = omega (arith, split_few (y ∷ ys))

@@ -1,4 +1,4 @@
-use Rattle.sgb_search.proofs.Splits.Split.{split_is, split_only, length-split}
+use Rattle.sgb_search.proofs.Splits.Split.{split_is, split_only, split_few, length-split}
 use Rattle.sgb_search.proofs.laws.one_split.Goals as goal
 
 pub returns-clause-covers : goal.returns-clause-covers
@@ -12,3 +12,6 @@ returns-clause-unique g c = split_only
 
 pub returns-clause-count : goal.returns-clause-count
 returns-clause-count g c = length-split
+
+pub returns-clause-few : goal.returns-clause-few
+returns-clause-few g c = split_few
