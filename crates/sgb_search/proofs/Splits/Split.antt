@@ -148,15 +148,13 @@ module _ {A : Type 0} (p : A → A → Bool) where
       (λ q. cond (not (on_pairs p q)) 1 0) (x, y) (neighbours (y ∷ ys)) in
       omega (arith, n, m, length-split (y ∷ ys) (omega arith))
 
+  few_put : (b : Bool) (x y : A) (ys : List A) → length (split p (y ∷ ys)) ≤ length (y ∷ ys)
+      → length (put_before p b x (split p (y ∷ ys))) ≤ length (x ∷ y ∷ ys)
+  few_put true x y ys few = let h = split_begins y ys in rw h.is (omega (arith, ap length h.is, few))
+  few_put false x y ys few = omega (arith, few)
+
   -- and no more than elements
   pub split_few : (xs : List A) → length (split p xs) ≤ length xs
   split_few [] = omega arith
   split_few (x ∷ []) = omega arith
-  split_few (x ∷ y ∷ ys) = by (p x y)
-    where
-      h : Begins y ys (split p (y ∷ ys))
-      h = split_begins y ys
-
-      by : (b : Bool) → length (put_before p b x (split p (y ∷ ys))) ≤ length (x ∷ y ∷ ys)
-      by true = rw h.is (omega (arith, ap length h.is, split_few (y ∷ ys)))
-      by false = omega (arith, split_few (y ∷ ys))
+  split_few (x ∷ y ∷ ys) = few_put (p x y) x y ys (split_few (y ∷ ys))
