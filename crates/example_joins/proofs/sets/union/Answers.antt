@@ -1,4 +1,4 @@
-use Rattle.std.proofs.Common.{rules, subst, IfOk, sym, ◌≡◌, ◌↔◌, ◌⊎◌}
+use Rattle.std.proofs.Common.{rules, subst, sym, ◌↔◌, ◌⊎◌}
 use Rattle.std.specs.List.{Contains}
 use Rattle.std.specs.Ordering.{nat_cmp}
 use Rattle.std.proofs.lemmas.Fn.{always_returns_same}
