@@ -48,6 +48,24 @@ pub fn difference(alloc: Global, left: &[u32], right: &[u32]) -> Result<Vec<u32>
     join.flat_map(|part| part.alone()).copied().collect(alloc)
 }
 
+/// The numbers that stand on one side alone.
+pub fn symmetric_difference(
+    alloc: Global,
+    left: &[u32],
+    right: &[u32],
+) -> Result<Vec<u32>, AllocError>
+    requires left { AlwaysAscends nat_cmp left.now }
+    requires right { AlwaysAscends nat_cmp right.now }
+    ensures ascends { IfOk result (λ v. AlwaysAscends nat_cmp v.items) }
+    ensures all { IfOk result (λ v. (x : ℕ) → Contains v.items x
+        ↔ ((Contains left.now x × (Contains right.now x → ⊥)) ⊎ (Contains right.now x × (Contains left.now x → ⊥)))) }
+{
+    unions_ascend::<u32>();
+    let left_alone = difference(alloc, left, right)?;
+    let right_alone = difference(alloc, right, left)?;
+    union(alloc, &left_alone, &right_alone)
+}
+
 /// The numbers that stand in one of three slices at least.
 pub fn union_of_three(
     alloc: Global,

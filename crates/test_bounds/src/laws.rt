@@ -168,6 +168,7 @@ pub fn of_merges<A, B, K: Ord, F: FnMut(&A, &B) -> Ordering, G: FnMut(&K, &K) ->
     in_order: &MergeJoinBy<'_, K, K, G>,
 ) {
     always_compares(compare);
+    compares_unchanged(compare);
     sees_merge(join);
     join_counts(join);
     sees_merge_by_keys::<A, B, K, F>(join);

@@ -79,6 +79,7 @@ pub use queue::walk;
 pub use ranks::rank_groups;
 pub use sgb_groups::shards::sees_shards;
 pub use sgb_merge_join::laws::always_compares;
+pub use sgb_merge_join::laws::compares_unchanged;
 pub use sgb_merge_join::laws::joins_find_partners;
 pub use sgb_merge_join::laws::joins_in_parts;
 pub use sgb_merge_join::laws::merge_is_unique;
