@@ -39,6 +39,8 @@ impl<'a, T, J: Judge<T> + Drop, W: Way> SliceGroups<'a, T, J, W> {
     pub fn shards(self, count: usize) -> Shards<'a, T, J, W>
         ensures groups { groups_to_cut result ≡ groups_of self.entry }
         ensures count { shards_left result ≡ count }
+        ensures settled { (p : T → T → Bool) → W.settled T J J.Judge (groups_of self.entry) p
+            → W.settled T J J.Judge (groups_to_cut result) p }
     {
         Shards {
             groups: self,
@@ -87,10 +89,10 @@ impl<'a, T, J: Judge<T> + Drop, W: Way> Iterator for Shards<'a, T, J, W> {
 
 impl<'a, T, J: Judge<T> + Drop, W: Way> FusedIterator for Shards<'a, T, J, W> {}
 
-/// What a loop or an adapter sees of the shards of groups that are settled for a test: nonempty parts of what remains, which joined
-/// are the whole, and whose groups are the groups of the whole. There are no more than were asked for, or one.
+/// What a loop or an adapter sees of the shards of groups that are settled for a test: nonempty parts of what remains, `xs`, which
+/// joined are the whole, and whose groups are the groups of the whole. There are no more than were asked for, or one.
 pub fn sees_shards<T, J: Judge<T> + Drop, W: Way>(_shards: &Shards<'_, T, J, W>)
-    ensures { (p : T → T → Bool) (s : Shards T J W) → W.settled T J J.Judge (groups_to_cut s) p
-        → (shards : List (List T)) × AreShards p (shards_left s) (groups_to_cut s).remainder shards
+    ensures { (p : T → T → Bool) (s : Shards T J W) (xs : List T) → W.settled T J J.Judge (groups_to_cut s) p
+        → (groups_to_cut s).remainder ≡ xs → (shards : List (List T)) × AreShards p (shards_left s) xs shards
         × YieldsList (GivesShard (W.asks T J J.Judge)) (λ x. x.now) s shards }
 {}

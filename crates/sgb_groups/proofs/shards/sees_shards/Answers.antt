@@ -5,8 +5,7 @@ use Rattle.sgb_groups.proofs.shards.sees_shards.Goals as goal
 use Rattle.sgb_search.specs.declared.end.End.TheVariants.{Front}
 
 pub returns : goal.returns
-returns g c p s settled =
-    let xs = (groups_to_cut s).remainder in
+returns g c p s xs settled is =
     let j = g.J.Judge in (
       shards_in p xs (length xs) (shards_left s),
       are_shards p xs (length xs) (shards_left s) (omega arith),
@@ -14,6 +13,6 @@ returns g c p s settled =
         runs =
             yields_shards (g.W.Way.asks _ _ j) p (λ r. g.W.Way.settled _ _ j r p)
             (λ r group t h m. g.W.Way.piece _ _ j Front r (Some group) t p h m) (λ before rest k. g.W.Way.settled_behind _ _ j before rest k p) xs
-            (length xs) (shards_left s) s (omega arith) refl refl settled;
+            (length xs) (shards_left s) s (omega arith) is refl settled;
       },
     )
