@@ -31,6 +31,7 @@ pub fn of_lists<T, U>() {
 
 pub fn of_keys<T, U, E: PartialEq, K: Ord>() {
     pieces_begin_as_dedup::<T, E>();
+    pieces_share_keys::<T, E>();
     equality_judges::<E>();
     ascending_is_grouped::<T, K>();
     descending_is_grouped::<T, K>();

@@ -68,6 +68,7 @@ pub use pieces::pieces_add_up;
 pub use pieces::pieces_are_filters;
 pub use pieces::pieces_begin_as_dedup;
 pub use pieces::pieces_by_key;
+pub use pieces::pieces_share_keys;
 pub use plans::Plan;
 pub use plans::refute;
 pub use plans::right_plans_ask;
