@@ -28,7 +28,7 @@ pub(crate) mod sorted;
 pub(crate) mod streams;
 // Texts as bytes and as characters.
 pub(crate) mod texts;
-// What is out for writing.
+// What is out for writing, and what is noted.
 pub(crate) mod writing;
 
 pub use crate::adapters::dedup::sees_counts;
@@ -133,3 +133,4 @@ pub use streams::streams_count_keys;
 pub use texts::characters_fit;
 pub use texts::texts_join;
 pub use writing::chains_hand_out;
+pub use writing::notes_keep_pieces;
