@@ -1,6 +1,6 @@
 //! Functions over any queue of groups, whatever its family and judge.
 ghost use Rattle.std.specs.Option.{option_copied_mut};
-ghost use Rattle.std.specs.Prelude.{◌≡◌, Bool, map, option_copied, IfOk};
+ghost use Rattle.std.specs.Prelude.{◌≡◌, ◌<◌, ◌^◌, Bool, length, map, option_copied, IfOk};
 ghost use Rattle.slice_group_by.specs.End.TheVariants.{Front};
 ghost use Rattle.slice_group_by.specs.Split.{split, first, concat};
 
@@ -49,4 +49,18 @@ pub fn all_groups<Q: GroupQueue + Drop>(
         groups.push(group)?;
     }
     Ok(groups)
+}
+
+/// How many groups come: of a settled queue as many as what remains has pieces.
+pub fn count_of<Q: GroupQueue + Drop>(mut queue: Q) -> usize
+    requires can { Q.can_pop queue }
+    requires fits { length (Q.remainder queue) < 2 ^ 64 }
+    ensures { (p : Q.Element → Q.Element → Bool) → Q.is_settled queue p → result ≡ length (split p (Q.remainder queue)) }
+{
+    calls_take_pieces(&queue);
+    let mut count = 0usize;
+    while let Some(_) = queue.pop_front() {
+        count += 1;
+    }
+    count
 }

@@ -12,7 +12,7 @@ ghost use Rattle.example_counts.specs.Totals.{total, kept};
 
 use crate::joins::Entry;
 use slice_group_by::ExponentialGroupByKeyMut;
-use slice_group_by::laws::{ascending_is_grouped, calls_take_pieces};
+use slice_group_by::laws::{ascending_is_grouped, calls_take_pieces, notes_keep_pieces};
 use slice_group_by::loans::{Ended, resolve};
 
 fn total_of(group: &[Entry]) -> u32
@@ -36,6 +36,7 @@ fn totals_kept<'a, F: FnMut(&Entry) -> u32>(
     ensures value { result.value ≡ concat (map kept (split same_key groups.entry.remainder)) }
 {
     calls_take_pieces(&groups);
+    notes_keep_pieces(&groups);
     while let Some(group) = groups.next() {
         group[0].1 = total_of(group);
         groups.note_front(Ended::of(group));

@@ -1,4 +1,5 @@
 pub mod LongGroups
 pub mod Runs
+pub mod Tens
 pub mod Totals
 pub mod Words

@@ -1,12 +1,20 @@
-//! Slices written through their groups: each filled, cleared or reversed, the long ones cleared and counted, and the first
-//! and last held at once.
+//! Slices written through their groups: each filled, also with its key, cleared or reversed, the long ones cleared and counted, and
+//! the first and last held at once.
 ghost use Rattle.std.specs.Prelude.{◌≡◌, ℕ, [], List, ◌++◌, replicate, length, map, reverse, nat_eq, count_by};
-ghost use Rattle.slice_group_by.specs.Split.{concat, split};
+ghost use Rattle.std.specs.Fn.{CalledAt, TakesAt};
+ghost use Rattle.slice_group_by.specs.Calls.{IsCallableBy};
+ghost use Rattle.slice_group_by.specs.Gives.{groups_of_mut};
+ghost use Rattle.slice_group_by.specs.Judges.{by_key};
+ghost use Rattle.slice_group_by.specs.Linear.{IsSettled};
+ghost use Rattle.slice_group_by.specs.Split.{AreNeighbours, concat, split};
+ghost use Rattle.example_walks.specs.Tens.{same_tens, tens};
 ghost use Rattle.example_walks.specs.LongGroups.{is_long, cleared_if_long};
 
-use slice_group_by::LinearGroupMut;
-use slice_group_by::laws::{equal_pieces_are_copies, one_split};
+use slice_group_by::laws::{
+    calls_take_pieces, equal_pieces_are_copies, one_split, pieces_share_keys,
+};
 use slice_group_by::loans::{Ended, resolve, resolve_and_return, resolve_in};
+use slice_group_by::{LinearGroupByKeyMut, LinearGroupMut};
 
 // Each group is filled with its first element, and has ended.
 #[tactic(auto, using(std::proofs::lemmas::Grind::common_steps, slice_group_by::proofs::EqualPieces::equal_piece))]
@@ -131,4 +139,42 @@ pub fn clear_long_groups(slice: &mut [u8], max_len: usize) -> usize
     ensures count { result ≡ count_by (is_long max_len) (split nat_eq slice.old) }
 {
     resolve_and_return(slice, |part| long_cleared(part, max_len))
+}
+
+// Each group that is still to come is filled with its key, by a function that always answers the tens.
+fn filled_with_keys<'a, F: FnMut(&u32) -> u32>(
+    mut groups: LinearGroupByKeyMut<'a, u32, F, u32>,
+) -> Ended<'a, u32>
+    requires takes { (func : F) (x : ℕ) → TakesAt F.FnMut func x }
+    requires calls { (func after : F) (x key : ℕ) → CalledAt F.FnMut func x key after → (key ≡ tens x) × (after ≡ func) }
+    requires callable { IsCallableBy AreNeighbours (by_key F.FnMut nat_eq) (groups_of_mut groups) }
+    requires settled { IsSettled (by_key F.FnMut nat_eq) (groups_of_mut groups) same_tens }
+    requires before { groups.loans.before ≡ [] }
+    requires after { groups.loans.after ≡ [] }
+    requires cuts { groups.loans.cuts ≡ [] }
+    ensures name { result.name ≡ groups.entry.loans.root }
+    ensures value { result.value ≡ map tens groups.entry.remainder }
+{
+    calls_take_pieces(&groups);
+    pieces_share_keys::<u32, u32>();
+    while let Some(group) = groups.next() {
+        let key = groups.key_of(&group[0]);
+        group.fill(key);
+        groups.note_front(Ended::of(group));
+    }
+    groups.finish()
+}
+
+fn filled_by_tens(slice: &mut [u32]) -> Ended<'_, u32>
+    ensures name { result.name ≡ slice.entry.ghost_name }
+    ensures value { result.value ≡ map tens slice.old }
+{
+    filled_with_keys(LinearGroupByKeyMut::new(slice, |x: &u32| *x / 10))
+}
+
+/// Writes over each group of numbers by tens its key: each number becomes its tens.
+pub fn fill_with_keys(slice: &mut [u32])
+    ensures { slice.new ≡ map tens slice.old }
+{
+    resolve(slice, |part| filled_by_tens(part));
 }

@@ -1,5 +1,5 @@
 //! How many groups of each ASCII class some bytes have, with no walk along them.
-ghost use Rattle.std.specs.Prelude.{◌≡◌, ℕ, ◌+◌, ◌-◌, ◌^◌, ◌<◌, ◌≤◌, List, ◌++◌, length, slice_index_or, min, Option, Some};
+ghost use Rattle.std.specs.Prelude.{◌≡◌, ℕ, ◌+◌, ◌-◌, ◌^◌, ◌<◌, ◌≤◌, List, ◌∷◌, ◌++◌, length, slice_index_or, min, Option, Some};
 ghost use Rattle.std.specs.Simd.Lanes.{mask_l, chunk};
 ghost use Rattle.sgb_masks.specs.AsciiBytes.{ascii_class};
 ghost use Rattle.sgb_numbers.specs.Neighbours.{boundaries};
@@ -68,11 +68,23 @@ pub fn class_after(before: Option<AsciiClass>, bytes: &[u8]) -> Option<AsciiClas
     Some(AsciiClasses::class(bytes[bytes.len() - 1]))
 }
 
-/// The counts of two parts add up to those of the whole: the second part is counted after the class at which the first one ends.
+/// How counts of classes go along the bytes.
+///
+/// - `parts`: the counts of two parts add up to those of the whole. The second part is counted after the class at which the first
+///   one ends.
+/// - `step`: a byte more in front counts one where it begins a group of the class.
+/// - `most`: there are no more groups than bytes.
+/// - `after`: the class after two parts is that after the second, counted after the first.
 pub fn class_counts_add_up()
-    ensures { (class : AsciiClass) (before : Option AsciiClass) (xs ys : List ℕ)
+    ensures parts { (class : AsciiClass) (before : Option AsciiClass) (xs ys : List ℕ)
         → class_count class before (xs ++ ys)
         ≡ class_count class before xs + class_count class (class_after before xs) ys }
+    ensures step { (class : AsciiClass) (before : Option AsciiClass) (b : ℕ) (bs : List ℕ)
+        → class_count class before (b ∷ bs)
+        ≡ begins class before (ascii_class b) + class_count class (Some (ascii_class b)) bs }
+    ensures most { (class : AsciiClass) (before : Option AsciiClass) (bs : List ℕ) → class_count class before bs ≤ length bs }
+    ensures after { (before : Option AsciiClass) (xs ys : List ℕ)
+        → class_after before (xs ++ ys) ≡ class_after (class_after before xs) ys }
 {}
 
 impl ClassCounts {

@@ -23,6 +23,7 @@ pub use Rattle.sgb_masks.specs.Classes
 pub use Rattle.sgb_masks.specs.AsciiBytes
 pub use Rattle.sgb_masks.specs.Counted
 pub use Rattle.sgb_masks.specs.Counters
+pub use Rattle.sgb_masks.specs.Starts
 pub use Rattle.sgb_merge_join.specs.Values
 pub use Rattle.sgb_merge_join.specs.Merge
 pub use Rattle.sgb_merge_join.specs.Asking

@@ -31,6 +31,7 @@ pub fn of_lists<T, U>() {
 
 pub fn of_keys<T, U, E: PartialEq, K: Ord>() {
     pieces_begin_as_dedup::<T, E>();
+    pieces_share_keys::<T, E>();
     equality_judges::<E>();
     ascending_is_grouped::<T, K>();
     descending_is_grouped::<T, K>();
@@ -143,6 +144,7 @@ pub fn of_groups<T, P: FnMut(&T, &T) -> bool, F: FnMut(&T) -> K, K: PartialEq + 
     search_asks(binary);
     groups_end_locally(exponential);
     chains_hand_out(exponential);
+    notes_keep_pieces(exponential);
 }
 
 pub fn of_texts<F: FnMut(char) -> K, K: PartialEq + Drop>(
@@ -151,6 +153,7 @@ pub fn of_texts<F: FnMut(char) -> K, K: PartialEq + Drop>(
     linear_counts(groups);
     texts_join(groups);
     chains_hand_out(groups);
+    notes_keep_pieces(groups);
 }
 
 pub fn of_joins<A, B, FA: Fn(&A) -> K, FB: Fn(&B) -> K, K: Ord + Drop>(

@@ -1,18 +1,16 @@
 -- The bytes of a text have the tokens of its characters.
-use Rattle.std.proofs.Common.{◌≡◌, ℕ, suc, ◌+◌, ◌<◌, ◌≤◌, List, [], ◌∷◌, ◌++◌, length, get_or, Bool, true, false, cond}
+use Rattle.std.proofs.Common.{◌≡◌, ℕ, suc, ◌+◌, ◌<◌, ◌≤◌, List, [], ◌∷◌, ◌++◌, length, get_or, true, cond}
 use Rattle.std.proofs.Common.{refl, ap, sym, subst, ◌∙◌, append-nil, arith, Option, None, Some, ⊎_elim}
 use Rattle.std.proofs.lemmas.Bool.{cases_lt}
 use Rattle.std.proofs.lemmas.Bool.Decides.{nat_tests}
 use Rattle.std.proofs.lemmas.Str.{encode_ascii, inside_one, length-encode, len_utf8_bounds, encodes-chars}
-use Rattle.std.proofs.lemmas.List.Sums.{sum_by-cons}
-use Rattle.std.specs.Prelude.{count_by}
 use Rattle.std.specs.Str.{chars, IsUtf8}
 use lib.Utf8.{encode, encodes}
 use Rattle.slice_group_by.specs.AsciiClass.{AsciiClass}
 use Rattle.slice_group_by.specs.AsciiClass.TheVariants.{Letter, Digit, Space, Other}
 use Rattle.slice_group_by.specs.AsciiBytes.{ascii_class, is_class}
-use Rattle.slice_group_by.specs.Counted.{begun, class_after, class_count, class_of_group, same_class}
-use Rattle.slice_group_by.specs.Split.{split, put_before}
+use Rattle.slice_group_by.specs.Counted.{class_count}
+use Rattle.slice_group_by.specs.Starts.{begins}
 use Rattle.token_counter.specs.Tokens.{token_count}
 
 -- each is of the class
@@ -49,56 +47,23 @@ is_class_same Digit = refl
 is_class_same Space = refl
 is_class_same Other = refl
 
--- a stretch of one class is one token
-one_token : (c : AsciiClass) (x : ℕ) (xs : List ℕ) → IsOfClass c (x ∷ xs) → split same_class (x ∷ xs) ≡ (x ∷ xs) ∷ []
-one_token c x [] h = refl
-one_token c x (y ∷ ys) h =
-    let same : same_class x y ≡ true = rw (h.0, h.1.0) (is_class_same c) in
-    ap (put_before same_class (same_class x y) x) (one_token c y ys h.1) ∙ ap (λ b. put_before same_class b x ((y ∷ ys) ∷ [])) same
-
-class_after_one : (before : Option AsciiClass) (c : AsciiClass) (x : ℕ) (xs : List ℕ) → IsOfClass c (x ∷ xs)
-    → class_after before (x ∷ xs) ≡ Some c
-class_after_one before c x [] h = ap Some h.0
-class_after_one before c x (y ∷ ys) h = class_after_one (Some (ascii_class x)) c y ys h.1
-
--- how many of one group are of the class, after a byte of another or of none
-count_one : (k : AsciiClass) (g : List ℕ) → count_by (λ g. is_class (class_of_group g) k) (g ∷ [])
-    ≡ cond (is_class (class_of_group g) k) 1 0
-count_one k g =
-    let one = sum_by-cons (λ (t : List ℕ). cond (is_class (class_of_group t) k) 1 0) g [] in
-    one ∙ omega arith
-
-counts_by_class : (k : AsciiClass) (before : Option AsciiClass) (g h : List ℕ) → class_of_group g ≡ class_of_group h
-    → count_by (λ g. is_class (class_of_group g) k) (begun before (g ∷ []))
-    ≡ count_by (λ g. is_class (class_of_group g) k) (begun before (h ∷ []))
-counts_by_class k None g h e = count_one k g ∙ ap (λ d. cond (is_class d k) 1 0) e ∙ sym (count_one k h)
-counts_by_class k (Some p) g h e = by (is_class p (class_of_group h)) refl
-  where
-    by : (b : Bool) → is_class p (class_of_group h) ≡ b → count_by (λ g. is_class (class_of_group g) k) (begun (Some p) (g ∷ []))
-        ≡ count_by (λ g. is_class (class_of_group g) k) (begun (Some p) (h ∷ []))
-    by true i = rw (e, i) refl
-    by false i = rw (e, i) (count_one k g ∙ ap (λ d. cond (is_class d k) 1 0) e ∙ sym (count_one k h))
-
-module _ (add : (k : AsciiClass) (before : Option AsciiClass) (xs ys : List ℕ)
-    → class_count k before (xs ++ ys) ≡ class_count k before xs + class_count k (class_after before xs) ys) where
-  -- it counts as its first character alone
-  counts_alike : (k : AsciiClass) (before : Option AsciiClass) (c x : ℕ) (xs : List ℕ) → IsOfClass (ascii_class c) (x ∷ xs)
-      → class_count k before (x ∷ xs) ≡ class_count k before (c ∷ [])
-  counts_alike k before c x xs h =
-      ap (λ ps. count_by (λ g. is_class (class_of_group g) k) (begun before ps)) (one_token (ascii_class c) x xs h)
-      ∙ counts_by_class k before (x ∷ xs) (c ∷ []) h.0
-
-  stretch : (k : AsciiClass) (before : Option AsciiClass) (c : ℕ) (xs : List ℕ) → 0 < length xs → IsOfClass (ascii_class c) xs
-      → (class_count k before xs ≡ class_count k before (c ∷ [])) × (class_after before xs ≡ Some (ascii_class c))
-  stretch k before c [] some h = absurd (omega arith)
-  stretch k before c (x ∷ xs) some h = (counts_alike k before c x xs h, class_after_one before (ascii_class c) x xs h)
+module _ (step : (k : AsciiClass) (before : Option AsciiClass) (b : ℕ) (bs : List ℕ)
+    → class_count k before (b ∷ bs) ≡ begins k before (ascii_class b) + class_count k (Some (ascii_class b)) bs) where
+  -- a stretch of one class counts as one character of it
+  stretch : (k : AsciiClass) (before : Option AsciiClass) (c : AsciiClass) (xs ys : List ℕ) → 0 < length xs → IsOfClass c xs
+      → class_count k before (xs ++ ys) ≡ begins k before c + class_count k (Some c) ys
+  stretch k before c [] ys some h = absurd (omega arith)
+  stretch k before c (x ∷ []) ys some h = step k before x ys ∙ ap (λ d. begins k before d + class_count k (Some d) ys) h.0
+  stretch k before c (x ∷ y ∷ xs) ys some h =
+      step k before x ((y ∷ xs) ++ ys) ∙ ap (λ d. begins k before d + class_count k (Some d) ((y ∷ xs) ++ ys)) h.0
+      ∙ ap (λ n. begins k before c + n) (stretch k (Some c) c (y ∷ xs) ys (omega arith) h.1)
+      ∙ ap (λ b. begins k before c + (cond b 0 (cond (is_class c k) 1 0) + class_count k (Some c) ys)) (is_class_same c) ∙ omega arith
 
   of_encodes : (k : AsciiClass) (before : Option AsciiClass) (cs : List ℕ) → class_count k before (encodes cs) ≡ class_count k before cs
   of_encodes k before [] = refl
   of_encodes k before (c ∷ cs) =
-      let one = stretch k before c (encode c) (encode_some c) (encode_class c) in
-      add k before (encode c) (encodes cs) ∙ (λ i. one.0 i + class_count k (one.1 i) (encodes cs))
-      ∙ ap (λ n. class_count k before (c ∷ []) + n) (of_encodes k (Some (ascii_class c)) cs) ∙ sym (add k before (c ∷ []) cs)
+      stretch k before (ascii_class c) (encode c) (encodes cs) (encode_some c) (encode_class c)
+      ∙ ap (λ n. begins k before (ascii_class c) + n) (of_encodes k (Some (ascii_class c)) cs) ∙ sym (step k before c cs)
 
   pub bytes_agree : (k : AsciiClass) (bytes : List ℕ) → IsUtf8 bytes → token_count k (chars bytes) ≡ token_count k bytes
   bytes_agree k bytes h = sym (of_encodes k None (chars bytes)) ∙ ap (class_count k None) (encodes-chars bytes h)

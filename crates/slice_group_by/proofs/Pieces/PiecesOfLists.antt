@@ -1,9 +1,9 @@
 -- What the pieces of a list share with the list, and with each other.
 use Rattle.std.specs.Prelude.{◌≡◌, ◌≢◌, ℕ, ◌+◌, ◌⊎◌, Bool, true, false, cond, List, [], ◌∷◌, ◌++◌, length, get_or, map, flat_map, replicate, sum_by, Some}
-use Rattle.std.proofs.Common.{refl, sym, ap, ◌∙◌, subst, length-append, arith, inl, inr}
+use Rattle.std.proofs.Common.{zero, suc, refl, sym, ap, ◌∙◌, subst, length-append, arith, inl, inr}
 use Rattle.std.proofs.lemmas.List.{append-nil}
 use Rattle.std.proofs.lemmas.List.Elements.{filter-append}
-use Rattle.std.proofs.lemmas.List.{length-map}
+use Rattle.std.proofs.lemmas.List.{length-map, map-id}
 use Rattle.std.proofs.lemmas.Simd.{map-map}
 use Rattle.std.proofs.lemmas.List.Sums.{sum_by-cons, sum_by-append}
 use Rattle.std.specs.List.{AllByRecursion, Contains, dedup, dedup_from, filter}
@@ -40,10 +40,21 @@ module _ {T : Type 0} where
   pub sums : (p : T → T → Bool) (f : T → ℕ) (xs : List T) → sum_by (λ g. sum_by f g) (split p xs) ≡ sum_by f xs
   sums p f xs = sums_of f (split p xs) ∙ ap (sum_by f) (split_is p xs).covers
 
+  module _ {K : Type 0} (eq : K → K → Bool) (key : T → K) (equal : (a b : K) → eq a b ≡ true → a ≡ b) where
+    first_key : (d : T) (g : List T) → IsAccepted (λ x y. eq (key x) (key y)) g → map key g ≡ replicate (length g) (key (get_or g 0 d))
+    first_key d [] a = refl
+    first_key d (x ∷ []) a = refl
+    first_key d (x ∷ y ∷ ys) a =
+        ap (λ ks. key x ∷ ks)
+        (first_key d (y ∷ ys) a.1 ∙ ap (replicate (length (y ∷ ys))) (sym (equal (key x) (key y) a.0)))
+
+    pub keys_copied : (d : T) (xs g : List T) → Contains (split (λ x y. eq (key x) (key y)) xs) g
+        → map key g ≡ replicate (length g) (key (get_or g 0 d))
+    keys_copied d xs g c = first_key d g (all_contains (IsAccepted _) (split _ xs) g (split_is _ xs).accepted c)
+
   module _ (p : T → T → Bool) (equal : (x y : T) → p x y ≡ true → x ≡ y) where
     copied : (x : T) (xs : List T) → IsAccepted p (x ∷ xs) → x ∷ xs ≡ replicate (length (x ∷ xs)) x
-    copied x [] a = refl
-    copied x (y ∷ ys) a = ap (λ zs. x ∷ zs) (rw (equal x y a.0) (copied y ys a.1))
+    copied x xs a = sym (map-id (x ∷ xs)) ∙ first_key p (λ y. y) equal x (x ∷ xs) a
 
     copies : (g : List T) (x : T) → IsAccepted p g → first g ≡ Some x → g ≡ replicate (length g) x
     copies [] x a f = refl
@@ -85,6 +96,20 @@ by_keys eq per key = record {
   symm = λ x y. per.symm (key x) (key y);
   trans = λ x y z. per.trans (key x) (key y) (key z);
 }
+
+-- what is accepted side by side is accepted at any two places, if each element is accepted beside itself
+module _ {T : Type 0} (p : T → T → Bool) (per : IsPartialEquivalence p) (same : (x : T) → p x x ≡ true) where
+  alike_first : (x : T) (xs : List T) → IsAccepted p (x ∷ xs) → (y : T) → Contains (x ∷ xs) y → p x y ≡ true
+  alike_first x xs a y (zero, l, e) = subst (λ z. p x z ≡ true) (cc e) (same x)
+  alike_first x [] a y (suc k, l, e) = absurd (omega (arith, l))
+  alike_first x (z ∷ zs) a y (suc k, l, e) = per.trans x z y a.0 (alike_first z zs a.1 y (k, omega (arith, l), e))
+
+  all_alike : (g : List T) → IsAccepted p g → (x y : T) → Contains g x → Contains g y → p x y ≡ true
+  all_alike [] a x y c d = absurd (omega (arith, c.1))
+  all_alike (z ∷ zs) a x y c d = per.trans x z y (per.symm x z ∙ alike_first z zs a x c) (alike_first z zs a y d)
+
+  pub piece_alike : (xs g : List T) (x y : T) → Contains (split p xs) g → Contains g x → Contains g y → p x y ≡ true
+  piece_alike xs g x y c = all_alike g (all_contains (IsAccepted p) (split p xs) g (split_is p xs).accepted c) x y
 
 -- the first elements of the pieces, for a test that is symmetric and transitive
 module _ {T : Type 0} (p : T → T → Bool) (per : IsPartialEquivalence p) where
@@ -183,10 +208,6 @@ module _ {K : Type 0} (cmp : K → K → Ordering) (o : IsTotalOrder cmp) (eq : 
   alike (z ∷ zs) u x y c d =
       equal_if_tied cmp eq ties (key x) (key y)
       (compared_alike cmp o eq ties (key z) (key z) (key x) (key y) Equal (u x c) (u y d) (tied_itself o (key z)))
-
-  pub piece_alike : (xs g : List T) (x y : T) → Contains (split same xs) g → Contains g x → Contains g y → same x y ≡ true
-  piece_alike xs g x y c =
-      alike g (all_contains (IsUniform cmp o eq ties key) (split same xs) g (split_uniform cmp o eq ties key xs) c) x y
 
   -- each element of the one piece has a lesser key than each of the other
   abbrev pub KeysBelow : List T → List T → Type 0

@@ -12,7 +12,7 @@ some_length [] n = absurd (n (Rattle.std.proofs.Common.refl))
 some_length (x ∷ xs) n = omega arith
 
 -- a group is at least one element fewer
-part_length : {A : Type 0} (e : End) (xs group ys : List A) → TakesPart e xs (Some group) ys → 1 + length ys ≤ length xs
+pub part_length : {A : Type 0} (e : End) (xs group ys : List A) → TakesPart e xs (Some group) ys → 1 + length ys ≤ length xs
 part_length e xs group ys h = omega (arith, ap length h.1 ∙ length-put_at e group ys, some_length group h.0)
 
 count-cons : {I : Type 0} (o : Option I) (os : List (Option I)) → count_by is_some (o ∷ os) ≡ cond (is_some o) 1 0 + count_by is_some os

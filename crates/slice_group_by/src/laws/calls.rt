@@ -1,5 +1,5 @@
 //! What calls on a queue of groups give: one, a list of them, and all that a loop or an adapter makes.
-ghost use Rattle.std.specs.Prelude.{◌≡◌, ◌≢◌, ◌+◌, ◌-◌, ◌<◌, ◌≤◌, Bool, List, [], ◌∷◌, ◌++◌, length, Option, Some, map, option_map, reverse, count_by, is_some};
+ghost use Rattle.std.specs.Prelude.{◌≡◌, ◌≢◌, ◌+◌, ◌-◌, ◌<◌, ◌≤◌, Bool, List, [], ◌∷◌, ◌++◌, length, Option, None, Some, map, option_map, reverse, count_by, is_some};
 ghost use Rattle.std.specs.Iterator.{Yields, Drains};
 ghost use Rattle.std.specs.Iterator.Adapters.{rev_source, rev_steps};
 ghost use Rattle.std.specs.declared.iter.Rev.{Rev};
@@ -16,6 +16,11 @@ use crate::laws::queue::GroupQueue;
 
 /// One call on a queue that is settled for a test gives the outermost piece of the split of what remained, or `None` if there is
 /// no piece. The other pieces are the split of what remains, and the queue is settled again.
+///
+/// Of every queue, settled or not:
+///
+/// - `none`: where a call gives `None`, no test has a piece left. So a loop that counts or adds up ends with all pieces.
+/// - `shorter`: a group leaves fewer elements. So the length of the remainder is the measure of a loop.
 pub fn calls_take_pieces<Q: GroupQueue>(_queue: &Q)
     ensures front { (p : Q.Element → Q.Element → Bool) (q t : Q) (group : Option Q.Item)
         → Q.gives Front q group t → Q.is_settled q p → option_map Q.shows group ≡ first (split p (Q.remainder q)) }
@@ -30,6 +35,9 @@ pub fn calls_take_pieces<Q: GroupQueue>(_queue: &Q)
         → Q.gives e q group t → Q.is_settled q p → Q.is_settled t p }
     ensures accepted { (p : Q.Element → Q.Element → Bool) (e : End) (q t : Q) (group : Q.Item)
         → Q.gives e q (Some group) t → Q.is_settled q p → IsAccepted p (Q.shows group) }
+    ensures none { (p : Q.Element → Q.Element → Bool) (e : End) (q t : Q) → Q.gives e q None t → split p (Q.remainder q) ≡ [] }
+    ensures shorter { (e : End) (q t : Q) (group : Q.Item) → Q.gives e q (Some group) t
+        → length (Q.remainder t) < length (Q.remainder q) }
 {}
 
 /// Where a call may be made, one may be made after it, whatever it gave, also `None`: so the condition of `new` is all that is

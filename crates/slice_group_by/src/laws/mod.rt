@@ -28,7 +28,7 @@ pub(crate) mod sorted;
 pub(crate) mod streams;
 // Texts as bytes and as characters.
 pub(crate) mod texts;
-// What is out for writing.
+// What is out for writing, and what is noted.
 pub(crate) mod writing;
 
 pub use crate::adapters::dedup::sees_counts;
@@ -68,6 +68,7 @@ pub use pieces::pieces_add_up;
 pub use pieces::pieces_are_filters;
 pub use pieces::pieces_begin_as_dedup;
 pub use pieces::pieces_by_key;
+pub use pieces::pieces_share_keys;
 pub use plans::Plan;
 pub use plans::refute;
 pub use plans::right_plans_ask;
@@ -134,3 +135,4 @@ pub use streams::streams_count_keys;
 pub use texts::characters_fit;
 pub use texts::texts_join;
 pub use writing::chains_hand_out;
+pub use writing::notes_keep_pieces;

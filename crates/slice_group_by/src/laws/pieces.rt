@@ -8,12 +8,20 @@ ghost use Rattle.sgb_search.specs.Split.{first, split};
 ghost use Rattle.slice_group_by.specs.Dedup.{counted};
 ghost use Rattle.slice_group_by.specs.Keyed.{keyed};
 
-/// The elements of a piece by keys have one key. In a list that ascends by that key the pieces ascend strictly: each element of
-/// a piece has a lesser key than each of a later one, so no key has two pieces. The keys of their first elements, which `dedup`
-/// leaves (`pieces_begin_as_dedup`), ascend strictly too.
+/// The elements of a piece by keys have one key, in whatever list.
+///
+/// - `keys`: where equal keys are the same, its keys are that of its first element, so many times.
+/// - `alike`: where each key equals itself, any two of its elements have equal keys.
+pub fn pieces_share_keys<T, K: PartialEq>()
+    ensures keys { ((a b : K) → K.eq a b ≡ true → a ≡ b) → (key : T → K) (d : T) (xs g : List T)
+        → Contains (split (λ a b. K.eq (key a) (key b)) xs) g → map key g ≡ replicate (length g) (key (get_or g 0 d)) }
+    ensures alike { ((a : K) → K.eq a a ≡ true) → (key : T → K) (xs g : List T) (x y : T)
+        → Contains (split (λ a b. K.eq (key a) (key b)) xs) g → Contains g x → Contains g y → K.eq (key x) (key y) ≡ true }
+{}
+
+/// In a list that ascends by a key the pieces ascend strictly: each element of a piece has a lesser key than each of a later one, so
+/// no key has two pieces. The keys of their first elements, which `dedup` leaves (`pieces_begin_as_dedup`), ascend strictly too.
 pub fn pieces_by_key<T, K: Ord>()
-    ensures alike { (key : T → K) (xs g : List T) (x y : T) → Contains (split (λ a b. K.eq (key a) (key b)) xs) g
-        → Contains g x → Contains g y → K.eq (key x) (key y) ≡ true }
     ensures ascend { (key : T → K) (xs : List T) → NeverDescends K.cmp (map key xs)
         → (i j : ℕ) (g h : List T) (x y : T) → i < j → slice_get (split (λ a b. K.eq (key a) (key b)) xs) i ≡ Some g
         → slice_get (split (λ a b. K.eq (key a) (key b)) xs) j ≡ Some h → Contains g x → Contains h y

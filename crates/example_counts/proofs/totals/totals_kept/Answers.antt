@@ -1,6 +1,5 @@
-use Rattle.std.proofs.Common.{rules, arith, ap, ◌∙◌, ◌≡◌, ◌++◌}
+use Rattle.std.proofs.Common.{rules, arith, ◌∙◌, Some}
 use Rattle.std.proofs.lemmas.List.Sums.{sum_by-append}
-use Rattle.slice_group_by.proofs.Pieces.WrittenPieces.{noted_at_front, search_piece, search_settled}
 use Rattle.example_counts.specs.Keys.{same_key}
 use Rattle.example_counts.specs.Totals.{kept}
 use Rattle.example_counts.proofs.KeptTotals.{set_is_kept}
@@ -16,18 +15,15 @@ loop-group-preserved g c =
     let i = c.loop-group.invariant in
     let steps = c.in-Some.ensures.steps in
     let note = c.note_front.ensures in
-    let value : c.of.result.value ≡ kept c.in-Some.group.now =
-    c.of.ensures.value ∙ set_is_kept c.in-Some.group.now c.total_of.result c.total_of.ensures in
+    let s = c.loop-group.groups in
+    let t = c.next.new.self in
+    let group = c.in-Some.group in
     record {
-      settled =
-          search_settled _ _ Front c.loop-group.groups c.next.new.self c.note_front.new.self c.in-Some.group note.remainder _ steps
-          note.judge i.settled;
+      settled = rw (note.remainder, note.judge) (c.calls_take_pieces.ensures.settled same_key Front s t (Some group) steps i.settled);
       fits = grind (arith, sum_by-append);
       root = search rules;
       cuts = search rules;
-      after = search rules;
       done =
-          noted_at_front same_key kept c.loop-group.groups.remainder c.note_front.new.self.remainder _ _ _ _ _ i.done
-          (search_piece _ _ Front c.loop-group.groups c.next.new.self c.note_front.new.self c.in-Some.group note.remainder _ steps
-          i.settled) (note.before ∙ ap (λ l. l ++ c.of.result.value) steps.1.before) value;
+          c.notes_keep_pieces.ensures same_key kept Front s t c.note_front.new.self group _ _ steps i.settled note.remainder
+          note.before note.after (c.of.ensures.value ∙ set_is_kept group.now c.total_of.result c.total_of.ensures) i.done;
     }

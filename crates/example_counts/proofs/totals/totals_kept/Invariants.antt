@@ -13,8 +13,7 @@ invariant-loop-group g l = record {
   fits : total l.groups.remainder ≤ 4294967295;
   root : l.groups.loans.root ≡ l.initial.groups.loans.root;
   cuts : l.groups.loans.cuts ≡ [];
-  after : l.groups.loans.after ≡ [];
-  done : l.groups.loans.before ++ concat (map kept (split same_key l.groups.remainder))
+  done : l.groups.loans.before ++ (concat (map kept (split same_key l.groups.remainder)) ++ l.groups.loans.after)
       ≡ concat (map kept (split same_key l.initial.groups.remainder));
 }
 

@@ -1,12 +1,6 @@
-use Rattle.std.proofs.Common.{◌≡◌, ◌+◌, ◌++◌, ◌-◌, ◌^◌, ℕ, List, [], ◌∷◌, Option, None, Some, min, arith, refl, sym, ap, ◌∙◌}
-use Rattle.sgb_masks.specs.AsciiBytes.{ascii_class}
+use Rattle.std.proofs.Common.{◌≡◌, ◌+◌, ◌-◌, ◌^◌, ℕ, None, min, arith, sym, ap, ◌∙◌}
 use Rattle.sgb_masks.specs.Counted.{class_after, class_count}
-use Rattle.sgb_masks.specs.declared.ascii_classes.AsciiClass.{AsciiClass}
 use Rattle.sgb_masks.proofs.class_counter.ClassCounter.push.Goals as goal
-
-class_after-append : (before : Option AsciiClass) (xs ys : List ℕ) → class_after before (xs ++ ys) ≡ class_after (class_after before xs) ys
-class_after-append before [] ys = refl
-class_after-append before (x ∷ xs) ys = class_after-append (Some (ascii_class x)) xs ys
 
 -- what is cut off may be cut off once more
 min_again : (x y m : ℕ) → min (min x m + y) m ≡ min (x + y) m
@@ -20,6 +14,6 @@ returns c bytes h =
           c.saturating_add-self.ensures k
           ∙ (λ i. min (h.counts k i + (c.count_classes.ensures k ∙ ap (λ l. class_count k l block) h.last) i) (2 ^ 64 - 1))
           ∙ min_again (class_count k None bytes) (class_count k (class_after None bytes) block) (2 ^ 64 - 1)
-          ∙ ap (λ n. min n (2 ^ 64 - 1)) (sym (c.class_counts_add_up.ensures k None bytes block));
-      last = c.class_after-self.ensures ∙ ap (λ l. class_after l block) h.last ∙ sym (class_after-append None bytes block);
+          ∙ ap (λ n. min n (2 ^ 64 - 1)) (sym (c.class_counts_add_up.ensures.parts k None bytes block));
+      last = c.class_after-self.ensures ∙ ap (λ l. class_after l block) h.last ∙ sym (c.class_counts_add_up.ensures.after None bytes block);
     }

@@ -1,9 +1,6 @@
 use Rattle.slice_group_by.proofs.Joins.JoinPairs.{later_at}
-use Rattle.slice_group_by.proofs.Pieces.PiecesOfLists.{piece_alike, pieces_climb, firsts_climb}
+use Rattle.slice_group_by.proofs.Pieces.PiecesOfLists.{pieces_climb, firsts_climb}
 use Rattle.slice_group_by.proofs.laws.pieces.pieces_by_key.Goals as goal
-
-pub returns-clause-alike : goal.returns-clause-alike
-returns-clause-alike g c = piece_alike g.K.Ord.cmp g.met.K.Ord.total g.K.PartialEq.eq g.met.K.Ord.matches_eq
 
 pub returns-clause-ascend : goal.returns-clause-ascend
 returns-clause-ascend g c key xs h i j p q x y before at at' =
