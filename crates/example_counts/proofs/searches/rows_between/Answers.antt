@@ -1,8 +1,7 @@
-use Rattle.std.proofs.Common.{rules, arith, ℕ}
+use Rattle.std.proofs.Common.{rules, ℕ}
 use Rattle.std.specs.Ordering.{nat_cmp}
 use Rattle.std.specs.declared.cmp.Ordering.{Ordering}
 use Rattle.std.proofs.lemmas.Fn.{always_returns_same}
-use Rattle.std.proofs.lemmas.Bool.Decides.{nat_tests}
 use Rattle.slice_group_by.specs.Search.{between}
 use Rattle.example_counts.specs.Keys.{key}
 use Rattle.example_counts.proofs.searches.rows_between.Goals as goal
