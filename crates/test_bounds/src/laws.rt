@@ -147,6 +147,10 @@ pub fn of_groups<T, P: FnMut(&T, &T) -> bool, F: FnMut(&T) -> K, K: PartialEq + 
     notes_keep_pieces(exponential);
 }
 
+pub fn of_shards<T, P: FnMut(&T, &T) -> bool>(linear: LinearGroupBy<'_, T, P>) {
+    sees_shards(&linear.shards(2));
+}
+
 pub fn of_texts<F: FnMut(char) -> K, K: PartialEq + Drop>(
     groups: &LinearStrGroupByKeyMut<'_, F, K>,
 ) {

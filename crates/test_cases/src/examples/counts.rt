@@ -5,9 +5,8 @@ use example_counts::counts::{
 use example_counts::joins::merge_join_by_key;
 use example_counts::parts::lens_by_halves;
 use example_counts::pieces::keys_once;
-use example_counts::queues::{all_groups, count_of};
+use example_counts::queues::all_groups;
 use example_counts::searches::{keys_of_search, questions_of_search};
-use example_counts::words::count_letter_words;
 use slice_group_by::{End, LinearGroup};
 use std::test::Fail;
 
@@ -23,14 +22,6 @@ fn questions_of_eight(rt: HostRuntime) {
 fn groups_beside_counts(rt: HostRuntime) {
     assert!(rt; first_exponential_group(&[1, 2]) == (Some([1].as_slice()), 1));
     assert_eq!(rt; longest_and_questions(&[1, 2, 2, 2, 2, 3, 3]), (4, 6));
-}
-
-// A word that goes on in the next block is one.
-#[test]
-fn groups_are_counted(rt: HostRuntime) {
-    let blocks: [&[u8]; 2] = [b"ab c", b"d 7e"];
-    assert_eq!(rt; count_letter_words(&blocks), 3);
-    assert_eq!(rt; count_of(LinearGroup::new(&[1, 1, 2])), 2);
 }
 
 #[test]

@@ -4,7 +4,7 @@ use example_walks::closures::counted;
 use example_walks::families::sort_and_count;
 use example_walks::folds::{longest_with_row, total_by_groups};
 use example_walks::offsets::runs_with_rows;
-use example_walks::writers::{clear_ends, fill_with_keys};
+use example_walks::writers::clear_ends;
 use slice_group_by::End;
 use std::test::Fail;
 
@@ -49,11 +49,4 @@ fn ends_are_cleared(rt: HostRuntime) {
     let mut slice = [4, 4, 5, 4, 6, 6];
     clear_ends(&mut slice);
     assert_eq!(rt; slice, [0, 0, 5, 4, 0, 0]);
-}
-
-#[test]
-fn keys_are_filled_in(rt: HostRuntime) {
-    let mut slice = [10, 11, 25];
-    fill_with_keys(&mut slice);
-    assert_eq!(rt; slice, [1, 1, 2]);
 }
