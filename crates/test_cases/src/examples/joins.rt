@@ -4,9 +4,7 @@ ghost use Rattle.std.specs.Prelude.{◌≡◌, IfOk, string_bytes};
 use example_joins::blocks::common_numbers_of_blocks;
 use example_joins::kinds::{absent, common_groups, present};
 use example_joins::names::{Person, Visit, count_visits};
-use example_joins::sets::{
-    difference, intersection, symmetric_difference, union, union_of_three,
-};
+use example_joins::sets::{difference, intersection, symmetric_difference, union, union_of_three};
 use example_joins::visits::visits_of_each;
 use slice_group_by::joinable_prefixes;
 use std::alloc::{AllocError, Global};
