@@ -8,18 +8,15 @@ overflow_add-count g c =
 
 pub loop-count-preserved-in-Some : goal.loop-count-preserved-in-Some
 loop-count-preserved-in-Some g c =
+    let i = c.loop-count.invariant in
     let laws = c.calls_take_pieces.ensures in
     record {
       can = c.pop_front.ensures.can;
-      within = omega (arith, c.loop-count.invariant.within, laws.shorter Front _ _ _ c.in-Some.ensures.gives);
-      counted = λ p settled.
-          let (now, all) = c.loop-count.invariant.counted p settled in (
-            laws.settled p Front _ _ _ c.in-Some.ensures.gives now,
-            omega (arith, all, ap length (laws.whole p Front _ _ _ c.in-Some.ensures.gives now)),
-          );
+      within = omega (arith, i.within, laws.shorter Front _ _ _ c.in-Some.ensures.gives);
+      settled = λ p h. laws.settled p Front _ _ _ c.in-Some.ensures.gives (i.settled p h);
+      counted = λ p h. omega (arith, i.counted p h, ap length (laws.whole p Front _ _ _ c.in-Some.ensures.gives (i.settled p h)));
     }
 
 pub returns : goal.returns
-returns g c p settled =
-    let (now, all) = c.loop-count.invariant.counted p settled in
-    omega (arith, all, ap length (c.calls_take_pieces.ensures.none p Front _ _ c.in_default.ensures.gives))
+returns g c p h =
+    omega (arith, c.loop-count.invariant.counted p h, ap length (c.calls_take_pieces.ensures.none p Front _ _ c.in_default.ensures.gives))

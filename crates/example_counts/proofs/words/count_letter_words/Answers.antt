@@ -1,4 +1,5 @@
-use Rattle.std.proofs.Common.{◌≡◌, ℕ, ◌+◌, Bool, true, false, cond, List, [], ◌∷◌, flat_map, Option, None, Some, refl, ap, ◌∙◌, arith, take_all}
+use Rattle.std.proofs.Common.{◌≡◌, ℕ, ◌+◌, Bool, true, false, cond, List, [], ◌∷◌, flat_map}
+use Rattle.std.proofs.Common.{Option, None, Some, refl, ap, ◌∙◌, arith, take_all}
 use Rattle.std.specs.Char.{is_ascii_alphabetic, is_ascii_digit, is_ascii_whitespace}
 use Rattle.slice_group_by.specs.AsciiBytes.{ascii_class, is_class}
 use Rattle.slice_group_by.specs.AsciiClass.{AsciiClass}

@@ -19,7 +19,6 @@ loop-group-preserved g c =
     let whole = laws.whole same_tens Front s c.next.new.self c.in-Some.group steps i.settled in
     let keys = c.pieces_share_keys.ensures.keys eqb-true tens 0 s.remainder group (rw whole (0, omega arith, refl)) in
     let filled : c.of.result.value ≡ replicate (length group) c.key_of-key.result = search rules in
-    let value : c.of.result.value ≡ map tens group = filled ∙ ap (replicate (length group)) called.0 ∙ sym keys in
     record {
       settled =
           rw (note.remainder, key.remainder, note.judge, ap key_judge called.1)
@@ -28,7 +27,7 @@ loop-group-preserved g c =
       cuts = search rules;
       after = search rules;
       done =
-          rw (note.before, note.remainder, key.remainder, ap (λ l. l.before) key.loans, steps.1.before, value)
+          rw (note.before, note.remainder, key.remainder, ap (λ l. l.before) key.loans, steps.1.before, filled, called.0, ← keys)
           (append_assoc s.loans.before (map tens group) (map tens c.next.new.self.remainder)
           ∙ ap (λ l. s.loans.before ++ l) (sym (map-append tens group c.next.new.self.remainder) ∙ ap (map tens) (sym steps.0.cut))
           ∙ i.done);
