@@ -102,6 +102,25 @@ pub fn boundaries_by<T, P: FnMut(&T, &T) -> bool>(xs: &[T], index: usize, p: P, 
     let _ = exponential_boundary_by(xs, index, q);
 }
 
+pub fn best_by<T, P: FnMut(&T, &T) -> bool, B: FnMut(&T, &T) -> bool>(xs: &mut [T], p: P, b: B)
+    requires p { P.IsAlwaysCallable p }
+    requires b { B.IsAlwaysCallable b }
+{
+    laws::always_callable::<T, P>();
+    let _ = partition_best_by(xs, p, b);
+}
+
+pub fn best_by_key<T, F: FnMut(&T) -> K, K: PartialEq + Drop, B: FnMut(&T, &T) -> bool>(
+    xs: &mut [T],
+    f: F,
+    b: B,
+)
+    requires f { IsCallableBy AreNeighbours (by_key F.FnMut K.eq) (record { remainder = xs.old; judge = key_judge f }) }
+    requires b { B.IsAlwaysCallable b }
+{
+    let _ = partition_best_by_key(xs, f, b);
+}
+
 pub fn boundaries_by_key<T, F: FnMut(&T) -> K, K: PartialEq + Drop>(
     xs: &[T],
     index: usize,
