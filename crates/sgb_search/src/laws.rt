@@ -2,7 +2,7 @@
 ghost use Rattle.std.specs.Prelude.{cond, ◌≡◌, ◌↔◌, ℕ, ◌+◌, ◌-◌, ◌^◌, ◌<◌, ◌≤◌, ◌++◌, Bool, List, Some, length, map, nat_lt};
 ghost use Rattle.std.specs.Prelude.{slice_range};
 ghost use Rattle.sgb_search.specs.Calls.{ComputesBy, IsCallableBy};
-ghost use Rattle.std.specs.Fn.{ComputesKey, TakesAt, TakesAtTwo, CalledAt, CalledAtTwo};
+ghost use Rattle.std.specs.Fn.{ComputesKey, Takes, TakesAt, TakesAtTwo, Called, CalledAt, CalledAtTwo};
 ghost use Rattle.std.specs.List.{Contains, slice_get, count_by, filter};
 ghost use Rattle.std.specs.List.Sorted.{IsPartitionedBy};
 ghost use Rattle.std.specs.Ordering.{flip_args, is_lt, is_le, is_eq, is_gt};
@@ -18,6 +18,7 @@ ghost use Rattle.sgb_search.specs.Search.{IsCallableOn, ComputesOn, IsLessEqualG
 ghost use Rattle.sgb_search.specs.Linear.{questions};
 ghost use Rattle.sgb_search.specs.Judges.{IsRunOf, by_predicate, predicate_judge, by_key, key_judge};
 ghost use Rattle.sgb_search.specs.Judges.{by_char_predicate, char_predicate_judge, by_char_key, char_key_judge, by_equality};
+ghost use Rattle.sgb_search.specs.Judges.{CalledAtChar};
 ghost use Rattle.sgb_search.specs.declared.judge.EqualityJudge.{EqualityJudge};
 
 /// Each list has exactly one split for a test, whose pieces joined are the list. It has one piece more than the test refuses
@@ -163,6 +164,22 @@ pub fn always_callable_char_key<F: FnMut(char) -> K, K: PartialEq + Drop>()
     ensures { (cs : List ℕ) (func : F) → F.IsAlwaysCallable func
         → IsCallableBy AreNeighbours (by_char_key F.FnMut K.eq)
         (record { remainder = cs; judge = char_key_judge func }) }
+{}
+
+/// For a key function of characters that its calls leave unchanged: if it may be called on each character of a text now, its judge may
+/// be asked about the neighbouring ones. The reference names the function's type.
+pub fn callable_unchanged_char_key<F: FnMut(char) -> K, K: PartialEq + Drop>(_f: &F)
+    ensures { (cs : List ℕ) (f : F) → ((g h : F) (c : ℕ) (k : K) → CalledAtChar F.FnMut g c k h → h ≡ g)
+        → ((c : ℕ) → Contains cs c → Takes F.FnMut f (c, tt)) → IsCallableBy AreNeighbours (by_char_key F.FnMut K.eq)
+        (record { remainder = cs; judge = char_key_judge f }) }
+{}
+
+/// The same for a predicate of characters that may be called on each neighbouring pair of a text.
+pub fn callable_unchanged_chars<P: FnMut(char, char) -> bool>(_predicate: &P)
+    ensures { (cs : List ℕ) (predicate : P) → ((f h : P) (a b : ℕ) (r : Bool) → Called P.FnMut f (a, (b, tt)) r h → h ≡ f)
+        → ((q : ℕ × ℕ) → AreNeighbours cs q → Takes P.FnMut predicate (q.0, (q.1, tt)))
+        → IsCallableBy AreNeighbours (by_char_predicate P.FnMut)
+        (record { remainder = cs; judge = char_predicate_judge predicate }) }
 {}
 
 /// Equality may be asked about every slice, answers what `==` says, and counts: in every state of its judge.

@@ -72,6 +72,18 @@ pub fn of_characters<F: FnMut(char) -> K, K: PartialEq + Drop>() {
     always_callable_char_key::<F, K>();
 }
 
+pub fn of_unchanged_characters<
+    P: FnMut(char, char) -> bool,
+    F: FnMut(char) -> K,
+    K: PartialEq + Drop,
+>(
+    key: &F,
+    predicate: &P,
+) {
+    callable_unchanged_char_key(key);
+    callable_unchanged_chars(predicate);
+}
+
 pub fn of_functions<T, F: FnMut(&T) -> K, K>(f: &F) {
     always_callable_on_elements::<T, F, K>();
     always_computes(f);

@@ -109,6 +109,8 @@ pub use sgb_search::laws::ascending_is_searchable;
 pub use sgb_search::laws::callable_on_elements;
 pub use sgb_search::laws::callable_on_pairs;
 pub use sgb_search::laws::callable_unchanged;
+pub use sgb_search::laws::callable_unchanged_char_key;
+pub use sgb_search::laws::callable_unchanged_chars;
 pub use sgb_search::laws::callable_unchanged_on_pairs;
 pub use sgb_search::laws::computes_on_elements;
 pub use sgb_search::laws::computes_on_pairs;
