@@ -4,7 +4,9 @@ ghost use Rattle.std.specs.Option.{option_copied};
 ghost use Rattle.slice_group_by.specs.Split.{split};
 ghost use Rattle.slice_group_by.specs.Seams.{are_accepted, lens_joined};
 
-use slice_group_by::laws::{groups_still_come, one_split, pieces_add_up, sees_pieces, sees_shards, splits_join};
+use slice_group_by::laws::{
+    groups_still_come, one_split, pieces_add_up, sees_pieces, sees_shards, splits_join,
+};
 use slice_group_by::{LinearGroup, linear_boundary};
 use std::alloc::{AllocError, Global};
 

@@ -1,5 +1,6 @@
 -- A call of an iterator for reading is a call on what it shows; and a group cut off a part between two places.
-use Rattle.std.proofs.Common.{◌≡◌, ℕ, ◌+◌, ◌-◌, ◌<◌, ◌≤◌, true, List, ◌++◌, length, drop, min, Option, None, Some, arith, ap, subst, ◌∙◌, sym}
+use Rattle.std.proofs.Common.{◌≡◌, ℕ, ◌+◌, ◌-◌, ◌<◌, ◌≤◌, true, List, ◌++◌, length, drop, min, Option}
+use Rattle.std.proofs.Common.{None, Some, arith, ap, subst, ◌∙◌, sym}
 use Rattle.std.proofs.lemmas.Bool.Decides.{nat_tests}
 use Rattle.std.proofs.lemmas.List.{drop_at, drop_min}
 use Rattle.std.specs.Prelude.{option_copied, slice_range}

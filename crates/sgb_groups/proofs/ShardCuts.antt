@@ -1,5 +1,6 @@
 -- Shards: a cut by one call, and what all of them are.
-use Rattle.std.proofs.Common.{◌≡◌, ℕ, zero, suc, ◌+◌, ◌-◌, ◌/◌, ◌<◌, ◌≤◌, Bool, true, false, List, [], ◌∷◌, ◌++◌, length, take, drop, max, Some}
+use Rattle.std.proofs.Common.{◌≡◌, ℕ, zero, suc, ◌+◌, ◌-◌, ◌/◌, ◌<◌, ◌≤◌, Bool, true, false, List, []}
+use Rattle.std.proofs.Common.{◌∷◌, ◌++◌, length, take, drop, max, Some}
 use Rattle.std.proofs.Common.{append_assoc, refl, sym, ap, subst, ◌∙◌, arith}
 use lib.Dec.{T, leb, leb→le}
 use Rattle.std.specs.Iterator.{AlwaysYields}
@@ -145,9 +146,9 @@ module _ {A : Type 0} (p : A → A → Bool) where
 -- of groups that are settled
 module _ {T J : Type 0} (asks : End → List T → ℕ → J → J → Type 0) (p : T → T → Bool) (settled : Groups T J → Type 0)
     (piece : (s : Groups T J) (group : List T) (t : Groups T J) → IsGroupAt asks Front s group t → settled s
-        → TakesPiece p Front s.remainder (Some group) t.remainder × settled t)
+    → TakesPiece p Front s.remainder (Some group) t.remainder × settled t)
     (behind : (before rest : List T) (j : J) → settled (record { remainder = before ++ rest; judge = j })
-        → settled (record { remainder = rest; judge = j })) where
+    → settled (record { remainder = rest; judge = j })) where
   record Cuts (s : Groups T J) (n : ℕ) (shard : List T) (t : Groups T J) : Type 0 where
     shard_is : shard ≡ take n s.remainder
     rest_is : t.remainder ≡ drop n s.remainder
@@ -170,8 +171,13 @@ module _ {T J : Type 0} (asks : End → List T → ℕ → J → J → Type 0) (
   pub yields_shards : {W : Type 0} (xs : List T) (most count : ℕ) (s : Shards T J W) → length xs ≤ most → (groups_to_cut s).remainder ≡ xs
       → shards_left s ≡ count → settled (groups_to_cut s) → AlwaysYields (GivesShard asks) (λ x. x.now) s (shards_in p xs most count)
   yields_shards [] most count s l is left m = λ x t h.
-      omega (arith, h.0.call.nonempty, ap length (sym h.0.cut ∙ is), length-append x.now (groups_to_cut t).remainder,
-      length-drop (share_end (shards_left s) (groups_to_cut s).remainder) x.now)
+      omega (
+        arith,
+        h.0.call.nonempty,
+        ap length (sym h.0.cut ∙ is),
+        length-append x.now (groups_to_cut t).remainder,
+        length-drop (share_end (shards_left s) (groups_to_cut s).remainder) x.now,
+      )
   yields_shards (x ∷ xs) zero count s l is left m = absurd (omega (arith, l))
   yields_shards (x ∷ xs) (suc most) count s l is left m =
       let n = shard_len p (x ∷ xs) (share_end count (x ∷ xs)) in

@@ -76,10 +76,7 @@ pub fn of_unchanged_characters<
     P: FnMut(char, char) -> bool,
     F: FnMut(char) -> K,
     K: PartialEq + Drop,
->(
-    key: &F,
-    predicate: &P,
-) {
+>(key: &F, predicate: &P) {
     callable_unchanged_char_key(key);
     callable_unchanged_chars(predicate);
 }

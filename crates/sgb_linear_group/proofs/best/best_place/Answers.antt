@@ -7,14 +7,16 @@ use Rattle.sgb_linear_group.proofs.best.best_place.Goals.{then-beats, else-beats
 
 pub loop-i-init : goal.loop-i-init
 loop-i-init g c =
-    (omega arith, omega arith, c.requires.callable, λ b computes. (computes, best_first b c.args.slice.now c.args.low (omega (arith, c.requires))))
+    let xs = c.args.slice.now in
+    (omega arith, omega arith, c.requires.callable, λ b computes. (computes, best_first b xs c.args.low (omega (arith, c.requires))))
 
 pub loop-i-preserved : goal.loop-i-preserved
 loop-i-preserved g c =
     let xs = c.args.slice.now in
     let i = c.loop-i.invariant in
-    let at_i = slice_get_read xs _ c.loop-i.i _ refl (omega (arith, c.loop-i-test.true, c.requires)) c.index-slice-i.is in
-    let at_place = slice_get_read xs _ c.loop-i.place _ refl (omega (arith, i.1, c.loop-i-test.true, c.requires)) c.index-slice-place.is in (
+    let inside = c.loop-i-test.true in
+    let at_i = slice_get_read xs _ c.loop-i.i _ refl (omega (arith, inside, c.requires)) c.index-slice-i.is in
+    let at_place = slice_get_read xs _ c.loop-i.place _ refl (omega (arith, i.1, inside, c.requires)) c.index-slice-place.is in (
       elim c.if-beats.branch [ then-beats w ↦ omega (arith, w.place-is, i) | else-beats w ↦ omega (arith, w.place-is, i) ],
       elim c.if-beats.branch [ then-beats w ↦ omega (arith, w.place-is, i) | else-beats w ↦ omega (arith, w.place-is, i) ],
       mut_next g.B.FnMut _ _ _ _ _ c.beats.ensures refl i.2,
@@ -24,7 +26,7 @@ loop-i-preserved g c =
           let more = best_more b xs c.args.low c.loop-i.place c.loop-i.i _ _ _ (omega (arith, i)) at_i at_place answer now.1 in (
             record { at = λ more. (now.0.at (_ ∷ more) _ _ c.beats.ensures).1 },
             elim c.if-beats.branch [
-              then-beats w ↦ rw (w.place-is) (rw (w.if-beats.true) at more)
+              | then-beats w ↦ rw (w.place-is) (rw (w.if-beats.true) at more)
               | else-beats w ↦ rw (w.place-is) (rw (w.if-beats.false) at more)
             ],
           ),

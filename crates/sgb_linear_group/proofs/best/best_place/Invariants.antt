@@ -1,4 +1,4 @@
-use Rattle.std.proofs.Common.{◌≡◌, ◌<◌, ◌≤◌, Bool}
+use Rattle.std.proofs.Common.{◌≡◌, ◌<◌, ◌≤◌}
 use denote.Param.Always.{always_mut}
 use Rattle.std.specs.Prelude.{slice_get, slice_range}
 use Rattle.std.specs.Fn.{ComputesOnPairs}

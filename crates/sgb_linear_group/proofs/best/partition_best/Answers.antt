@@ -21,8 +21,10 @@ loop-rest-preserved g c =
     let f = c.first_len.ensures in
     let b = c.best_place-place.ensures in
     let s = c.swap.ensures in
-    let whole : slice_range ys rest (length ys) ≡ drop rest xs = take_all (length ys - rest) (drop rest ys) (omega (arith, length-drop rest ys)) ∙ i.3 in
-    let call = call_at (LinearQuestions g.J.Judge) xs _ rest len _ _ whole f.nonempty (omega (arith, f.within, ap length whole, ap length i.3, length-drop rest ys)) f.asked in
+    let whole : slice_range ys rest (length ys) ≡ drop rest xs =
+    take_all (length ys - rest) (drop rest ys) (omega (arith, length-drop rest ys)) ∙ i.3 in
+    let room : len ≤ length (slice_range ys rest (length ys)) = omega (arith, f.within, ap length whole, ap length i.3, length-drop rest ys) in
+    let call = call_at (LinearQuestions g.J.Judge) xs _ rest len _ _ whole f.nonempty room f.asked in
     let order : c.loop-rest.kept ≤ place = omega (arith, i.0, b.low) in
     let inside : place < length ys = omega (arith, b.high, f.within) in
     let k = stands_at ys place inside in (
@@ -43,7 +45,8 @@ loop-rest-preserved g c =
           let others = best_of_each beats (split p (drop (rest + len) xs)) in (
             taken.1,
             b.computes beats now.1,
-            ap (λ l. l ++ others) (swapped_kept ys _ c.loop-rest.kept place order inside s.by_index k.0 k.1 (omega (arith, order, inside, s.len)))
+            ap (λ l. l ++ others)
+                (swapped_kept ys _ c.loop-rest.kept place order inside s.by_index k.0 k.1 (omega (arith, order, inside, s.len)))
                 ∙ append_assoc (take c.loop-rest.kept ys) (k.0 ∷ []) others
                 ∙ ap (λ l. take c.loop-rest.kept ys ++ l)
                 (sym (each_more beats _ _ k.0 found) ∙ ap (best_of_each beats) (sym (first_and_others _ _ _ taken.0.0 taken.0.1)))

@@ -1,4 +1,4 @@
-use Rattle.std.proofs.Common.{◌≡◌, ◌≤◌, ◌-◌, ◌++◌, Bool, length, take, drop}
+use Rattle.std.proofs.Common.{◌≡◌, ◌≤◌, ◌-◌, ◌++◌, length, take, drop}
 use denote.Param.Always.{always_mut}
 use Rattle.std.specs.Fn.{ComputesOnPairs}
 use Rattle.std.specs.List.Sorted.{IsPermutation}

@@ -8,5 +8,6 @@ returns-in-Some-clause-remainder g c =
     let xs = s.slice.now in
     let p = c.in-Some.ensures in
     rw (c.min.ensures, p.0, p.1)
-    (part_is xs _ s.high (omega (arith, p)) (omega (arith, p)) ∙ part_behind xs s.low s.high c.args.len (omega (arith, p)) (omega (arith, p))
+    (part_is xs _ s.high (omega (arith, p)) (omega (arith, p))
+    ∙ part_behind xs s.low s.high c.args.len (omega (arith, p)) (omega (arith, p))
     ∙ ap (drop c.args.len) (sym (part_is xs s.low s.high (omega (arith, p)) (omega (arith, p)))))

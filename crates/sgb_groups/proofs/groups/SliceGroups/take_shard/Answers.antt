@@ -11,7 +11,8 @@ next-requires g c =
     let at = c.args.place in
     rw (c.skip_front.ensures.remainder, c.skip_front.ensures.judge)
     (g.W.Way.callable_behind _ _ g.J.Judge (take at xs) (drop at xs) _
-    (subst (λ (l : List g.row.T.Denot). IsCallableBy (g.W.Way.allowed _) g.J.Judge (record { remainder = l; judge = c.args.self.now.judge }))
+    (subst (λ (l : List g.row.T.Denot). IsCallableBy (g.W.Way.allowed _) g.J.Judge
+    (record { remainder = l; judge = c.args.self.now.judge }))
     (sym (take-append-drop at xs)) c.requires.callable))
 
 pub returns-in-Some-clause-cut : goal.returns-in-Some-clause-cut
@@ -22,5 +23,10 @@ returns-in-Some-clause-cut g c =
 
 pub returns-in-None-clause-callable : goal.returns-in-None-clause-callable
 returns-in-None-clause-callable g c =
-    absurd (omega (arith, c.requires.within, ap length c.skip_front.ensures.remainder, ap length c.in-None.ensures.steps.0,
-    length-drop c.args.place (groups_of c.args.self.now).remainder))
+    absurd (omega (
+      arith,
+      c.requires.within,
+      ap length c.skip_front.ensures.remainder,
+      ap length c.in-None.ensures.steps.0,
+      length-drop c.args.place (groups_of c.args.self.now).remainder,
+    ))
