@@ -64,16 +64,16 @@ pub fn longest_runs(alloc: Global, slice: &[u32], k: usize) -> Result<Vec<&[u32]
     Ok(runs)
 }
 
-/// Keeps the last row of each run of rows with one key.
-pub fn keep_last(rows: &mut Vec<(u32, u64)>) {
-    let len = partition_best_by_key(rows, |row: &(u32, u64)| row.0, |_, _| true);
+/// Keeps the row with the greatest value of each run of rows with one key.
+pub fn keep_greatest(rows: &mut Vec<(u32, u64)>) {
+    let len = partition_best_by_key(rows, |row: &(u32, u64)| row.0, |kept, row| kept.1 < row.1);
     rows.truncate(len);
 }
 
 /// Prints what these give.
 pub fn print_all(rt: &(impl Print + AllocGlobal)) -> io::Result<()> {
     let mut rows = vec![in rt.alloc(); (7, 1), (7, 2), (8, 3), (7, 4)]?;
-    keep_last(&mut rows);
+    keep_greatest(&mut rows);
     println!(rt;
         "recipes: {:?} {:?} {:?} {:?} {rows:?}",
         with_prefix(&["also", "group", "grow", "key"], "gr"),

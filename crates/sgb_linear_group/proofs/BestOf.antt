@@ -23,9 +23,9 @@ stands_at (x ∷ xs) zero l = (x, refl)
 stands_at (x ∷ xs) (suc i) l = stands_at xs i (omega (arith, l))
 
 module _ {T : Type 0} (b : T → T → Bool) where
-  best_push : (xs : List T) (y k : T) → best b xs ≡ Some k → best b (xs ++ y ∷ []) ≡ Some (cond (b y k) y k)
+  best_push : (xs : List T) (y k : T) → best b xs ≡ Some k → best b (xs ++ y ∷ []) ≡ Some (cond (b k y) y k)
   best_push [] y k e = cc e
-  best_push (x ∷ xs) y k e = ap Some (fold_push (λ k y. cond (b y k) y k) x xs y ∙ ap (λ k. cond (b y k) y k) (same_some e))
+  best_push (x ∷ xs) y k e = ap Some (fold_push (λ k y. cond (b k y) y k) x xs y ∙ ap (λ k. cond (b k y) y k) (same_some e))
 
   range_more : (xs : List T) (low i : ℕ) (y : T) → low ≤ i → slice_get xs i ≡ Some y
       → slice_range xs low (i + 1) ≡ slice_range xs low i ++ y ∷ []
@@ -45,7 +45,7 @@ module _ {T : Type 0} (b : T → T → Bool) where
       x.1 ∙ ap (λ l. best b (l ++ x.0 ∷ [])) (sym none) ∙ ap (best b) (sym (range_more xs low low x.0 (omega arith) x.1))
 
   pub best_more : (xs : List T) (low place i : ℕ) (r : Bool) (y k : T) → low ≤ i → slice_get xs i ≡ Some y → slice_get xs place ≡ Some k
-      → r ≡ b y k → slice_get xs place ≡ best b (slice_range xs low i)
+      → r ≡ b k y → slice_get xs place ≡ best b (slice_range xs low i)
       → slice_get xs (cond r i place) ≡ best b (slice_range xs low (i + 1))
   best_more xs low place i r y k l at_i at_place says before =
       at_either r ∙ ap (λ t. Some (cond t y k)) says ∙ sym (best_push (slice_range xs low i) y k (sym before ∙ at_place))

@@ -13,71 +13,72 @@ use sgb_search::judge::{Judge, KeyJudge, PredicateJudge};
 /// Moves the best element of each group to the front, in order, and gives how many groups there are. The others stand behind
 /// them, in no order.
 ///
-/// The groups are those of `LinearGroupBy`. `beats(x, kept)` says whether to keep `x` and not what was kept so far: `|_, _| false`
-/// keeps the first of each group, as the standard library's `partition_dedup_by` does, and `|_, _| true` the last. It is called
-/// once for each other element of a group, in order. The predicate is asked what `LinearGroupBy` asks, of the elements as they were.
+/// The groups are those of `LinearGroupBy`. `is_worse(kept, x)` says whether the later element `x` takes the place of the one that was
+/// kept so far: `|_, _| false` keeps the first of each group, as the standard library's `partition_dedup_by` does, and `|_, _| true`
+/// the last. It is called once for each element of a group but the first, in order. The predicate is asked what `LinearGroupBy` asks,
+/// of the elements as they were.
 ///
 /// ```
 /// let mut spans = [(1, 5), (2, 9), (4, 6), (20, 21)];
-/// let len = partition_best_by(&mut spans, |a, b| b.0 <= a.1, |x, kept| x.1 > kept.1);
+/// let len = partition_best_by(&mut spans, |a, b| b.0 <= a.1, |kept, x| kept.1 < x.1);
 /// // spans[..len] is [(2, 9), (20, 21)]
 /// ```
 pub fn partition_best_by<T, P: FnMut(&T, &T) -> bool, B: FnMut(&T, &T) -> bool>(
     slice: &mut [T],
     predicate: P,
-    beats: B,
+    is_worse: B,
 ) -> usize
     requires callable { IsCallableBy AreNeighbours (by_predicate P.FnMut)
         (record { remainder = slice.old; judge = predicate_judge predicate }) }
-    requires beats { B.IsAlwaysCallable beats }
+    requires is_worse { B.IsAlwaysCallable is_worse }
     ensures within { result ≤ length slice.new }
-    ensures best { (p b : T → T → Bool) → ComputesOnPairs P.FnMut p predicate → ComputesOnPairs B.FnMut b beats
+    ensures best { (p b : T → T → Bool) → ComputesOnPairs P.FnMut p predicate → ComputesOnPairs B.FnMut b is_worse
         → take result slice.new ≡ best_of_each b (split p slice.old) }
     ensures permutation { IsPermutation slice.old slice.new }
 {
-    partition_best(slice, PredicateJudge { predicate }, beats)
+    partition_best(slice, PredicateJudge { predicate }, is_worse)
 }
 
 /// `partition_best_by` with the groups of `LinearGroupByKey`.
 ///
 /// ```
 /// let mut rows = [("a", 3), ("a", 7), ("b", 1)];
-/// let len = partition_best_by_key(&mut rows, |row| row.0, |row, kept| row.1 > kept.1);
+/// let len = partition_best_by_key(&mut rows, |row| row.0, |kept, row| kept.1 < row.1);
 /// // rows[..len] is [("a", 7), ("b", 1)]
 /// ```
 pub fn partition_best_by_key<T, K: PartialEq + Drop, F: FnMut(&T) -> K, B: FnMut(&T, &T) -> bool>(
     slice: &mut [T],
     func: F,
-    beats: B,
+    is_worse: B,
 ) -> usize
     requires callable { IsCallableBy AreNeighbours (by_key F.FnMut K.eq)
         (record { remainder = slice.old; judge = key_judge func }) }
-    requires beats { B.IsAlwaysCallable beats }
+    requires is_worse { B.IsAlwaysCallable is_worse }
     ensures within { result ≤ length slice.new }
-    ensures best { (key : T → K) (b : T → T → Bool) → ComputesKey F.FnMut key func → ComputesOnPairs B.FnMut b beats
+    ensures best { (key : T → K) (b : T → T → Bool) → ComputesKey F.FnMut key func → ComputesOnPairs B.FnMut b is_worse
         → take result slice.new ≡ best_of_each b (split (λ x y. K.eq (key x) (key y)) slice.old) }
     ensures permutation { IsPermutation slice.old slice.new }
 {
-    partition_best(slice, KeyJudge::new(func), beats)
+    partition_best(slice, KeyJudge::new(func), is_worse)
 }
 
 fn partition_best<T, J: Judge<T> + Drop, B: FnMut(&T, &T) -> bool>(
     slice: &mut [T],
     mut judge: J,
-    mut beats: B,
+    mut is_worse: B,
 ) -> usize
     requires callable { IsCallableBy AreNeighbours J.Judge (record { remainder = slice.old; judge = judge }) }
-    requires beats { B.IsAlwaysCallable beats }
+    requires is_worse { B.IsAlwaysCallable is_worse }
     ensures within { result ≤ length slice.new }
     ensures best { (p b : T → T → Bool) → IsSettled J.Judge (record { remainder = slice.old; judge = judge }) p
-        → ComputesOnPairs B.FnMut b beats → take result slice.new ≡ best_of_each b (split p slice.old) }
+        → ComputesOnPairs B.FnMut b is_worse → take result slice.new ≡ best_of_each b (split p slice.old) }
     ensures permutation { IsPermutation slice.old slice.new }
 {
     let mut kept = 0;
     let mut rest = 0;
     while rest < slice.len() {
         let end = rest + judge.first_len(slice, rest, slice.len());
-        let place = best_place(slice, rest, end, &mut beats);
+        let place = best_place(slice, rest, end, &mut is_worse);
         slice.swap(kept, place);
         kept += 1;
         rest = end;
@@ -90,21 +91,21 @@ fn best_place<T, B: FnMut(&T, &T) -> bool>(
     slice: &[T],
     low: usize,
     high: usize,
-    beats: &mut B,
+    is_worse: &mut B,
 ) -> usize
     requires nonempty { low < high }
     requires inside { high ≤ length slice.now }
-    requires callable { B.IsAlwaysCallable beats.old }
+    requires callable { B.IsAlwaysCallable is_worse.old }
     ensures low { low ≤ result }
     ensures high { result < high }
-    ensures callable { B.IsAlwaysCallable beats.new }
-    ensures best { (b : T → T → Bool) → ComputesOnPairs B.FnMut b beats.old
+    ensures callable { B.IsAlwaysCallable is_worse.new }
+    ensures best { (b : T → T → Bool) → ComputesOnPairs B.FnMut b is_worse.old
         → slice_get slice.now result ≡ best b (slice_range slice.now low high) }
-    ensures computes { (b : T → T → Bool) → ComputesOnPairs B.FnMut b beats.old → ComputesOnPairs B.FnMut b beats.new }
+    ensures computes { (b : T → T → Bool) → ComputesOnPairs B.FnMut b is_worse.old → ComputesOnPairs B.FnMut b is_worse.new }
 {
     let mut place = low;
     for i in low + 1..high {
-        if beats(&slice[i], &slice[place]) {
+        if is_worse(&slice[place], &slice[i]) {
             place = i;
         }
     }

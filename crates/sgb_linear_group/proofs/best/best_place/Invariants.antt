@@ -7,6 +7,6 @@ use Rattle.sgb_linear_group.proofs.best.best_place.Given as goal
 
 abbrev pub invariant-loop-i : goal.invariant-loop-i
 invariant-loop-i g l =
-    (l.low ≤ l.place) × (l.place < l.i) × always_mut g.B.FnMut l.beats
-    × ((b : _) → ComputesOnPairs g.B.FnMut b l.fn.beats
-    → ComputesOnPairs g.B.FnMut b l.beats × (slice_get l.slice l.place ≡ best b (slice_range l.slice l.low l.i)))
+    (l.low ≤ l.place) × (l.place < l.i) × always_mut g.B.FnMut l.is_worse
+    × ((b : _) → ComputesOnPairs g.B.FnMut b l.fn.is_worse
+    → ComputesOnPairs g.B.FnMut b l.is_worse × (slice_get l.slice l.place ≡ best b (slice_range l.slice l.low l.i)))

@@ -35,21 +35,21 @@ loop-rest-preserved g c =
           ∙ (sym (drop-drop len rest ys) ∙ ap (drop len) i.3 ∙ drop-drop len rest xs),
       b.callable,
       keeps g.J.Judge Front _ (Some _) _ call i.5,
-      λ p beats settled computes.
-          let now = i.6 p beats settled computes in
+      λ p is_worse settled computes.
+          let now = i.6 p is_worse settled computes in
           let taken = piece g.J.Judge Front _ (Some _) _ p call now.0 in
           let group : slice_range ys rest (rest + len) ≡ take len (drop rest xs) =
           ap (λ (n : ℕ). take n (drop rest ys)) {x = rest + len - rest} {y = len} (omega arith) ∙ ap (take len) i.3 in
-          let found : best beats (take len (drop rest xs)) ≡ Some k.0 =
-          ap (best beats) (sym group) ∙ sym (b.best beats now.1) ∙ k.1 in
-          let others = best_of_each beats (split p (drop (rest + len) xs)) in (
+          let found : best is_worse (take len (drop rest xs)) ≡ Some k.0 =
+          ap (best is_worse) (sym group) ∙ sym (b.best is_worse now.1) ∙ k.1 in
+          let others = best_of_each is_worse (split p (drop (rest + len) xs)) in (
             taken.1,
-            b.computes beats now.1,
+            b.computes is_worse now.1,
             ap (λ l. l ++ others)
                 (swapped_kept ys _ c.loop-rest.kept place order inside s.by_index k.0 k.1 (omega (arith, order, inside, s.len)))
                 ∙ append_assoc (take c.loop-rest.kept ys) (k.0 ∷ []) others
                 ∙ ap (λ l. take c.loop-rest.kept ys ++ l)
-                (sym (each_more beats _ _ k.0 found) ∙ ap (best_of_each beats) (sym (first_and_others _ _ _ taken.0.0 taken.0.1)))
+                (sym (each_more is_worse _ _ k.0 found) ∙ ap (best_of_each is_worse) (sym (first_and_others _ _ _ taken.0.0 taken.0.1)))
                 ∙ now.2,
           ),
     )

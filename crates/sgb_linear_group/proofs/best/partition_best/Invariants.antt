@@ -14,9 +14,9 @@ invariant-loop-rest g l =
     let judge = g.J.Judge in
     let xs = l.fn.slice in
     (l.kept ≤ l.rest) × (l.rest ≤ length l.slice) × IsPermutation xs l.slice × (drop l.rest l.slice ≡ drop l.rest xs)
-    × always_mut g.B.FnMut l.beats × IsCallableBy AreNeighbours judge (record { remainder = drop l.rest xs; judge = l.judge })
-    × ((p b : _) → IsSettled judge (record { remainder = xs; judge = l.fn.judge }) p → ComputesOnPairs g.B.FnMut b l.fn.beats
-    → IsSettled judge (record { remainder = drop l.rest xs; judge = l.judge }) p × ComputesOnPairs g.B.FnMut b l.beats
+    × always_mut g.B.FnMut l.is_worse × IsCallableBy AreNeighbours judge (record { remainder = drop l.rest xs; judge = l.judge })
+    × ((p b : _) → IsSettled judge (record { remainder = xs; judge = l.fn.judge }) p → ComputesOnPairs g.B.FnMut b l.fn.is_worse
+    → IsSettled judge (record { remainder = drop l.rest xs; judge = l.judge }) p × ComputesOnPairs g.B.FnMut b l.is_worse
     × (take l.kept l.slice ++ best_of_each b (split p (drop l.rest xs)) ≡ best_of_each b (split p xs)))
 
 abbrev pub decreases-loop-rest : goal.decreases-loop-rest
