@@ -13,6 +13,8 @@ use std::marker::PhantomData;
 /// look at sixteen bytes: they ask `class` of each, unless you override them with vectors, as `AsciiClasses` does.
 ///
 /// ```
+/// ghost use Rattle.std.specs.Prelude.{nat_eq, ◌%◌};
+///
 /// impl ByteClasses for Parity {
 ///     type Class = bool;
 ///     ghost class_of = { λ byte. nat_eq (byte % 2) 0 };

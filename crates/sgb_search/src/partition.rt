@@ -163,9 +163,9 @@ where
 /// comes back in the state that just these questions lead to, to be called again.
 ///
 /// ```
-/// let mut asked = 0;
+/// let mut asked = 0u32;
 /// let mut below = |x: &u32| {
-///     asked += 1;
+///     asked = asked.wrapping_add(1);
 ///     *x < 5
 /// };
 /// exponential_partition_point_ref(&[1, 2, 3, 5, 8, 13, 21], &mut below); // 3, and `asked` is at most 7

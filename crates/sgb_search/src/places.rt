@@ -78,9 +78,9 @@ where
 /// comparator comes back in the state that just these questions lead to, to be called again.
 ///
 /// ```
-/// let mut asked = 0;
+/// let mut asked = 0u32;
 /// let mut comparator = |x: &u32| {
-///     asked += 1;
+///     asked = asked.wrapping_add(1);
 ///     x.cmp(&3)
 /// };
 /// exponential_equal_places_by_ref(&[1, 3, 3, 5, 8], &mut comparator); // 1..3, and `asked` is at most 10
@@ -169,9 +169,9 @@ where
 /// `exponential_equal_places_by_key` with a key function that is lent: it comes back in the state that just these calls lead to.
 ///
 /// ```
-/// let mut called = 0;
+/// let mut called = 0u32;
 /// let mut key = |row: &(u32, char)| {
-///     called += 1;
+///     called = called.wrapping_add(1);
 ///     row.0
 /// };
 /// exponential_equal_places_by_key_ref(&[(1, 'a'), (3, 'b'), (7, 'd')], &3, &mut key); // 1..2, and `called` is at most 10

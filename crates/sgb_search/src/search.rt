@@ -95,9 +95,9 @@ where
 /// each element again, and answers what it answered.
 ///
 /// ```
-/// let mut asked = 0;
+/// let mut asked = 0u32;
 /// let mut comparator = |x: &u32| {
-///     asked += 1;
+///     asked = asked.wrapping_add(1);
 ///     x.cmp(&13)
 /// };
 /// exponential_search_by_ref(&[1, 2, 3, 5, 8, 13, 21], &mut comparator); // Ok(5), and `asked` is at most 7
@@ -176,9 +176,9 @@ where
 /// and the function comes back in the state that just these calls lead to (`laws::search_counts`).
 ///
 /// ```
-/// let mut called = 0;
+/// let mut called = 0u32;
 /// let mut key = |row: &(u32, u32)| {
-///     called += 1;
+///     called = called.wrapping_add(1);
 ///     row.1
 /// };
 /// exponential_search_by_key_ref(&[(0, 1), (4, 2), (2, 3)], &2, &mut key); // Ok(1), and `called` is at most 5
