@@ -20,7 +20,7 @@ pub struct Shards<'a, T, J, W> {
 }
 
 impl<'a, T, J: Judge<T> + Drop, W: Way> SliceGroups<'a, T, J, W> {
-    /// Cuts the remainder where groups end, into at most `count` parts, at least one, of about the same length. None is empty. The
+    /// Cuts the remainder where groups end, into at most `count` parts of about the same length (0 counts as 1). None is empty. The
     /// groups of the parts are the groups of the whole, so that each part can be walked apart, also in threads of yours.
     ///
     /// Each part is its share of what remains, with the rest of the group in which the share ends: a call asks what one call of these
