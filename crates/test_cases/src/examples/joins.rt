@@ -4,7 +4,7 @@ ghost use Rattle.std.specs.Prelude.{◌≡◌, IfOk, string_bytes};
 use example_joins::blocks::common_numbers_of_blocks;
 use example_joins::kinds::{absent, common_groups, present};
 use example_joins::names::{Person, Visit, count_visits};
-use example_joins::sets::{difference, intersection, symmetric_difference, union, union_of_three};
+use example_joins::sets::{difference, intersection, union, union_of_three};
 use example_joins::visits::visits_of_each;
 use slice_group_by::joinable_prefixes;
 use std::alloc::{AllocError, Global};
@@ -85,8 +85,6 @@ fn of_sets(rt: HostRuntime) -> Result<(), Fail> {
     assert!(rt; matches!(union(alloc, &left, &right)?.as_slice(), [1, 2, 3, 4]));
     assert!(rt; matches!(intersection(alloc, &left, &right)?.as_slice(), [2]));
     assert!(rt; matches!(difference(alloc, &left, &right)?.as_slice(), [1, 4]));
-    let alone = symmetric_difference(alloc, &left, &right)?;
-    assert!(rt; matches!(alone.as_slice(), [1, 3, 4]));
     let three = union_of_three(alloc, &left, &right, &[0, 9])?;
     assert!(rt; matches!(three.as_slice(), [0, 1, 2, 3, 4, 9]));
     Ok(())
