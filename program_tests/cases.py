@@ -128,6 +128,7 @@ CASES = [
 ]
 
 ROWS = b"".join(b"%08d,a value of some length\n" % key for key in range(780_000))
+LONG_ROWS = b"".join(b"%06d,%s\n" % (key, b"v" * (20_000 if key % 997 == 0 else key % 60)) for key in range(500_000))
 
 # Files that cannot be read, how they are named, and why.
 UNREADABLE = [("miss\ning\x1b\x7fé", r"miss\ning\u{1b}\u{7f}é", 2), (".", ".", 21)]
@@ -141,9 +142,10 @@ LONG = [
     ("uniq_count", [], b"a line\n" * 8_000_000, b"8000000 a line\n"),
     ("grouped_report", [], b"1,1\n2,1\n" * 3_000_000, b"department 1: 3000000\ndepartment 2: 3000000\ntotal: 6000000\n"),
     ("table_join", [], (b"k,v\n" * 2000, b"k,w\n" * 2000), b"k,v,w\n" * 4_000_000),
-    ("table_join", ["semi"], (b"k,v\n", b"k,w\n" * 4_000_000), b"k,v\n"),
     # 25 MB and 25 MB
     ("table_join", ["semi"], (ROWS, ROWS), ROWS),
+    # a long line now and then: 10 MB of them
+    ("table_join", ["semi"], (LONG_ROWS, LONG_ROWS), LONG_ROWS),
 ]
 
 # Arguments that are wrong, and what is said of them before the usage. The files that they name do not exist.

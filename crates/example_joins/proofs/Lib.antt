@@ -1,2 +1,2 @@
-pub mod Ascending
 pub mod Differences
+pub mod Rows

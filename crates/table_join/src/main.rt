@@ -1,14 +1,14 @@
 //! Joins two tables that are sorted by their keys. The keys are texts that ascend byte by byte, and one may stand
 //! several times. `program.rt` has what is read and what is written.
 //!
-//! The tables are read in blocks. In memory stand a block of each table and the right rows of one key, or one of these if
-//! the join writes no right rows.
+//! The tables are read in blocks. In memory stand a block of each table and the rows of one key.
 #![tactic(auto)]
 
 mod excerpt;
 mod join;
 mod kind;
 mod output;
+mod problem;
 mod program;
 mod row;
 mod run;

@@ -30,7 +30,7 @@ A line that is no row, or whose key is lower than a key before it in its table, 
 so is one that is not UTF-8. Standard error says why for each of the first hundred of a file,
 and how many more there are. A key is shown there up to 80 bytes, and then `..`. The status is
 then 1, and so it is where reading or writing fails. It is 2 where an argument is wrong. A
-line must fit in memory, and so must the right rows of one key; `semi` and `anti` keep one row.
+line must fit in memory, and so must the rows of one key.
 ";
 
 /// Joins two tables, and gives back the status: 0, or 1 where it failed or a line is left out. What went wrong is said in lines
@@ -47,8 +47,7 @@ pub fn run<L: BufRead + Drop, R: BufRead + Drop, W: Write, E: Write>(
     complaints: &mut E,
 ) -> u8
     ensures { result ≡ 0 → IfSome (L.remaining left) (λ lefts. IfSome (R.remaining right) (λ rights.
-        Joins kind left_name.now lefts right_name.now rights true (W.contents out.old) (W.contents out.new)
-        (E.contents complaints.old) (E.contents complaints.new))) }
+        Joins kind lefts rights true (W.contents out.old) (W.contents out.new))) }
 {
     let done = join_tables(
         alloc, kind, left_name, left, right_name, right, out, complaints,

@@ -6,7 +6,6 @@ use example_joins::kinds::{absent, common_groups, present};
 use example_joins::names::{Person, Visit, count_visits};
 use example_joins::sets::{difference, intersection, union, union_of_three};
 use example_joins::visits::visits_of_each;
-use slice_group_by::joinable_prefixes;
 use std::alloc::{AllocError, Global};
 use std::test::Fail;
 
@@ -60,22 +59,10 @@ fn of_numbers(rt: HostRuntime) -> Result<(), Fail> {
 fn of_blocks(rt: HostRuntime) -> Result<(), Fail> {
     let lefts: [&[u32]; 4] = [&[1, 1], &[], &[1, 2], &[5, 7, 7]];
     let rights: [&[u32]; 5] = [&[1], &[1, 3], &[5], &[5], &[7, 9]];
-    let found = common_numbers_of_blocks(rt.alloc(), &lefts, &rights)?;
+    let rows = common_numbers_of_blocks(rt.alloc(), &lefts, &rights)?;
+    let found: Vec<u32> = rows.iter().filter_map(|row| row.0).collect(rt.alloc())?;
     assert!(rt; found.as_slice() == [1, 1, 1, 5, 7, 7].as_slice());
     Ok(())
-}
-
-fn joinable(left: &[u32], right: &[u32]) -> (usize, usize) {
-    joinable_prefixes(left, false, right, false, |x, y| x.cmp(y))
-}
-
-// As much as may be joined, and no less.
-#[test]
-fn of_two_blocks(rt: HostRuntime) {
-    assert!(rt; joinable(&[1, 2, 3], &[2, 3, 3]) == (2, 1));
-    assert!(rt; joinable(&[1, 2, 3], &[2, 3, 4]) == (3, 1));
-    assert!(rt; joinable(&[3, 3], &[3, 3]) == (0, 0));
-    assert!(rt; joinable(&[5, 6], &[1, 5]) == (0, 1));
 }
 
 #[test]

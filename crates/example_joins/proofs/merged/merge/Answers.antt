@@ -29,9 +29,9 @@ all g c =
 pub returns-clause-ascends : goal.returns-clause-ascends
 returns-clause-ascends g c =
     let k = all g c in
-    subst (NeverDescends g.T.Ord.cmp) k.2 (c.merges_interleave.ensures.ascends _ _ k.0 c.requires.left c.requires.right k.1)
+    subst (NeverDescends g.T.Ord.cmp) k.2 (c.merges_interleave.ensures.ascends _ _ k.0 c.requires.left c.requires.right k.1.merges)
 
 pub returns-clause-same : goal.returns-clause-same
 returns-clause-same g c =
     let k = all g c in
-    subst (IsPermutation (c.args.left.now ++ c.args.right.now)) k.2 (c.merges_interleave.ensures.permutes g.T.Ord.cmp _ _ k.0 k.1)
+    subst (IsPermutation (c.args.left.now ++ c.args.right.now)) k.2 (c.merges_interleave.ensures.permutes g.T.Ord.cmp _ _ k.0 k.1.merges)

@@ -20,8 +20,8 @@ returns c =
     (YieldsList-at c.flat_map.ensures.source seen.2) c.flat_map.ensures.closure c.flat_map.ensures.front c.flat_map.ensures.back
     c.flat_map.ensures.done))) in record {
       ascends = IfOk-weaker c.collect.result _ _
-          (λ v e. subst (AlwaysAscends nat_cmp) (sym e) (law.strictly _ _ seen.0 c.requires.left c.requires.right seen.1)) items;
+          (λ v e. subst (AlwaysAscends nat_cmp) (sym e) (law.strictly _ _ seen.0 c.requires.left c.requires.right seen.1.merges)) items;
       all = IfOk-weaker c.collect.result _ _ (λ v e x.
           subst (λ l. Contains l x ↔ (Contains c.args.left.now x ⊎ Contains c.args.right.now x)) (sym e)
-          (law.all exact_unsigned _ _ seen.0 seen.1 x)) items;
+          (law.all exact_unsigned _ _ seen.0 seen.1.merges x)) items;
     }

@@ -17,29 +17,31 @@ stands ord o xs ys h x y a b = all_contains _ ys y (all_contains (λ x. AllByRec
 
 pub returns-clause-parts : goal.returns-clause-parts
 returns-clause-parts c = record {
-  covers_left = refl;
-  covers_right = refl;
-  nonempty = (λ e. cc e, (λ e. cc e, ((λ e. cc e, λ e. cc e), tt)));
-  equal = (
-    stands nat_cmp Equal (1 ∷ []) [] (tt, tt),
-    (stands nat_cmp Equal [] (2 ∷ []) tt, (stands nat_cmp Equal (3 ∷ []) (3 ∷ 3 ∷ []) ((refl, (refl, tt)), tt), tt)),
-  );
-  climbs = (
-    (
-      (stands nat_cmp Less (1 ∷ []) (2 ∷ []) ((refl, tt), tt), stands nat_cmp Greater [] [] tt),
-      ((stands nat_cmp Less (1 ∷ []) (3 ∷ 3 ∷ []) ((refl, (refl, tt)), tt), stands nat_cmp Greater (3 ∷ []) [] (tt, tt)), tt),
-    ),
-    (((stands nat_cmp Less [] (3 ∷ 3 ∷ []) tt, stands nat_cmp Greater (3 ∷ []) (2 ∷ []) ((refl, tt), tt)), tt), (tt, tt)),
-  );
+  merges = record {
+    covers_left = refl;
+    covers_right = refl;
+    nonempty = (λ e. cc e, (λ e. cc e, ((λ e. cc e, λ e. cc e), tt)));
+    equal = (
+      stands nat_cmp Equal (1 ∷ []) [] (tt, tt),
+      (stands nat_cmp Equal [] (2 ∷ []) tt, (stands nat_cmp Equal (3 ∷ []) (3 ∷ 3 ∷ []) ((refl, (refl, tt)), tt), tt)),
+    );
+    climbs = (
+      (
+        (stands nat_cmp Less (1 ∷ []) (2 ∷ []) ((refl, tt), tt), stands nat_cmp Greater [] [] tt),
+        ((stands nat_cmp Less (1 ∷ []) (3 ∷ 3 ∷ []) ((refl, (refl, tt)), tt), stands nat_cmp Greater (3 ∷ []) [] (tt, tt)), tt),
+      ),
+      (((stands nat_cmp Less [] (3 ∷ 3 ∷ []) tt, stands nat_cmp Greater (3 ∷ []) (2 ∷ []) ((refl, tt), tt)), tt), (tt, tt)),
+    );
+  };
   longest = (tt, (tt, tt));
 }
 
 pub returns-clause-turned : goal.returns-clause-turned
-returns-clause-turned c m = let greater = m.climbs.0.0.1 1 2 (contains_head 1 []) (contains_head 2 []) in cc greater
+returns-clause-turned c m = let greater = m.merges.climbs.0.0.1 1 2 (contains_head 1 []) (contains_head 2 []) in cc greater
 
 pub returns-clause-stair : goal.returns-clause-stair
 returns-clause-stair c ps m =
-    let s = converse.sorted stair ps _ _ m in
+    let s = converse.sorted stair ps _ _ m.merges in
     let first = contains_head 0 (1 ∷ []) in
     let second = contains_tail 0 (1 ∷ []) 1 (contains_head 1 []) in
     let equal = s.ties 1 0 0 1 second first first second refl refl refl in
