@@ -15,3 +15,6 @@ returns-then-self-start-clause-steps g c =
           s.slice.now s.low s.high s.inside c.last_start-start.result is;
       place = refl;
     }
+
+pub invariant_of-self-clause-back_mask : goal.invariant_of-self-clause-back_mask
+invariant_of-self-clause-back_mask g c = c.last_start-start.ensures.mask

@@ -15,3 +15,6 @@ returns-then-end-self-clause-steps g c =
           s.slice.now s.low s.high s.inside c.first_end-end.result is;
       place = front_place g.J.Masks.same s.slice.now s.low s.high s.inside c.first_end-end.result is;
     }
+
+pub invariant_of-self-clause-front_mask : goal.invariant_of-self-clause-front_mask
+invariant_of-self-clause-front_mask g c = c.first_end-end.ensures.mask

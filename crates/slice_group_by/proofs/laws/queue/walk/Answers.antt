@@ -15,10 +15,10 @@ loop-i-preserved g c = record {
   len = search rules;
   chain =
       rw (
-        take_more c.args.ends.now c.loop-i.i Front c.loop-i-test.true,
-        take_more_set c.loop-i.out c.loop-i.i c.pop_at.result
+        ← take_more c.args.ends.now c.loop-i.i Front c.loop-i-test.true,
+        ← take_more_set c.loop-i.out c.loop-i.i c.pop_at.result
             (omega arith),
-      ) (chain_push _ _ _ _ _ _ _ _ c.loop-i.invariant.chain c.pop_at.ensures.gives);
+      ) at (chain_push _ _ _ _ _ _ _ _ c.loop-i.invariant.chain c.pop_at.ensures.gives);
 }
 
 pub returns-clause-partition : goal.returns-clause-partition
