@@ -135,6 +135,19 @@ UNREADABLE = [("miss\ning\x1b\x7fé", r"miss\ning\u{1b}\u{7f}é", 2), (".", ".",
 # A file whose name has control characters, and what is said of it.
 NAMED_LINES = ("grouped_report", "a\r\nb\x85é", b"no\n", r"grouped_report: a\r\nb\u{85}é: line 1 is left out: it has no comma".encode() + b"\n")
 
+# What is said before standard input ends: the arguments, of which a file `first` may be one, that file, and what standard input has.
+AT_ONCE = [
+    ("run_length_coder", ["decode"], b"", b"no\n", said("run_length_coder", (1, NO_RUN))),
+    ("grouped_report", [], b"", b"no\n", said("grouped_report", (1, NO_COMMA))),
+    ("table_join", ["first", "-"], b"", b"no\n", said("table_join", (1, NO_COMMA))),
+    ("index_reader", ["first"], b"", b"no\n", said("index_reader", (1, b"the query is no number of 32 bits"))),
+    # how many more there are is said where the file ends
+    (
+        "index_reader", ["first"], b"\n" * 101, b"",
+        said("index_reader", *hundred(NO_COMMA), file=b"first") + b"index_reader: first: 1 more line is left out\n",
+    ),
+]
+
 # Long inputs, and what is written of them.
 LONG = [
     ("run_length_coder", [], b"ab" * 4_000_000, b"1 97\n1 98\n" * 4_000_000),
