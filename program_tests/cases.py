@@ -162,8 +162,8 @@ LONG = [
 # Arguments that are wrong, and what is said of them before the usage. The files that they name do not exist.
 WRONG_ARGUMENTS = [
     *((name, [*words, "-x"], 'unknown argument: "-x"') for name in NAMES for words in ([], ["nofile"])),
-    *((name, ["huh", "nofile"], 'unknown argument: "huh"') for name in NAMES[:4]),
-    ("run_length_coder", ["decode", "nofile", "none\n"], 'unknown argument: "nofile"'),
+    *((name, ["nofile", "more", "yet"], 'one argument too many: "more"') for name in NAMES[:4]),
+    ("run_length_coder", ["decode", "nofile", "more\n"], r'one argument too many: "more\n"'),
     ("index_reader", [], "INDEX is missing"),
     ("index_reader", ["nofile", "nofile", "more\n"], r'one argument too many: "more\n"'),
     ("table_join", [], "LEFT is missing"),
