@@ -157,6 +157,8 @@ LONG = [
     ("table_join", ["semi"], (b"k,v\n", b"k,w\n" * 4_000_000), b"k,v\n"),
     # 25 MB and 25 MB
     ("table_join", ["semi"], (ROWS, ROWS), ROWS),
+    # 16 MB if all keys that are asked for were kept
+    ("index_reader", [], (b"1,2\n", b"1\n" * 4_000_000), b"1: 2\n" * 4_000_000 + b"4000000 queries\n"),
 ]
 
 # Arguments that are wrong, and what is said of them before the usage. The files that they name do not exist.
