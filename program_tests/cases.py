@@ -77,6 +77,11 @@ CASES = [
             for place in sorted(range(5000), key=lambda place: str(place * 7919 % 5000))
         ) + b"total: 112492500\n", b"",
     ),
+    # rows by department, and departments in order
+    (
+        "grouped_report", [], b"".join(b"%04d,1\n" % (row // 3 % 2000) for row in range(12_000)), 0,
+        b"".join(b"department %04d: 6\n" % department for department in range(2000)) + b"total: 12000\n", b"",
+    ),
     ("table_join", ["full"], (b"a,1\nb,2\nb,x,y", b"b,3\r\nb,4\nc,5"), 0, b"a,1,\nb,2,3\nb,2,4\nb,x,y,3\nb,x,y,4\nc,,5\n", b""),
     *(("table_join", [kind], TABLES, 0, rows, b"") for kind, rows in JOINED.items()),
     *(("table_join", [kind], WRONG_TABLES, 1, rows, WRONG_LINES) for kind, rows in JOINED.items()),
