@@ -77,6 +77,11 @@ CASES = [
             for place in sorted(range(5000), key=lambda place: str(place * 7919 % 5000))
         ) + b"total: 112492500\n", b"",
     ),
+    # rows by department, and departments in order
+    (
+        "grouped_report", [], b"".join(b"%04d,1\n" % (row // 3 % 2000) for row in range(12_000)), 0,
+        b"".join(b"department %04d: 6\n" % department for department in range(2000)) + b"total: 12000\n", b"",
+    ),
     ("table_join", ["full"], (b"a,1\nb,2\nb,x,y", b"b,3\r\nb,4\nc,5"), 0, b"a,1,\nb,2,3\nb,2,4\nb,x,y,3\nb,x,y,4\nc,,5\n", b""),
     *(("table_join", [kind], TABLES, 0, rows, b"") for kind, rows in JOINED.items()),
     *(("table_join", [kind], WRONG_TABLES, 1, rows, WRONG_LINES) for kind, rows in JOINED.items()),
@@ -136,6 +141,19 @@ UNREADABLE = [("miss\ning\x1b\x7fé", r"miss\ning\u{1b}\u{7f}é", 2), (".", ".",
 # A file whose name has control characters, and what is said of it.
 NAMED_LINES = ("grouped_report", "a\r\nb\x85é", b"no\n", r"grouped_report: a\r\nb\u{85}é: line 1 is left out: it has no comma".encode() + b"\n")
 
+# What is said before standard input ends: the arguments, of which a file `first` may be one, that file, and what standard input has.
+AT_ONCE = [
+    ("run_length_coder", ["decode"], b"", b"no\n", said("run_length_coder", (1, NO_RUN))),
+    ("grouped_report", [], b"", b"no\n", said("grouped_report", (1, NO_COMMA))),
+    ("table_join", ["first", "-"], b"", b"no\n", said("table_join", (1, NO_COMMA))),
+    ("index_reader", ["first"], b"", b"no\n", said("index_reader", (1, b"the query is no number of 32 bits"))),
+    # how many more there are is said where the file ends
+    (
+        "index_reader", ["first"], b"\n" * 101, b"",
+        said("index_reader", *hundred(NO_COMMA), file=b"first") + b"index_reader: first: 1 more line is left out\n",
+    ),
+]
+
 # Long inputs, and what is written of them.
 LONG = [
     ("run_length_coder", [], b"ab" * 4_000_000, b"1 97\n1 98\n" * 4_000_000),
@@ -146,13 +164,15 @@ LONG = [
     ("table_join", ["semi"], (ROWS, ROWS), ROWS),
     # a long line now and then: 10 MB of them
     ("table_join", ["semi"], (LONG_ROWS, LONG_ROWS), LONG_ROWS),
+    # 16 MB if all keys that are asked for were kept
+    ("index_reader", [], (b"1,2\n", b"1\n" * 4_000_000), b"1: 2\n" * 4_000_000 + b"4000000 queries\n"),
 ]
 
 # Arguments that are wrong, and what is said of them before the usage. The files that they name do not exist.
 WRONG_ARGUMENTS = [
     *((name, [*words, "-x"], 'unknown argument: "-x"') for name in NAMES for words in ([], ["nofile"])),
-    *((name, ["huh", "nofile"], 'unknown argument: "huh"') for name in NAMES[:4]),
-    ("run_length_coder", ["decode", "nofile", "none\n"], 'unknown argument: "nofile"'),
+    *((name, ["nofile", "more", "yet"], 'one argument too many: "more"') for name in NAMES[:4]),
+    ("run_length_coder", ["decode", "nofile", "more\n"], r'one argument too many: "more\n"'),
     ("index_reader", [], "INDEX is missing"),
     ("index_reader", ["nofile", "nofile", "more\n"], r'one argument too many: "more\n"'),
     ("table_join", [], "LEFT is missing"),

@@ -1,22 +1,19 @@
 -- How the keys of an index stand to a key.
-use Rattle.std.proofs.Common.{◌≡◌, ℕ, ◌≤◌, nat_eq, nat_lt, List, arith}
+use Rattle.std.proofs.Common.{◌≡◌, ℕ, ◌≤◌, nat_eq, List, arith}
 use Rattle.std.proofs.lemmas.Bool.Decides.{nat_tests}
 use Rattle.std.proofs.Math.ListN.{get_or-map}
 use Rattle.std.proofs.lemmas.List.{length-map}
 use Rattle.std.specs.List.{filter}
-use Rattle.std.specs.Ordering.{nat_cmp, ordering_index, is_lt, is_eq}
+use Rattle.std.specs.Ordering.{nat_cmp, ordering_index, is_eq}
 use Rattle.std.specs.Prelude.{length, map}
 use Rattle.std.specs.declared.cmp.Ordering.{Ordering}
 use Rattle.slice_group_by.specs.Search.{IsLessEqualGreater}
 use Rattle.index_reader.specs.declared.entry.Entry.{Entry}
-use Rattle.index_reader.specs.Keys.{IsAscending, of_key, lower}
+use Rattle.index_reader.specs.Keys.{IsAscending, of_key}
 
 -- the index of a rank rises with the number
 rank_rises : (a b k : ℕ) → a ≤ b → ordering_index (nat_cmp a k) ≤ ordering_index (nat_cmp b k)
 rank_rises a b k h = grind (arith, nat_tests)
-
-less : (a k : ℕ) → is_lt (nat_cmp a k) ≡ nat_lt a k
-less a k = grind (arith, nat_tests)
 
 equal : (a k : ℕ) → is_eq (nat_cmp a k) ≡ nat_eq a k
 equal a k = grind (arith, nat_tests)
@@ -35,9 +32,6 @@ module _ (key : ℕ) where
       let e : Entry = record { key = d; place = 0 } in
       let long : length (map (λ e. e.key) xs) ≡ length xs = length-map xs (λ e. e.key) in
       rw (get_or-map (λ e. e.key) xs i e, get_or-map (λ e. e.key) xs j e) (stands_rises xs up i j e l (omega (arith, k, long)))
-
-  pub lower_is : (xs : List Entry) → filter (λ e. is_lt (stands e)) xs ≡ lower key xs
-  lower_is xs i = filter (λ e. less e.key key i) xs
 
   pub of_key_is : (xs : List Entry) → filter (λ e. is_eq (stands e)) xs ≡ of_key key xs
   of_key_is xs i = filter (λ e. equal e.key key i) xs

@@ -1,5 +1,5 @@
 -- What is said of the keys of entries.
-use Rattle.std.specs.Prelude.{◌≡◌, ℕ, ◌-◌, ◌<◌, List, [], ◌∷◌, length, nat_eq, nat_lt, Option, Some}
+use Rattle.std.specs.Prelude.{◌≡◌, ℕ, ◌-◌, ◌<◌, List, [], ◌∷◌, length, nat_eq, Option, Some}
 use Rattle.std.specs.List.{filter, slice_get}
 use Rattle.std.specs.Option.{option_map}
 use Rattle.std.specs.List.Sorted.{IsNonDecreasingBy}
@@ -23,10 +23,6 @@ entries (key ∷ keys) (place ∷ places) = record { key = key; place = place } 
 -- the entries of the key, in order
 abbrev pub of_key : ℕ → List Entry → List Entry
 of_key key entries = filter (λ entry. nat_eq entry.key key) entries
-
--- those of lower keys
-abbrev pub lower : ℕ → List Entry → List Entry
-lower key entries = filter (λ entry. nat_lt entry.key key) entries
 
 -- the greatest key of entries that ascend: the last one
 abbrev pub greatest : List Entry → Option ℕ

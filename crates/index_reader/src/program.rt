@@ -17,7 +17,8 @@ file QUERIES, a key a line. A dash is standard input, and so it is where QUERIES
 Writes for each query the places of all entries of that key, in the order of the index, or
 `none`, and the number of queries at the end. A key is an unsigned number of 32 bits and a place
 one of 64 bits; a plus sign may stand before either. The keys of the index ascend, and one may
-stand several times. The queries come in any order. A `\\r` before a line feed is dropped.
+stand several times. The queries come in any order; none is answered before 65,536 have come, or
+the last one. A `\\r` before a line feed is dropped.
 
 A line that is no entry, or whose key is lower than a key before it, or that is no query, is left
 out; so is one that is not UTF-8. Standard error says why for each of the first hundred of a file,

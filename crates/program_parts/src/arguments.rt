@@ -44,7 +44,7 @@ pub fn one_file(words: &[String]) -> Result<&str, Refusal<'_>>
     match words {
         [] => Ok("-"),
         [file] => Ok(file.as_str()),
-        [first, ..] => Err(Refusal::Wrong("unknown argument", first.as_str())),
+        [_, other, ..] => Err(Refusal::Wrong("one argument too many", other.as_str())),
     }
 }
 

@@ -1,14 +1,12 @@
-use Rattle.std.proofs.Common.{rules, ◌≡◌, ℕ, ◌+◌, ◌-◌, ◌*◌, ◌≤◌, List, length, map, take, drop, arith, sym, ap, subst, ◌∙◌}
-use Rattle.std.proofs.lemmas.Fn.{answers_by}
-use Rattle.std.proofs.lemmas.List.{drop-map, length-map}
+use Rattle.std.proofs.Common.{◌≡◌, ℕ, ◌-◌, List, length, map, take, drop, sym, ap, ◌∙◌}
+use Rattle.std.proofs.lemmas.List.{drop-map}
 use Rattle.std.proofs.lemmas.List.Sorted.{IsNonDecreasingBy-drop}
 use Rattle.std.proofs.lemmas.List.Sums.{length-filter}
 use Rattle.std.specs.Ordering.{is_lt, is_le, nat_cmp}
 use Rattle.std.specs.Prelude.{count_by, slice_range}
 use Rattle.slice_group_by.specs.Ranges.{IsRangeAt}
 use Rattle.slice_group_by.specs.Search.{IsLessEqualGreater}
-use Rattle.slice_group_by.specs.Searching.{digits}
-use Rattle.index_reader.proofs.Cuts.{stands, stands_rises, keys_rise, lower_is, of_key_is}
+use Rattle.index_reader.proofs.Cuts.{stands, stands_rises, keys_rise, of_key_is}
 use Rattle.index_reader.proofs.Pairs.{range_map, count_keys}
 use Rattle.index_reader.proofs.Rest.{more_lower, of_key_rest, rest_is}
 use Rattle.index_reader.specs.Keys.{IsAscending, of_key}
@@ -17,10 +15,10 @@ use Rattle.index_reader.proofs.lookup.places_from.Goals as goal
 
 module _ (c : goal.After-result-2-1) where
   abbrev start : ℕ
-  start = c.exponential_equal_places_by_ref-found.result.start
+  start = c.exponential_equal_places-found.result.start
 
   abbrev end : ℕ
-  end = c.exponential_equal_places_by_ref-found.result.end
+  end = c.exponential_equal_places-found.result.end
 
   -- what is searched
   abbrev rest : List Entry
@@ -42,10 +40,7 @@ module _ (c : goal.After-result-2-1) where
   rises = rw keys_are (keys_rise c.args.key rest ascends)
 
   range : IsRangeAt keys start end (λ k. nat_cmp k c.args.key)
-  range =
-      let computes = c.always_computes.ensures keys (λ k. nat_cmp k c.args.key) _
-      (answers_by _ _ (λ f. f.1 ≡ c.args.key) (λ f a r f' k i. search (rules, i)) _ (search rules)) in
-      c.exponential_equal_places_by_ref-found.ensures.range (λ k. nat_cmp k c.args.key) computes rises
+  range = c.exponential_equal_places-found.ensures.range rises
 
   -- it begins and ends as that of the entries
   begins : start ≡ count_by (λ e. is_lt (stands c.args.key e)) rest
@@ -57,7 +52,7 @@ module _ (c : goal.After-result-2-1) where
   ends : end ≡ count_by (λ e. is_le (stands c.args.key e)) rest
   ends =
       c.range_places.ensures.end (λ k. nat_cmp k c.args.key) keys start end
-      c.exponential_equal_places_by_ref-found.ensures.order c.exponential_equal_places_by_ref-found.ensures.within range
+      c.exponential_equal_places-found.ensures.order c.exponential_equal_places-found.ensures.within range
       ∙ ap (count_by (λ k. is_le (nat_cmp k c.args.key))) keys_are
       ∙ count_keys (λ k. is_le (nat_cmp k c.args.key)) rest
 
@@ -87,20 +82,3 @@ returns-clause-passed c =
     more_lower c.args.key c.args.before (start c) c.args.index.now _ c.requires.lower
     (c.range_places-2.ensures.whole (stands c.args.key) (rest c) (up c))
     (begins c ∙ sym (length-filter (λ e. is_lt (stands c.args.key e)) (rest c)))
-
-pub returns-clause-comparisons : goal.returns-clause-comparisons
-returns-clause-comparisons c =
-    let found = slice_range (rest c) (start c) (end c) in
-    let asks = c.exponential_equal_places_by_ref-found.ensures.questions in
-    let k = c.search_counts.ensures.range (λ f. f.0.now) (λ f. f.0.ghost_name) 1 (λ f h x a called. search rules) _ _ _ _ _ _ asks.0 in
-    let passed = asks.1 ∙ begins c ∙ sym (length-filter (λ e. is_lt (stands c.args.key e)) (rest c))
-    ∙ ap length (lower_is c.args.key (rest c)) in
-    let as_many = (λ i. length (slice_range (keys_are c i) (start c) (end c)))
-    ∙ ap length (range_map (λ e. e.key) (rest c) (start c) (end c))
-    ∙ length-map found (λ e. e.key) ∙ sym (length-map found (λ e. e.place)) ∙ sym (ap length (places c)) in
-    let most = subst (λ n. c.exponential_equal_places_by_ref-found.new.f.0.now ≤ 2 * digits (n + 1)
-    + 2 * digits (length (take (end c - start c) (drop (start c) (take (length c.places.result.now - c.args.before) (drop c.args.before c.places.result.now)))) + 1) + 2) passed
-    (subst (λ n. c.exponential_equal_places_by_ref-found.new.f.0.now ≤ 2 * digits (length asks.0.before + 1)
-    + 2 * digits (n + 1) + 2) as_many
-    (omega (arith, k.1))) in
-    search (rules, k.0, most)
