@@ -133,7 +133,7 @@ CASES = [
 ]
 
 ROWS = b"".join(b"%08d,a value of some length\n" % key for key in range(780_000))
-LONG_ROWS = b"".join(b"%06d,%s\n" % (key, b"v" * (20_000 if key % 997 == 0 else key % 60)) for key in range(500_000))
+LONG_ROWS = b"".join(b"%06d,%s\n" % (key, b"v" * (60_000 if key * key % 1009 == 1 or key ** 3 % 4001 == 7 else key % 60)) for key in range(100_000))
 
 # Files that cannot be read, how they are named, and why.
 UNREADABLE = [("miss\ning\x1b\x7fé", r"miss\ning\u{1b}\u{7f}é", 2), (".", ".", 21)]
@@ -162,7 +162,7 @@ LONG = [
     ("table_join", [], (b"k,v\n" * 2000, b"k,w\n" * 2000), b"k,v,w\n" * 4_000_000),
     # 25 MB and 25 MB
     ("table_join", ["semi"], (ROWS, ROWS), ROWS),
-    # a long line now and then: 10 MB of them
+    # long lines now and then: 8 MB of memory if each kept its own
     ("table_join", ["semi"], (LONG_ROWS, LONG_ROWS), LONG_ROWS),
     # 16 MB if all keys that are asked for were kept
     ("index_reader", [], (b"1,2\n", b"1\n" * 4_000_000), b"1: 2\n" * 4_000_000 + b"4000000 queries\n"),

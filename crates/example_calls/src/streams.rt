@@ -28,8 +28,8 @@ fn print_session(rt: &impl Print, len: usize, last: u64) -> io::Result<()> {
     println!(rt; "session: {len} up to {last}")
 }
 
-/// Prints the sum of each key of lines `key,value`, in which equal keys stand side by side. A line borrows from its
-/// block, so the key of the open sum is a `String` of its own.
+/// Prints the sum of each key of lines `key,value`, in which equal keys stand side by side; an empty key has none. A line
+/// borrows from its block, so the key of the open sum is a `String` of its own.
 pub fn print_sums(rt: &(impl Print + AllocGlobal), blocks: &[&str]) -> io::Result<()> {
     let (mut key, mut sum) = (String::new(rt.alloc()), 0u64);
     for block in blocks {

@@ -6,8 +6,8 @@ use slice_group_by::{AsciiClasses, ByteClasses, LinearClassGroup, StreamGroups};
 use std::io;
 use std::io::Read;
 
-/// Prints each token of an input, whole, also one that goes on over several blocks: words, numbers and marks, each on a
-/// line. In memory stand one block and one token.
+/// Prints each token of an input that is UTF-8, whole, also one that goes on over several blocks: words, numbers and
+/// marks, each on a line. In memory stand one block and one token.
 pub fn print_tokens<R: Read>(rt: &(impl Print + AllocGlobal), input: &mut R) -> io::Result<()> {
     let mut stream = StreamGroups::new();
     let (mut block, mut token) = ([0; 4096], Vec::new(rt.alloc()));

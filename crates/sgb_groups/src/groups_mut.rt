@@ -202,7 +202,8 @@ impl<'a, T, J: Judge<T> + Drop, W: Way> SliceGroupsMut<'a, T, J, W> {
     /// The last group of the remainder, or `None` where nothing remains: what `next_back` gives, by its questions. The
     /// iterator is given up. `Iterator::last` walks all groups from the front.
     ///
-    /// What remains stays as it is: the input ends as what it was, but for this group and the parts that were out before.
+    /// What remains stays as it is: the input ends as what it was, but for this group and the parts that were out before. That
+    /// it asks nothing more was reviewed by hand.
     #[inline]
     pub fn last(self) -> Option<&'a mut [T]>
         requires { IsCallableBy (W.allowed T) J.Judge (groups_of_mut self) }

@@ -15,8 +15,9 @@ use sgb_search::judge::{Judge, KeyJudge, PredicateJudge};
 ///
 /// The groups are those of `LinearGroupBy`. `is_worse(kept, x)` says whether the later element `x` takes the place of the one that was
 /// kept so far: `|_, _| false` keeps the first of each group, as the standard library's `partition_dedup_by` does, and `|_, _| true`
-/// the last. It is called once for each element of a group but the first, in order. The predicate is asked what `LinearGroupBy` asks,
-/// of the elements as they were.
+/// the last. It is called once for each element of a group but the first, in order, and must be callable on any two elements. The
+/// predicate is asked what `LinearGroupBy` asks, of the elements as they were. If it keeps a state, nothing is promised but a
+/// permutation. That nothing more is asked was reviewed by hand.
 ///
 /// ```
 /// let mut spans = [(1, 5), (2, 9), (4, 6), (20, 21)];

@@ -29,7 +29,11 @@
 //!
 //! Types come as `..By` (a predicate), `..ByKey` (a key function) and `..Mut` (for writing) too, and as methods of slices,
 //! arrays, vectors and texts (`GroupBy`, `GroupByMut`, `StrGroupBy`, `StrGroupByMut`). `adapters` gives each group its
-//! place, its key or its length. `laws` has what your proofs cite, and `loans` what a slice ends as while it is written.
+//! place, its key or its length.
+//!
+//! For proofs: `laws` has what yours cite, and `loans` what a slice ends as while it is written. `walk` makes any list of calls
+//! from both `End`s of a `GroupQueue`. `is_sorted_for_groups` tests whether a slice is sorted, `rank_groups` replaces each
+//! element by the number of its group, and `refute` finds where a `Plan` of few questions is wrong.
 #![tactic(auto)]
 
 pub mod adapters;

@@ -24,7 +24,7 @@ pub fn of_lists<T, U>() {
     merge_is_unique::<T, U>();
     semi_joins_are_filters::<T, U>();
     joins_find_partners::<T, U>();
-    merges_join::<T, U, T>();
+    merges_join::<T, U>();
     joins_go_on::<T, U>();
     merges_count::<T, U>();
     parts_or_empty::<T, U>();
