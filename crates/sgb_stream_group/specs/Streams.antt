@@ -109,6 +109,8 @@ pub record CallsTwice {F T K : Type 0} (g : Mut F (Bor T × Unit {0}) K) (first 
   pub first_call : CalledAt g f first first_key between
   pub last_call : CalledAt g between last last_key f'
 
--- it is called on the first element of a block and on the last, if there are any
-abbrev pub AsksEnds : {F T K : Type 0} → Mut F (Bor T × Unit {0}) K → List T → F → F → Type 0
-AsksEnds g block f f' = MatchOption (both (first block) (last block)) (f' ≡ f) (λ q. CallsTwice g q.0 q.1 f f')
+-- It is called on the first element of a block and on the last, if there are any. A group begins with the block unless the first key
+-- equals the one that was kept, and the last key is kept.
+abbrev pub AsksEnds : {F T K : Type 0} → Mut F (Bor T × Unit {0}) K → (K → K → Bool) → List T → F → Option K → Bool → Option K → F → Type 0
+AsksEnds g eq block f kept begins kept' f' = MatchOption (both (first block) (last block)) ((f' ≡ f) × (begins ≡ true) × (kept' ≡ kept))
+    (λ q. (calls : CallsTwice g q.0 q.1 f f') × (begins ≡ begins_at eq (both kept (Some calls.first_key))) × (kept' ≡ Some calls.last_key))

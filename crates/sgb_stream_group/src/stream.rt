@@ -156,7 +156,8 @@ impl<K: PartialEq + Drop> StreamGroups<K> {
     /// longer than their block.
     ///
     /// The key function is called on the first element of the block and on the last at once, and on both elements of
-    /// each neighbouring pair as the parts are taken: in all twice on each element.
+    /// each neighbouring pair as the parts are taken: in all twice on each element. The first of these keys says whether a
+    /// group begins with the block, and the second one is kept.
     #[inline]
     pub fn parts_by_key<'a, T, F: FnMut(&T) -> K>(
         &mut self,
@@ -165,7 +166,8 @@ impl<K: PartialEq + Drop> StreamGroups<K> {
     ) -> Parts<LinearGroupByKey<'a, T, F, K>>
         requires { F.IsAlwaysCallable key }
         ensures remainder { (groups_of (groups_in result)).remainder ≡ block.now }
-        ensures asks { AsksEnds F.FnMut block.now key (groups_of (groups_in result)).judge.func }
+        ensures asks { AsksEnds F.FnMut K.eq block.now key (kept_of self.old) (begins_of result) (kept_of self.new)
+            (groups_of (groups_in result)).judge.func }
         ensures callable { IsCallableBy AreNeighbours (by_key F.FnMut K.eq) (groups_of (groups_in result)) }
         ensures kept { (k : T → K) → ComputesKey F.FnMut k key
             → kept_of self.new ≡ last_after (kept_of self.old) (map k block.now) }
@@ -187,7 +189,7 @@ impl<K: PartialEq + Drop> StreamGroups<K> {
     #[inline]
     fn begins_by_key<T, F: FnMut(&T) -> K>(&mut self, block: &[T], key: &mut F) -> bool
         requires { F.IsAlwaysCallable key.old }
-        ensures asks { AsksEnds F.FnMut block.now key.old key.new }
+        ensures asks { AsksEnds F.FnMut K.eq block.now key.old (kept_of self.old) result (kept_of self.new) key.new }
         ensures callable { F.IsAlwaysCallable key.new }
         ensures computes { (k : T → K) → ComputesKey F.FnMut k key.old → ComputesKey F.FnMut k key.new }
         ensures kept { (k : T → K) → ComputesKey F.FnMut k key.old

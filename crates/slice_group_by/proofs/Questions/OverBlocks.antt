@@ -1,7 +1,7 @@
 -- A counter that each question about the blocks of a stream raises.
 use Rattle.std.specs.Borrow.{Bor}
 use Rattle.std.specs.Fn.{CalledAt, Mut}
-use Rattle.std.proofs.Common.{min, ◌≡◌, ℕ, ◌+◌, ◌-◌, ◌*◌, ◌<◌, Bool, List, [], ◌∷◌, ◌++◌, length, map, refl, ap, ◌∙◌, arith}
+use Rattle.std.proofs.Common.{min, Option, ◌≡◌, ℕ, ◌+◌, ◌-◌, ◌*◌, ◌<◌, Bool, List, [], ◌∷◌, ◌++◌, length, map, refl, ap, ◌∙◌, arith}
 use Rattle.std.proofs.lemmas.List.{length-append, length-map}
 use Rattle.sgb_search.proofs.Lists.Pairs.{length-neighbours}
 use Rattle.sgb_search.specs.Judges.{IsRun, by_key}
@@ -55,25 +55,26 @@ module _ {F T K : Type 0} (g : Mut F (Bor T × Unit {0}) K) (eq : K → K → Bo
       let q = step m h y l b in
       (q.0 ∙ p.0, λ fits. let e = p.1 (omega (arith, fits)) in omega (arith, q.1 (omega (arith, e, fits)), e))
 
-  at_ends : (block : List T) (f h : F) → AsksEnds g block f h
+  at_ends : (block : List T) (f h : F) (before after : Option K) (begins : Bool) → AsksEnds g eq block f before begins after h
       → (name h ≡ name f) × (count f + 2 * each * min 1 (length block) < limit → count h ≡ count f + 2 * each * min 1 (length block))
-  at_ends [] f h same = rw same (refl, λ fits. omega arith)
-  at_ends (x ∷ xs) f h asks =
+  at_ends [] f h before after begins same = rw same.0 (refl, λ fits. omega arith)
+  at_ends (x ∷ xs) f h before after begins asks =
       let z = last_some x xs in
-      let calls = rw z.1 at asks in
+      let calls = (rw z.1 at asks).0 in
       let k = two_calls f calls.between h x z.0 calls.first_key calls.last_key calls.first_call calls.last_call in
       let one : min 1 (length (x ∷ xs)) ≡ 1 = omega arith in
       rw one (k.0, λ fits. omega (arith, k.1 (omega (arith, fits))))
 
-  pub counts_keys : (elements : ℕ) (block : List T) (f : F) (j l : KeyJudge F K) → AsksEnds g block f j.func
+  pub counts_keys : (elements : ℕ) (block : List T) (f : F) (before after : Option K) (begins : Bool) (j l : KeyJudge F K)
+      → AsksEnds g eq block f before begins after j.func
       → (rs : List ((T × T) × Bool)) → IsRun (by_key g eq).may_ask (by_key g eq).answers j rs l → map (λ r. r.0) rs ≡ neighbours block
       → (each * (2 * elements) < limit → count f ≡ each * (2 * elements))
       → (name l.func ≡ name f)
       × (each * (2 * (elements + length block)) < limit → count l.func ≡ each * (2 * (elements + length block)))
-  counts_keys elements block f j l ends rs run are so_far =
+  counts_keys elements block f before after begins j l ends rs run are so_far =
       let len : length rs ≡ length block - 1 =
       omega (arith, length-map rs (λ (r : (T × T) × Bool). r.0), ap length are, length-neighbours block) in
-      let a = at_ends block f j.func ends in
+      let a = at_ends block f j.func before after begins ends in
       let b =
       counts_just (by_key g eq).may_ask (by_key g eq).answers (λ j. count j.func) (λ j. name j.func) (2 * each) limit
       (λ s u q answer h. two_calls s.func h.state_between u.func q.0 q.1 h.first_key h.second_key h.first_call h.second_call)

@@ -1,6 +1,6 @@
-use Rattle.std.proofs.Common.{ap, ◌∙◌, Some}
+use Rattle.std.proofs.Common.{◌≡◌, not, ap, refl, sym, ◌∙◌, None, Some}
 use Rattle.sgb_stream_group.proofs.Ends.{kept_mapped}
-use Rattle.sgb_stream_group.specs.Streams.{kept_of}
+use Rattle.sgb_stream_group.specs.Streams.{CallsTwice, kept_of}
 use Rattle.sgb_stream_group.proofs.stream.StreamGroups.begins_by_key.Goals as goal
 
 pub returns-in-Some-replace-clause-kept : goal.returns-in-Some-replace-clause-kept
@@ -12,3 +12,27 @@ pub returns-clause-kept : goal.returns-clause-kept
 returns-clause-kept g c k h =
     c.replace.ensures.after ∙ ap (λ z. Some z) (c.key_of-last_key.ensures.is k (c.key_of-first_key.ensures.computes k h))
     ∙ kept_mapped k (kept_of c.args.self.now) c.args.block.now c.in-Some.last.now c.in-Some.ensures.1
+
+pub returns-in-Some-replace-clause-asks : goal.returns-in-Some-replace-clause-asks
+returns-in-Some-replace-clause-asks g c =
+    let calls : CallsTwice g.F.FnMut c.in-Some.first.now c.in-Some.last.now c.args.key.now c.key_of-last_key.new.key = record {
+      between = c.key_of-first_key.new.key;
+      first_key = c.key_of-first_key.result;
+      last_key = c.key_of-last_key.result;
+      first_call = c.key_of-first_key.ensures.called;
+      last_call = c.key_of-last_key.ensures.called;
+    } in
+    let kept : kept_of c.args.self.now ≡ Some c.in-Some-replace.before = sym c.replace.ensures.value ∙ c.in-Some-replace.is in
+    rw (c.in-Some.ensures.0, c.in-Some.ensures.1, kept) (calls, ap not c.eq.ensures, c.replace.ensures.after)
+
+pub returns-clause-asks : goal.returns-clause-asks
+returns-clause-asks g c =
+    let calls : CallsTwice g.F.FnMut c.in-Some.first.now c.in-Some.last.now c.args.key.now c.key_of-last_key.new.key = record {
+      between = c.key_of-first_key.new.key;
+      first_key = c.key_of-first_key.result;
+      last_key = c.key_of-last_key.result;
+      first_call = c.key_of-first_key.ensures.called;
+      last_call = c.key_of-last_key.ensures.called;
+    } in
+    let kept : kept_of c.args.self.now ≡ None = sym c.replace.ensures.value ∙ c.in-None.is in
+    rw (c.in-Some.ensures.0, c.in-Some.ensures.1, kept) (calls, refl, c.replace.ensures.after)
