@@ -1,23 +1,23 @@
 //! The best element of each group, moved to the front of the slice.
-ghost use Rattle.std.specs.Prelude.{◌≡◌, ◌<◌, ◌≤◌, Bool, length, take, slice_get, slice_range};
-ghost use Rattle.std.specs.Fn.{ComputesKey, ComputesOnPairs};
+ghost use Rattle.std.specs.Prelude.{◌≡◌, ◌<◌, ◌≤◌, Bool, length, Some, take, slice_get, slice_range};
+ghost use Rattle.std.specs.Fn.{CalledAtTwo, ComputesKey, ComputesOnPairs};
 ghost use Rattle.std.specs.List.Sorted.{IsPermutation};
 ghost use Rattle.sgb_search.specs.Calls.{IsCallableBy};
 ghost use Rattle.sgb_search.specs.Judges.{by_key, by_predicate, key_judge, predicate_judge};
-ghost use Rattle.sgb_search.specs.Linear.{IsSettled};
 ghost use Rattle.sgb_search.specs.Split.{AreNeighbours, split};
-ghost use Rattle.sgb_linear_group.specs.Best.{best, best_of_each};
+ghost use Rattle.sgb_linear_group.specs.Best.{AreKept, Keeps, best_of_each};
 
 use sgb_search::judge::{Judge, KeyJudge, PredicateJudge};
 
 /// Moves the best element of each group to the front, in order, and gives how many groups there are. The others stand behind
 /// them, in no order.
 ///
-/// The groups are those of `LinearGroupBy`. `is_worse(kept, x)` says whether the later element `x` takes the place of the one that was
-/// kept so far: `|_, _| false` keeps the first of each group, as the standard library's `partition_dedup_by` does, and `|_, _| true`
-/// the last. It is called once for each element of a group but the first, in order, and must be callable on any two elements. The
-/// predicate is asked what `LinearGroupBy` asks, of the elements as they were. If it keeps a state, nothing is promised but a
-/// permutation. That nothing more is asked was reviewed by hand.
+/// The groups are those that `LinearGroupBy` gives from the front, of the elements as they were. `is_worse(kept, x)` says whether the
+/// later element `x` takes the place of the one that was kept so far: `|_, _| false` keeps the first of each group, as the standard
+/// library's `partition_dedup_by` does, and `|_, _| true` the last. It must be callable on any two elements.
+///
+/// The predicate is asked about each neighbouring pair once, in order, and `is_worse` once for each element of a group but the
+/// first, in order (`kept`), whatever either answers. If both depend only on their arguments, `best` says what is kept.
 ///
 /// ```
 /// let mut spans = [(1, 5), (2, 9), (4, 6), (20, 21)];
@@ -33,6 +33,8 @@ pub fn partition_best_by<T, P: FnMut(&T, &T) -> bool, B: FnMut(&T, &T) -> bool>(
         (record { remainder = slice.old; judge = predicate_judge predicate }) }
     requires is_worse { B.IsAlwaysCallable is_worse }
     ensures within { result ≤ length slice.new }
+    ensures kept { AreKept (CalledAtTwo B.FnMut) (by_predicate P.FnMut)
+        (record { remainder = slice.old; judge = predicate_judge predicate }) is_worse (take result slice.new) }
     ensures best { (p b : T → T → Bool) → ComputesOnPairs P.FnMut p predicate → ComputesOnPairs B.FnMut b is_worse
         → take result slice.new ≡ best_of_each b (split p slice.old) }
     ensures permutation { IsPermutation slice.old slice.new }
@@ -56,6 +58,8 @@ pub fn partition_best_by_key<T, K: PartialEq + Drop, F: FnMut(&T) -> K, B: FnMut
         (record { remainder = slice.old; judge = key_judge func }) }
     requires is_worse { B.IsAlwaysCallable is_worse }
     ensures within { result ≤ length slice.new }
+    ensures kept { AreKept (CalledAtTwo B.FnMut) (by_key F.FnMut K.eq)
+        (record { remainder = slice.old; judge = key_judge func }) is_worse (take result slice.new) }
     ensures best { (key : T → K) (b : T → T → Bool) → ComputesKey F.FnMut key func → ComputesOnPairs B.FnMut b is_worse
         → take result slice.new ≡ best_of_each b (split (λ x y. K.eq (key x) (key y)) slice.old) }
     ensures permutation { IsPermutation slice.old slice.new }
@@ -71,8 +75,8 @@ fn partition_best<T, J: Judge<T> + Drop, B: FnMut(&T, &T) -> bool>(
     requires callable { IsCallableBy AreNeighbours J.Judge (record { remainder = slice.old; judge = judge }) }
     requires is_worse { B.IsAlwaysCallable is_worse }
     ensures within { result ≤ length slice.new }
-    ensures best { (p b : T → T → Bool) → IsSettled J.Judge (record { remainder = slice.old; judge = judge }) p
-        → ComputesOnPairs B.FnMut b is_worse → take result slice.new ≡ best_of_each b (split p slice.old) }
+    ensures kept { AreKept (CalledAtTwo B.FnMut) J.Judge (record { remainder = slice.old; judge = judge }) is_worse
+        (take result slice.new) }
     ensures permutation { IsPermutation slice.old slice.new }
 {
     let mut kept = 0;
@@ -100,9 +104,8 @@ fn best_place<T, B: FnMut(&T, &T) -> bool>(
     ensures low { low ≤ result }
     ensures high { result < high }
     ensures callable { B.IsAlwaysCallable is_worse.new }
-    ensures best { (b : T → T → Bool) → ComputesOnPairs B.FnMut b is_worse.old
-        → slice_get slice.now result ≡ best b (slice_range slice.now low high) }
-    ensures computes { (b : T → T → Bool) → ComputesOnPairs B.FnMut b is_worse.old → ComputesOnPairs B.FnMut b is_worse.new }
+    ensures kept { (k : T) × (slice_get slice.now result ≡ Some k)
+        × Keeps (CalledAtTwo B.FnMut) is_worse.old (slice_range slice.now low high) k is_worse.new }
 {
     let mut place = low;
     for i in low + 1..high {

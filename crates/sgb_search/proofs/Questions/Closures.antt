@@ -53,7 +53,7 @@ module _ {P T : Type 0} (g : Mut P (Bor T × (Bor T × Unit {0})) Bool) where
 
   -- a predicate that computes p
   module _ (p : T → T → Bool) where
-    computes_next : (f : P) (x y : T) (b : Bool) (f' : P) → ComputesOnPairs g p f → CalledAtTwo g f x y b f'
+    pub computes_next : (f : P) (x y : T) (b : Bool) (f' : P) → ComputesOnPairs g p f → CalledAtTwo g f x y b f'
         → (b ≡ p x y) × ComputesOnPairs g p f'
     computes_next f x y b f' h c = (
       (h.at ((c.first, (c.second, tt)) ∷ []) b f' c.called).0 ∙ rw (c.shows.0, c.shows.1) refl,

@@ -1,13 +1,14 @@
-use Rattle.std.proofs.Common.{◌≡◌, ◌≤◌, ◌<◌, ◌+◌, ◌-◌, ◌∷◌, ◌++◌, [], length, take, drop, append_assoc, Some, sym, ap, ◌∙◌, arith, ℕ}
+use Rattle.std.proofs.Common.{◌≡◌, ◌≤◌, ◌<◌, ◌+◌, ◌-◌, ◌∷◌, [], length, take, drop, Some, refl, sym, ap, ◌∙◌, arith, ℕ}
 use Rattle.std.specs.Prelude.{slice_range}
-use Rattle.std.proofs.lemmas.List.{drop-drop, length-drop, take_all}
+use Rattle.std.specs.Fn.{CalledAtTwo}
+use Rattle.std.proofs.lemmas.List.{drop_all, drop-drop, length-drop, take_all}
 use Rattle.std.proofs.lemmas.List.Sorted.{IsPermutation-trans}
+use Rattle.sgb_search.specs.Calls.{CallAt}
 use Rattle.sgb_search.specs.Linear.{LinearQuestions}
-use Rattle.sgb_search.specs.Split.{split}
 use Rattle.sgb_search.specs.declared.end.End.TheVariants.{Front}
-use Rattle.sgb_search.proofs.Linear.LinearQueue.{keeps, piece}
-use Rattle.sgb_linear_group.specs.Best.{best, best_of_each}
-use Rattle.sgb_linear_group.proofs.BestOf.{call_at, each_more, first_and_others, stands_at, swapped_kept, swapped_rest}
+use Rattle.sgb_search.proofs.Linear.LinearQueue.{keeps}
+use Rattle.sgb_linear_group.specs.Best.{Keeps, KeepsOfEach}
+use Rattle.sgb_linear_group.proofs.BestOf.{call_at, each_more, stands_at, swapped_kept, swapped_rest, yields_more}
 use Rattle.sgb_linear_group.proofs.best.partition_best.Goals as goal
 
 pub loop-rest-preserved : goal.loop-rest-preserved
@@ -27,29 +28,25 @@ loop-rest-preserved g c =
     let call = call_at (LinearQuestions g.J.Judge) xs _ rest len _ _ whole f.nonempty room f.asked in
     let order : c.loop-rest.kept ≤ place = omega (arith, i.0, b.low) in
     let inside : place < length ys = omega (arith, b.high, f.within) in
-    let k = stands_at ys place inside in (
+    let group : slice_range ys rest (rest + len) ≡ take len (drop rest xs) =
+    ap (λ (n : ℕ). take n (drop rest ys)) {x = rest + len - rest} {y = len} (omega arith) ∙ ap (take len) i.3 in (
       omega (arith, i.0, f.nonempty),
       omega (arith, f.within, s.len),
       IsPermutation-trans _ _ _ i.2 s.permutation,
-      swapped_rest ys _ c.loop-rest.kept place order inside s.by_index k.0 k.1 (rest + len) b.high
+      swapped_rest ys _ c.loop-rest.kept place order inside s.by_index b.kept.0 b.kept.1 (rest + len) b.high
           ∙ (sym (drop-drop len rest ys) ∙ ap (drop len) i.3 ∙ drop-drop len rest xs),
       b.callable,
       keeps g.J.Judge Front _ (Some _) _ call i.5,
-      λ p is_worse settled computes.
-          let now = i.6 p is_worse settled computes in
-          let taken = piece g.J.Judge Front _ (Some _) _ p call now.0 in
-          let group : slice_range ys rest (rest + len) ≡ take len (drop rest xs) =
-          ap (λ (n : ℕ). take n (drop rest ys)) {x = rest + len - rest} {y = len} (omega arith) ∙ ap (take len) i.3 in
-          let found : best is_worse (take len (drop rest xs)) ≡ Some k.0 =
-          ap (best is_worse) (sym group) ∙ sym (b.best is_worse now.1) ∙ k.1 in
-          let others = best_of_each is_worse (split p (drop (rest + len) xs)) in (
-            taken.1,
-            b.computes is_worse now.1,
-            ap (λ l. l ++ others)
-                (swapped_kept ys _ c.loop-rest.kept place order inside s.by_index k.0 k.1 (omega (arith, order, inside, s.len)))
-                ∙ append_assoc (take c.loop-rest.kept ys) (k.0 ∷ []) others
-                ∙ ap (λ l. take c.loop-rest.kept ys ++ l)
-                (sym (each_more is_worse _ _ k.0 found) ∙ ap (best_of_each is_worse) (sym (first_and_others _ _ _ taken.0.0 taken.0.1)))
-                ∙ now.2,
-          ),
+      (
+        _,
+        yields_more (CallAt (LinearQuestions g.J.Judge) Front) _ i.6.0 _ _ _ i.6.1 call,
+        rw (swapped_kept ys _ c.loop-rest.kept place order inside s.by_index b.kept.0 b.kept.1 (omega (arith, order, inside, s.len)))
+            (each_more (CalledAtTwo g.B.FnMut) _ i.6.0 _ _ _ _ _ i.6.2 (rw group at b.kept.2)),
+      ),
     )
+
+pub returns-clause-kept : goal.returns-clause-kept
+returns-clause-kept g c =
+    let i = c.loop-rest.invariant in
+    let none = drop_all c.loop-rest.rest c.args.slice.now (omega (arith, c.loop-rest-test.false, c.loop-rest.auto.slice)) in
+    record { groups = i.6.0; walked = (_, (_, i.6.1, (none, refl))); last = _; compared = i.6.2 }
