@@ -1,13 +1,16 @@
 //! The words, numbers and marks of a text, by the classes of its bytes.
-ghost use Rattle.std.specs.Prelude.{◌≡◌, map, IfOk, None};
+ghost use Rattle.std.specs.List.{AllByRecursion};
+ghost use Rattle.std.specs.Prelude.{◌≡◌, ◌+◌, length, map, IfOk, None};
+ghost use Rattle.std.specs.Str.{IsCharBoundary};
 ghost use Rattle.slice_group_by.specs.AsciiClass.TheVariants.{Letter};
 ghost use Rattle.slice_group_by.specs.Counted.{class_count, same_class};
 ghost use Rattle.slice_group_by.specs.Offsets.{with_offsets};
 ghost use Rattle.slice_group_by.specs.Split.{split};
 
-use slice_group_by::laws::{groups_stand, sees_pieces};
+use slice_group_by::laws::{groups_stand, sees_pieces, texts_stand};
 use slice_group_by::{
-    AsciiClass, AsciiClasses, GroupAdapters, GroupByClass, LinearClassGroup, count_classes,
+    AsciiClass, AsciiClasses, GroupAdapters, GroupByClass, LinearClassGroup,
+    LinearStrGroupByKey, StrGroupBy, count_classes,
 };
 use std::alloc::{AllocError, Global};
 use std::io;
@@ -36,6 +39,23 @@ pub fn tokens(alloc: Global, text: &[u8]) -> Result<Vec<(usize, &[u8])>, AllocEr
     sees_pieces(&tokens);
     groups_stand(&tokens);
     tokens.collect(alloc)
+}
+
+/// The words of a text and what stands between them, each with the byte at which it begins. They begin and end between characters.
+pub fn words(alloc: Global, text: &str) -> Result<Vec<(usize, &str)>, AllocError>
+    ensures { IfOk result (λ words. AllByRecursion (λ word. IsCharBoundary text.now word.0
+        × IsCharBoundary text.now (word.0 + length word.1.now)) words.items) }
+{
+    let words = LinearStrGroupByKey::new(text, |c| c.is_alphanumeric()).with_offsets();
+    texts_stand(&words);
+    words.collect(alloc)
+}
+
+/// What stands behind the first word: `(x)` of `f(x)`.
+pub fn after_first_word(text: &str) -> &str {
+    let mut words = text.linear_group_by_key(|c| c.is_alphanumeric());
+    words.next();
+    &text[words.offset()..]
 }
 
 /// How many words there are.

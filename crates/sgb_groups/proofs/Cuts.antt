@@ -1,15 +1,15 @@
 -- A call of an iterator for reading is a call on what it shows; and a group cut off a part between two places.
 use Rattle.std.proofs.Common.{◌≡◌, ℕ, ◌+◌, ◌-◌, ◌<◌, ◌≤◌, true, List, ◌++◌, length, drop, min, Option}
 use Rattle.std.proofs.Common.{None, Some, arith, ap, subst, ◌∙◌, sym}
+use Rattle.std.proofs.Math.Nat.{min-eq_left}
 use Rattle.std.proofs.lemmas.Bool.Decides.{nat_tests}
 use Rattle.std.proofs.lemmas.List.{drop_at, drop_min}
 use Rattle.std.specs.Prelude.{option_copied, slice_range}
 use Rattle.std.specs.Borrow.{Bor}
 use Rattle.sgb_search.specs.declared.end.End.{End}
 use Rattle.sgb_search.specs.declared.end.End.TheVariants.{Front, Back}
-use Rattle.sgb_search.specs.Calls.{CallAt, IsGroupAt, between, place_after}
+use Rattle.sgb_search.specs.Calls.{CallAt, IsGroupAt, Place, between, place_after}
 use Rattle.sgb_search.proofs.Lists.Between.{between_places}
-use Rattle.sgb_search.proofs.Lists.Places.{from_low, moved}
 use Rattle.sgb_search.proofs.Lists.Ranges.{length-range}
 use Rattle.sgb_groups.specs.declared.groups.SliceGroups.{SliceGroups}
 use Rattle.sgb_groups.specs.Gives.{groups_of, Gives, lies_within}
@@ -47,13 +47,20 @@ part_behind xs low high len order inside =
     ∙ ap (λ (k : ℕ). drop (min len k) (slice_range xs low high)) (sym (length-range xs low high order inside))
     ∙ drop_min len (slice_range xs low high)
 
+-- the place `low` of a list, or its end
+abbrev from_low : {T : Type 0} → List T → ℕ → Place T
+from_low xs low = record { input = xs; offset = min low (length xs) }
+
 -- a group of n elements at the front of such a part leaves the place behind it
 pub moved_behind : {T : Type 0} (xs : List T) (low high n : ℕ) → high ≤ length xs → low + n ≤ high
     → from_low xs (low + n) ≡ place_after Front (length (slice_range xs low (low + n))) (from_low xs low)
 moved_behind xs low high n inside within =
-    moved xs low n (omega arith)
-    ∙ ap (λ (k : ℕ). place_after Front k (from_low xs low)) {x = n} {y = length (slice_range xs low (low + n))}
-    (omega (arith, length-range xs low (low + n) (omega arith) (omega arith)))
+    ap (λ (k : ℕ). record { input = xs; offset = k }) (omega (
+      arith,
+      min-eq_left {n = low} {m = length xs} (omega arith),
+      min-eq_left {n = low + n} {m = length xs} (omega arith),
+      length-range xs low (low + n) (omega arith) (omega arith),
+    ))
 
 -- a group of n elements at an end of such a part
 module _ {T J : Type 0} (asks : End → List T → ℕ → J → J → Type 0) (xs : List T) (low high : ℕ) (j k : J)

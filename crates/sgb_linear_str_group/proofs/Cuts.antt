@@ -1,17 +1,15 @@
 -- A text that is cut in two between characters, and the remainder of an iterator that is cut so.
 use Rattle.std.proofs.Common.{◌≡◌, ℕ, ◌+◌, ◌-◌, ◌<◌, ◌≤◌, List, ◌++◌, length, take, drop, sym, ap, ◌∙◌, subst, arith, length-append}
-use Rattle.sgb_search.specs.Calls.{IsCallableBy, place_after}
+use Rattle.sgb_search.specs.Calls.{IsCallableBy, Place, place_after}
 use Rattle.std.specs.Str.{chars, IsUtf8, IsCharBoundary}
 use Rattle.std.proofs.lemmas.Str.{IsCharBoundary-at_seam}
 use Rattle.std.proofs.Math.Seq.{take-append_seam, drop-append_seam}
-use Rattle.sgb_search.proofs.Lists.Between.{are_places, ends_at}
-use Rattle.sgb_search.proofs.Lists.Places.{from_low, moved}
 use Rattle.sgb_search.specs.declared.judge.Judge.{Ghosts}
 use Rattle.sgb_search.specs.declared.end.End.{End}
 use Rattle.sgb_search.specs.Split.{put_at, AreNeighbours}
 use Rattle.sgb_search.specs.declared.end.End.TheVariants.{Front, Back}
-use Rattle.sgb_linear_str_group.specs.Texts.{TextGroups, lies_between_characters, text_between, IsTextAt, in_characters}
-use Rattle.sgb_linear_str_group.proofs.Places.{place_within, text_after, text_before}
+use Rattle.sgb_linear_str_group.specs.Texts.{TextGroups, place_or_end, text_between, IsTextAt, in_characters}
+use Rattle.sgb_linear_str_group.proofs.Places.{place_or_end_is_place, boundary_test, middle, places, text_after, text_before}
 
 -- a text that is cut in two: the seam lies between characters, with the one part before it and the other after it
 module _ (text front back : List ℕ) (cut : text ≡ front ++ back) where
@@ -57,6 +55,10 @@ module _ {J : Type 0} (g : Ghosts J ℕ) (xs : List ℕ) (j : J) (s : TextGroups
       → IsCallableBy AreNeighbours g (record { remainder = chars r; judge = j })
   callable_whole may = subst (λ (v : TextGroups J). IsCallableBy AreNeighbours g (in_characters v)) (sym is_whole) may
 
+-- the place of a text at which a remainder begins
+abbrev place_in : List ℕ → ℕ → Place ℕ
+place_in xs low = record { input = xs; offset = place_or_end xs low }
+
 -- the remainder r of a reading iterator is the part of xs between low and high, and is cut in a group and a rest
 module _ {J : Type 0} (g : Ghosts J ℕ) (xs : List ℕ) (low high : ℕ) (r : List ℕ) (same : r ≡ text_between xs low high)
     (j k : J) (group rest : List ℕ) where
@@ -71,14 +73,13 @@ module _ {J : Type 0} (g : Ghosts J ℕ) (xs : List ℕ) (low high : ℕ) (r : L
 
   -- a group at the front leaves the place behind it
   pub moved_on : IsTextAt g Front (record { text = r; judge = j }) group (record { text = rest; judge = k })
-      → from_low xs (low + length group) ≡ place_after Front (length group) (from_low xs low)
+      → place_in xs (low + length group) ≡ place_after Front (length group) (place_in xs low)
   moved_on h =
       let more : 0 < length r = omega (arith, h.nonempty, ap length h.cut, length-append group rest) in
-      let end : low + length r ≡ high =
-      ends_at (lies_between_characters xs) xs (place_within xs) low high r same more in
-      let inside : high ≤ length xs =
-      place_within xs high (are_places (lies_between_characters xs) xs (place_within xs) low high r same more).high_is in
-      moved xs low (length group) (omega (arith, end, inside, ap length h.cut, length-append group rest))
+      let seam = IsCharBoundary-at_seam r group rest h.cut h.rest_utf8 in
+      let low_is = place_or_end_is_place xs low (places xs low high r same (length group) seam more).low_is in
+      let end_is = place_or_end_is_place xs _ ((boundary_test xs _).1 (middle xs low high r same (length group) seam more)) in
+      ap (λ (k : ℕ). record { input = xs; offset = k }) (end_is ∙ ap (λ (k : ℕ). k + length group) (sym low_is))
 
   pub back_cut : IsTextAt g Back (record { text = r; judge = j }) group (record { text = rest; judge = k })
       → IsTextAt g Back (record { text = text_between xs low high; judge = j }) group

@@ -1,15 +1,17 @@
 -- The places of a text that lie between characters.
-use Rattle.std.proofs.Common.{◌≡◌, ℕ, ◌+◌, ◌-◌, ◌<◌, ◌≤◌, Bool, true, false, List}
+use Rattle.std.proofs.Common.{◌≡◌, ℕ, ◌+◌, ◌-◌, ◌<◌, ◌≤◌, Bool, true, false, cond, List}
 use Rattle.std.proofs.Common.{length, get_or, take, drop, Decides, refl, sym, ap, ◌∙◌, subst, arith}
 use lib.Dec.{T, leb, leb→le}
 use Rattle.std.specs.Prelude.{slice_range}
 use Rattle.std.specs.Str.{IsUtf8, IsCharBoundary}
 use Rattle.std.proofs.lemmas.Bool.{leb-false}
 use Rattle.std.proofs.lemmas.Bool.Decides.{nat_tests}
-use Rattle.std.proofs.lemmas.List.{get_or_past, get_or-drop, get_or-take, length-take-le}
-use Rattle.std.proofs.lemmas.Str.{IsCharBoundary-start, IsCharBoundary-end}
+use Rattle.std.proofs.lemmas.List.{get_or_past, get_or-drop, get_or-take, length-drop, length-take-le}
+use Rattle.std.proofs.lemmas.Str.{IsCharBoundary-start, IsCharBoundary-end, IsCharBoundary-from_rest, IsCharBoundary-from_take}
+use Rattle.std.proofs.lemmas.Str.{IsUtf8-drop}
+use Rattle.sgb_search.specs.Calls.{StandsAt}
 use Rattle.sgb_search.proofs.Lists.Between.{ArePlaces, between_ends, are_places, is_range, ends_at, part_before, part_after}
-use Rattle.sgb_linear_str_group.specs.Texts.{lies_between_characters, text_between}
+use Rattle.sgb_linear_str_group.specs.Texts.{place_or_end, lies_between_characters, text_between}
 
 pub boundary_test : (text : List ℕ) (place : ℕ) → Decides (lies_between_characters text place) (IsCharBoundary text place)
 boundary_test text place =
@@ -38,6 +40,34 @@ module _ (text front : List ℕ) (low high : ℕ) (order : low < high) (within :
 pub place_within : (text : List ℕ) (n : ℕ) → lies_between_characters text n ≡ true → n ≤ length text
 place_within text n e = ((boundary_test text n).0 e).0
 
+module _ (text : List ℕ) (place : ℕ) where
+  pub place_or_end_is_boundary : IsCharBoundary text (place_or_end text place)
+  place_or_end_is_boundary = by (lies_between_characters text place) refl
+    where
+      by : (t : Bool) → lies_between_characters text place ≡ t → IsCharBoundary text (cond t place (length text))
+      by true e = (boundary_test text place).0 e
+      by false e = IsCharBoundary-end text
+
+  pub place_or_end_is_place : lies_between_characters text place ≡ true → place_or_end text place ≡ place
+  place_or_end_is_place e = ap (λ t. cond t place (length text)) e
+
+-- a part of a text that is UTF-8 begins and ends between characters
+pub part_is_between : (text part : List ℕ) (start : ℕ) → IsUtf8 text → IsUtf8 part → 0 < length part
+    → StandsAt (record { input = text; offset = start }) part → IsCharBoundary text start × IsCharBoundary text (start + length part)
+part_is_between text part start u part_u some stands =
+    let rest = drop start text in
+    let front : take (length part) rest ≡ part =
+    ap (λ (n : ℕ). take n rest) {x = length part} {y = (start + length part) - start} (omega arith) ∙ stands.is in
+    let byte : get_or part 0 0 ≡ get_or text start 0 =
+    ap (λ (l : List ℕ). get_or l 0 0) (sym front) ∙ get_or-take (length part) rest 0 0 some ∙ get_or-drop start text 0 0
+    ∙ ap (λ (k : ℕ). get_or text k 0) {x = start + 0} {y = start} (omega arith) in
+    let start_is : IsCharBoundary text start =
+    (omega (arith, stands.within), λ l h. rw byte at ((IsCharBoundary-start part part_u).1 some (rw (← byte) at h))) in (
+      start_is,
+      IsCharBoundary-from_rest text start (length part) start_is.0 (IsCharBoundary-from_take rest (length part)
+      (IsUtf8-drop text start u start_is) (omega (arith, stands.within, length-drop start text)) (rw front part_u)),
+    )
+
 -- a text is the part between its ends
 pub text_ends : (text : List ℕ) → IsUtf8 text → text_between text 0 (length text) ≡ text
 text_ends text u =
@@ -50,7 +80,7 @@ module _ (text : List ℕ) (low high : ℕ) (r : List ℕ) (is : r ≡ text_betw
   ends : low + length r ≡ high
   ends = ends_at (lies_between_characters text) text (place_within text) low high r is more
 
-  places : ArePlaces (lies_between_characters text) low high
+  pub places : ArePlaces (lies_between_characters text) low high
   places = are_places (lies_between_characters text) text (place_within text) low high r is more
 
   byte : n < length r → get_or r n 0 ≡ get_or text (low + n) 0
@@ -58,7 +88,7 @@ module _ (text : List ℕ) (low high : ℕ) (r : List ℕ) (is : r ≡ text_betw
       ap (λ (l : List ℕ). get_or l n 0) (is_range (lies_between_characters text) text (place_within text) low high r is more)
       ∙ get_or-take (high - low) (drop low text) n 0 (omega (arith, ends)) ∙ get_or-drop low text n 0
 
-  middle : IsCharBoundary text (low + n)
+  pub middle : IsCharBoundary text (low + n)
   middle = by (leb (length r) n) refl
     where
       by : (t : Bool) → leb (length r) n ≡ t → IsCharBoundary text (low + n)

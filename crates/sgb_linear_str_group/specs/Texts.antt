@@ -1,5 +1,5 @@
 -- What an iterator over groups of a text shows, and what its calls give. A text is its bytes, and questions are about its characters.
-use Rattle.std.specs.Prelude.{◌≡◌, ℕ, ◌<◌, Bool, ◌&&◌, ◌||◌, List, [], length, nat_lt, nat_le, min, slice_index, Option, MatchOption}
+use Rattle.std.specs.Prelude.{◌≡◌, ℕ, ◌<◌, Bool, ◌&&◌, ◌||◌, List, [], length, nat_lt, nat_le, slice_index, Option, MatchOption, if◌then◌else◌}
 use Rattle.std.specs.Borrow.{Bor}
 use Rattle.std.specs.Iterator.{Count, at_most}
 use Rattle.std.specs.Str.{chars, IsUtf8}
@@ -33,9 +33,13 @@ text_between text = between (lies_between_characters text) text
 abbrev pub text_groups_of : {J : Type 0} → LinearStrGroups J → TextGroups J
 text_groups_of s = record { text = text_between s.string.now s.low s.high; judge = s.judge }
 
+-- the place, or the end of the text where that does not lie between characters
+abbrev pub place_or_end : List ℕ → ℕ → ℕ
+place_or_end text place = if lies_between_characters text place then place else length text
+
 -- the text that it was made of, and the byte at which the remainder begins in it: behind all that calls at the front have taken off
 abbrev pub text_place_of : {J : Type 0} → LinearStrGroups J → Place ℕ
-text_place_of s = record { input = s.string.now; offset = min s.low (length s.string.now) }
+text_place_of s = record { input = s.string.now; offset = place_or_end s.string.now s.low }
 
 -- no more groups come than bytes remain
 abbrev pub text_groups_to_come : {J : Type 0} → TextGroups J → Count

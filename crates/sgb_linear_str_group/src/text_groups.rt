@@ -6,7 +6,7 @@ ghost use Rattle.std.specs.Str.{IsCharBoundary};
 ghost use Rattle.std.specs.Iterator.{UpTo};
 ghost use Rattle.std.specs.Iterator.SizeHint.{IsWithinCount};
 ghost use Rattle.sgb_search.specs.declared.end.End.TheVariants.{Front, Back};
-ghost use Rattle.sgb_linear_str_group.specs.Texts.{text_between, text_groups_of, text_place_of, text_groups_to_come, in_characters};
+ghost use Rattle.sgb_linear_str_group.specs.Texts.{place_or_end, text_between, text_groups_of, text_place_of, text_groups_to_come, in_characters};
 
 use crate::text_judge::TextJudge;
 use sgb_search::end::End;
@@ -58,6 +58,18 @@ fn is_boundary(end: &End, text: &str, place: usize) -> bool
     }
 }
 
+// The place, or the end of the text where that does not lie between characters.
+#[inline]
+fn place_or_end(text: &str, place: usize) -> usize
+    ensures { result ≡ place_or_end text.now place }
+{
+    if text.is_char_boundary(place) {
+        place
+    } else {
+        text.len()
+    }
+}
+
 impl<'a, J> LinearStrGroups<'a, J> {
     // All groups of the text are still to come.
     #[inline]
@@ -83,7 +95,7 @@ impl<'a, J> LinearStrGroups<'a, J> {
     }
 
     /// The byte at which the remainder begins in the text: how many bytes calls at the front have handed out. The next group at
-    /// the front begins there, and the last one from the back began `remainder_len` bytes behind it.
+    /// the front begins there, and the last one from the back began `remainder_len` bytes behind it. It lies between characters.
     ///
     /// ```
     /// let mut groups = LinearStrGroup::new("aaaabbbbb饰饰cccc");
@@ -94,9 +106,10 @@ impl<'a, J> LinearStrGroups<'a, J> {
     pub fn offset(&self) -> usize
         ensures offset { result ≡ (text_place_of self.now).offset }
         ensures stands { StandsAt (text_place_of self.now) (text_groups_of self.now).text }
+        ensures boundary { IsCharBoundary (text_place_of self.now).input result }
         ensures fits { result + length (text_groups_of self.now).text < 2 ^ 64 }
     {
-        self.low.min(self.string.len())
+        place_or_end(self.string, self.low)
     }
 
     /// How many bytes no call has handed out yet.

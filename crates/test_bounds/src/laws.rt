@@ -2,7 +2,7 @@
 use slice_group_by::adapters::{DedupWithCount, Keyed, Offsets, WithKeys, WithOffsets};
 use slice_group_by::laws::*;
 use slice_group_by::{
-    BinaryGroupBy, ExponentialGroupByKeyMut, LinearGroupBy, LinearGroupByKey,
+    BinaryGroupBy, ExponentialGroupByKeyMut, LinearGroupBy, LinearGroupByKey, LinearStrGroupBy,
     LinearStrGroupByKeyMut, MergeJoin, MergeJoinBy, OuterJoin, Parts,
 };
 use std::cmp::Ordering;
@@ -105,6 +105,12 @@ pub fn of_mapped<T, Q: GroupQueue<Element = T>, U, F: FnMut(Q::Item) -> U>(mappe
 
 pub fn of_offsets<Q: Offsets>(groups: &WithOffsets<Q>) {
     groups_stand(groups);
+}
+
+pub fn of_text_offsets<P: FnMut(char, char) -> bool>(
+    groups: &WithOffsets<LinearStrGroupBy<'_, P>>,
+) {
+    texts_stand(groups);
 }
 
 pub fn of_keyed<Q: Keyed>(groups: &WithKeys<Q>) {

@@ -1,4 +1,4 @@
--- Where the part of a list between two places stands in it, and where the rest stands once a part is taken off at an end.
+-- Where the part of a list between two places stands in it, and where two parts stand that stood together.
 use Rattle.std.proofs.Common.{◌≡◌, ℕ, ◌+◌, ◌-◌, ◌≤◌, Bool, true, List, [], ◌∷◌, ◌++◌, length, take, drop, min, length-append, sym, ap, ◌∙◌, arith}
 use Rattle.std.proofs.Math.Nat.{min-eq_left, min-le_right}
 use Rattle.std.proofs.Math.Seq.{take-append_seam, drop-append_seam}
@@ -8,41 +8,28 @@ use Rattle.sgb_search.specs.declared.end.End.TheVariants.{Front}
 use Rattle.sgb_search.specs.Calls.{Place, StandsAt, place_after, between}
 use Rattle.sgb_search.proofs.Lists.Between.{is_range, ends_at, are_places}
 
--- the place `low` of a list, or its end
-abbrev pub from_low : {T : Type 0} → List T → ℕ → Place T
-from_low xs low = record { input = xs; offset = min low (length xs) }
-
 -- an empty part stands everywhere
-empty_stands : {T : Type 0} (xs : List T) (low : ℕ) → StandsAt (from_low xs low) []
-empty_stands xs low =
-    let k = min low (length xs) in
+empty_stands : {T : Type 0} (xs : List T) (k : ℕ) → k ≤ length xs → StandsAt (record { input = xs; offset = k }) []
+empty_stands xs k l =
     record {
-      within = omega (arith, min-le_right low (length xs));
+      within = omega (arith, l);
       is = ap (λ (n : ℕ). take n (drop k xs)) {x = (k + 0) - k} {y = 0} (omega arith);
     }
 
-module _ {T : Type 0} (is_place : ℕ → Bool) (xs : List T) (lie_within : (n : ℕ) → is_place n ≡ true → n ≤ length xs) (low high : ℕ) where
-  pub stands : (part : List T) → part ≡ between is_place xs low high → StandsAt (from_low xs low) part
-  stands [] e = empty_stands xs low
+-- the part between two places stands at an offset that is the lower place where that passes the test
+module _ {T : Type 0} (is_place : ℕ → Bool) (xs : List T) (lie_within : (n : ℕ) → is_place n ≡ true → n ≤ length xs) (low high k : ℕ)
+    (inside : k ≤ length xs) (here : is_place low ≡ true → k ≡ low) where
+  pub stands : (part : List T) → part ≡ between is_place xs low high → StandsAt (record { input = xs; offset = k }) part
+  stands [] e = empty_stands xs k inside
   stands (x ∷ part) e =
       let places = are_places is_place xs lie_within low high (x ∷ part) e (omega arith) in
-      let here : min low (length xs) ≡ low = min-eq_left (lie_within low places.low_is) in
       let end : low + length (x ∷ part) ≡ high = ends_at is_place xs lie_within low high (x ∷ part) e (omega arith) in
       record {
-        within = omega (arith, here, end, lie_within high places.high_is);
+        within = omega (arith, here places.low_is, end, lie_within high places.high_is);
         is =
-            ap (λ (k : ℕ). slice_range xs k (k + length (x ∷ part))) here ∙ ap (slice_range xs low) end
+            ap (λ (k : ℕ). slice_range xs k (k + length (x ∷ part))) (here places.low_is) ∙ ap (slice_range xs low) end
             ∙ sym (is_range is_place xs lie_within low high (x ∷ part) e (omega arith));
       }
-
--- once n elements are taken off at the front
-pub moved : {T : Type 0} (xs : List T) (low n : ℕ) → low + n ≤ length xs
-    → from_low xs (low + n) ≡ place_after Front n (from_low xs low)
-moved xs low n l =
-    let before : min low (length xs) ≡ low = min-eq_left (omega arith) in
-    let after : min (low + n) (length xs) ≡ low + n = min-eq_left l in
-    ap (λ (k : ℕ). record { input = xs; offset = k }) {x = min (low + n) (length xs)} {y = min low (length xs) + n}
-    (omega (arith, before, after))
 
 -- where two parts stand, one after the other, each of them stands
 module _ {T : Type 0} (p : Place T) (front back : List T) (h : StandsAt p (front ++ back)) where

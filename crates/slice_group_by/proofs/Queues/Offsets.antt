@@ -1,11 +1,17 @@
 -- Where the groups stand in the input that calls give.
 use Rattle.std.proofs.Common.{◌≡◌, ℕ, ◌+◌, ◌<◌, ◌^◌, List, [], ◌∷◌, length, Option, Some, map, refl, ap, ◌∙◌, subst, arith, length-append}
+use Rattle.std.specs.Borrow.{Bor}
 use Rattle.std.specs.Iterator.{Yields, AlwaysYields}
 use Rattle.std.specs.List.{AllByRecursion}
+use Rattle.std.specs.Str.{IsCharBoundary, IsUtf8}
 use Rattle.sgb_search.specs.Calls.{Place, StandsAt, place_after}
 use Rattle.sgb_search.specs.declared.end.End.{End}
 use Rattle.sgb_search.specs.declared.end.End.TheVariants.{Front, Back}
 use Rattle.sgb_search.proofs.Lists.Places.{first_stands, second_stands}
+use Rattle.sgb_search.specs.declared.judge.Judge.{Ghosts}
+use Rattle.sgb_linear_str_group.specs.Texts.{GivesText, text_groups_of, text_place_of}
+use Rattle.sgb_linear_str_group.specs.declared.text_groups.LinearStrGroups.{LinearStrGroups}
+use Rattle.sgb_linear_str_group.proofs.Places.{part_is_between}
 use Rattle.slice_group_by.specs.Offsets.{with_offsets, TakesUnits, start_of, BeginsAt, GivesWithOffset}
 use Rattle.slice_group_by.specs.declared.adapters.offsets.WithOffsets.{WithOffsets}
 
@@ -31,6 +37,11 @@ module _ {Q I U : Type 0} (place : Q → Place U) (left : Q → List U) (units :
   fewer Front q group t h = omega (arith, ap length h.part, length-append (units group) (left t))
   fewer Back q group t h = omega (arith, ap length h.part, length-append (left t) (units group))
 
+-- the place after a part is taken off is one of the same input
+same_input : {U : Type 0} (e : End) (n : ℕ) (p q : Place U) → q ≡ place_after e n p → q.input ≡ p.input
+same_input {U} Front n p q h = ap (λ (r : Place U). r.input) h
+same_input {U} Back n p q h = ap (λ (r : Place U). r.input) h
+
 -- calls one after another
 module _ {Q I U : Type 0} (place : Q → Place U) (left : Q → List U) (units : I → List U) (gives : End → Q → Option I → Q → Type 0)
     (takes : (e : End) (q : Q) (group : I) (t : Q) → gives e q (Some group) t → TakesUnits place left units e q group t) where
@@ -39,10 +50,6 @@ module _ {Q I U : Type 0} (place : Q → Place U) (left : Q → List U) (units :
 
   abbrev stands_in : List U → ℕ × I → Type 0
   stands_in input x = StandsAt (record { input = input; offset = x.0 }) (units x.1)
-
-  same_input : (e : End) (n : ℕ) (p q : Place U) → q ≡ place_after e n p → q.input ≡ p.input
-  same_input Front n p q h = ap (λ (r : Place U). r.input) h
-  same_input Back n p q h = ap (λ (r : Place U). r.input) h
 
   -- each group stands in the input where its offset says
   pub each_stands : (e : End) (q t : WithOffsets Q) (items : List (ℕ × I)) → Yields (steps e) q items t
@@ -80,3 +87,19 @@ module _ {Q I U : Type 0} (place : Q → Place U) (left : Q → List U) (units :
           subst (λ (n : ℕ). AlwaysYields (steps Front) (λ x. (x.0, units x.1)) j (with_offsets n ps)) next (yields_offsets j ps k.1),
         ),
   )
+
+-- each group of a text begins and ends between characters
+module _ {J : Type 0} (g : Ghosts J ℕ) where
+  abbrev text_steps : End → WithOffsets (LinearStrGroups J) → Option (ℕ × Bor (List ℕ)) → WithOffsets (LinearStrGroups J) → Type 0
+  text_steps = GivesWithOffset text_place_of (λ s. (text_groups_of s).text) (λ group. group.now) (GivesText g)
+
+  pub each_between : (e : End) (q t : WithOffsets (LinearStrGroups J)) (items : List (ℕ × Bor (List ℕ))) → IsUtf8 q.groups.string.now
+      → Yields (text_steps e) q items t → AllByRecursion (λ x. IsCharBoundary q.groups.string.now x.0
+      × IsCharBoundary q.groups.string.now (x.0 + length x.1.now)) items
+  each_between e q t [] u y = tt
+  each_between e q t (x ∷ xs) u y =
+      let call = y.1.0.call in
+      let same = same_input e _ _ _ y.1.0.place in (
+        part_is_between _ _ _ u call.group_utf8 call.nonempty y.1.1.stands,
+        rw same at (each_between e y.0 t xs (rw same u) y.2),
+      )

@@ -2,10 +2,14 @@
 ghost use Rattle.std.specs.Prelude.{◌≡◌, ℕ, ◌+◌, ◌<◌, ◌^◌, List, length, map, nat_eq, Some, IfSome, if◌then◌else◌};
 ghost use Rattle.std.specs.Iterator.{Yields, UpTo};
 ghost use Rattle.std.specs.Iterator.SizeHint.{IsWithinCount};
+ghost use Rattle.std.specs.Borrow.{Bor};
 ghost use Rattle.std.specs.List.{AllByRecursion};
+ghost use Rattle.std.specs.Str.{IsCharBoundary, IsUtf8};
 ghost use Rattle.std.proofs.lemmas.Iterator.{YieldsList};
 ghost use Rattle.sgb_search.specs.Calls.{Place, StandsAt};
 ghost use Rattle.sgb_search.specs.declared.end.End.{End};
+ghost use Rattle.sgb_linear_str_group.specs.Texts.{GivesText, text_groups_of, text_place_of};
+ghost use Rattle.sgb_linear_str_group.specs.declared.text_groups.LinearStrGroups.{LinearStrGroups};
 ghost use Rattle.slice_group_by.specs.declared.adapters.offsets.WithOffsets.{WithOffsets};
 ghost use Rattle.sgb_search.specs.declared.end.End.TheVariants.{Front, Back};
 ghost use Rattle.slice_group_by.specs.Offsets.{TakesUnits, GivesWithOffset, groups_under, offsets_to_come, with_offsets};
@@ -70,6 +74,15 @@ pub fn groups_stand<Q: Offsets>(_groups: &WithOffsets<Q>)
         → YieldsList (GivesWithOffset Q.place Q.left Q.units Q.gives Front) (λ x. Q.units x.1) q parts
         → YieldsList (GivesWithOffset Q.place Q.left Q.units Q.gives Front) (λ x. (x.0, Q.units x.1)) q
         (with_offsets (Q.place (groups_under q)).offset parts) }
+{}
+
+/// The groups of a text begin and end between characters, so that `&text[start..end]` is a text.
+pub fn texts_stand<'a, J: TextJudge + Drop>(_groups: &WithOffsets<LinearStrGroups<'a, J>>)
+    ensures { (e : End) (q t : WithOffsets (LinearStrGroups J)) (items : List (ℕ × Bor (List ℕ)))
+        → IsUtf8 (text_place_of (groups_under q)).input
+        → Yields (GivesWithOffset text_place_of (λ s. (text_groups_of s).text) (λ group. group.now) (GivesText J.Judge) e) q items t
+        → AllByRecursion (λ x. IsCharBoundary (text_place_of (groups_under q)).input x.0
+        × IsCharBoundary (text_place_of (groups_under q)).input (x.0 + length x.1.now)) items }
 {}
 
 impl<Q: Offsets + Drop> Iterator for WithOffsets<Q> {

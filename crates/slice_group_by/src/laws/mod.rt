@@ -34,6 +34,7 @@ pub(crate) mod writing;
 pub use crate::adapters::dedup::sees_counts;
 pub use crate::adapters::keyed::sees_keys;
 pub use crate::adapters::offsets::groups_stand;
+pub use crate::adapters::offsets::texts_stand;
 pub use crate::join::joins_may_go_on;
 pub use crate::join::merges_agree;
 pub use crate::join::outer::sees_keys_of_both;

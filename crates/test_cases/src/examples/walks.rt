@@ -4,6 +4,7 @@ use example_walks::closures::counted;
 use example_walks::families::sort_and_count;
 use example_walks::folds::{longest_with_row, total_by_groups};
 use example_walks::offsets::runs_with_rows;
+use example_walks::tokens::after_first_word;
 use example_walks::writers::clear_ends;
 use slice_group_by::End;
 use std::test::Fail;
@@ -28,6 +29,11 @@ fn sorts_and_counts(rt: HostRuntime) {
     let mut mixed = [3, 1, 3, 2, 1];
     assert!(rt; sort_and_count(&mut mixed) == 3);
     assert!(rt; mixed == [1, 1, 2, 3, 3]);
+}
+
+#[test]
+fn cuts_behind_a_word(rt: HostRuntime) {
+    assert!(rt; after_first_word("饰é(x)") == "(x)" && after_first_word("").is_empty());
 }
 
 // Of several longest groups the last is given.
