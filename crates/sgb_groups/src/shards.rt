@@ -1,6 +1,7 @@
 //! The shards of a slice: parts that end where groups end, to be walked apart.
-ghost use Rattle.std.specs.Prelude.{◌≡◌, ◌<◌, Bool, List, length};
-ghost use Rattle.std.specs.Iterator.{at_most};
+ghost use Rattle.std.specs.Prelude.{◌≡◌, ◌<◌, Bool, List, length, nat_eq, IfSome, if◌then◌else◌};
+ghost use Rattle.std.specs.Iterator.{UpTo, at_most};
+ghost use Rattle.std.specs.Iterator.SizeHint.{IsWithinCount};
 ghost use Rattle.std.proofs.lemmas.Iterator.{YieldsList};
 ghost use Rattle.sgb_search.specs.Calls.{IsCallableBy};
 ghost use Rattle.sgb_groups.specs.Gives.{groups_of};
@@ -84,6 +85,18 @@ impl<'a, T, J: Judge<T> + Drop, W: Way> Iterator for Shards<'a, T, J, W> {
         let shard = self.groups.take_shard((len - 1) / self.count.max(1));
         self.count = self.count.saturating_sub(1);
         Some(shard)
+    }
+
+    /// No parts where nothing remains, and else at least one and at most as many as elements remain.
+    #[inline]
+    fn size_hint(&self) -> (usize, Option<usize>)
+        ensures value { result ≡ (if nat_eq (length (groups_to_cut self.now).remainder) 0 then (0, Some 0)
+            else (1, Some (length (groups_to_cut self.now).remainder))) }
+        ensures lower { IsWithinCount result.0 (at_most (length (groups_to_cut self.now).remainder)) }
+        ensures upper { IfSome result.1 (UpTo (at_most (length (groups_to_cut self.now).remainder))) }
+    {
+        let len = self.groups.remainder_len();
+        (len.min(1), Some(len))
     }
 }
 
