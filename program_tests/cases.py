@@ -133,7 +133,10 @@ CASES = [
 ]
 
 ROWS = b"".join(b"%08d,a value of some length\n" % key for key in range(780_000))
-LONG_ROWS = b"".join(b"%06d,%s\n" % (key, b"v" * (60_000 if key * key % 1009 == 1 or key ** 3 % 4001 == 7 else key % 60)) for key in range(100_000))
+LONG_ROWS = b"".join(
+    b"%06d,%s\n" % (key, b"v" * (60_000 if key * key % 1009 == 1 or key ** 3 % 4001 == 7 else key % 60))
+    for key in range(100_000)
+)
 
 # Files that cannot be read, how they are named, and why.
 UNREADABLE = [("miss\ning\x1b\x7fé", r"miss\ning\u{1b}\u{7f}é", 2), (".", ".", 21)]

@@ -136,7 +136,8 @@ pub fn streams_count_keys<
         → (elements : ℕ) (block : List T) (f : F) (before after : Option K) (begins : Bool) (s t : Parts S)
         (parts : List (Bool × S.Item))
         → AsksEnds F.FnMut K.eq block f before begins after (S.groups (groups_in s)).judge.func
-        → (S.groups (groups_in s)).remainder ≡ block → Yields (GivesPart (S.GroupQueue.gives Front)) s parts t → (S.groups (groups_in t)).remainder ≡ []
+        → (S.groups (groups_in s)).remainder ≡ block
+        → Yields (GivesPart (S.GroupQueue.gives Front)) s parts t → (S.groups (groups_in t)).remainder ≡ []
         → (each * (2 * elements) < limit → (counter f).now ≡ each * (2 * elements))
         → ((counter (S.groups (groups_in t)).judge.func).ghost_name ≡ (counter f).ghost_name)
         × (each * (2 * (elements + length block)) < limit

@@ -15,24 +15,16 @@ returns-clause-kept g c k h =
 
 pub returns-in-Some-replace-clause-asks : goal.returns-in-Some-replace-clause-asks
 returns-in-Some-replace-clause-asks g c =
-    let calls : CallsTwice g.F.FnMut c.in-Some.first.now c.in-Some.last.now c.args.key.now c.key_of-last_key.new.key = record {
-      between = c.key_of-first_key.new.key;
-      first_key = c.key_of-first_key.result;
-      last_key = c.key_of-last_key.result;
-      first_call = c.key_of-first_key.ensures.called;
-      last_call = c.key_of-last_key.ensures.called;
-    } in
+    let first = c.key_of-first_key.ensures.called in
+    let last = c.key_of-last_key.ensures.called in
+    let calls : CallsTwice _ _ _ _ _ = record { between = _; first_key = _; last_key = _; first_call = first; last_call = last } in
     let kept : kept_of c.args.self.now ≡ Some c.in-Some-replace.before = sym c.replace.ensures.value ∙ c.in-Some-replace.is in
     rw (c.in-Some.ensures.0, c.in-Some.ensures.1, kept) (calls, ap not c.eq.ensures, c.replace.ensures.after)
 
 pub returns-clause-asks : goal.returns-clause-asks
 returns-clause-asks g c =
-    let calls : CallsTwice g.F.FnMut c.in-Some.first.now c.in-Some.last.now c.args.key.now c.key_of-last_key.new.key = record {
-      between = c.key_of-first_key.new.key;
-      first_key = c.key_of-first_key.result;
-      last_key = c.key_of-last_key.result;
-      first_call = c.key_of-first_key.ensures.called;
-      last_call = c.key_of-last_key.ensures.called;
-    } in
+    let first = c.key_of-first_key.ensures.called in
+    let last = c.key_of-last_key.ensures.called in
+    let calls : CallsTwice _ _ _ _ _ = record { between = _; first_key = _; last_key = _; first_call = first; last_call = last } in
     let kept : kept_of c.args.self.now ≡ None = sym c.replace.ensures.value ∙ c.in-None.is in
     rw (c.in-Some.ensures.0, c.in-Some.ensures.1, kept) (calls, refl, c.replace.ensures.after)
