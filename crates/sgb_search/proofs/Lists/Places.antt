@@ -1,11 +1,9 @@
 -- Where the part of a list between two places stands in it, and where two parts stand that stood together.
-use Rattle.std.proofs.Common.{◌≡◌, ℕ, ◌+◌, ◌-◌, ◌≤◌, Bool, true, List, [], ◌∷◌, ◌++◌, length, take, drop, min, length-append, sym, ap, ◌∙◌, arith}
-use Rattle.std.proofs.Math.Nat.{min-eq_left, min-le_right}
+use Rattle.std.proofs.Common.{◌≡◌, ℕ, ◌+◌, ◌-◌, ◌≤◌, Bool, true, List, [], ◌∷◌, ◌++◌, length, take, drop, length-append, sym, ap, ◌∙◌, arith}
 use Rattle.std.proofs.Math.Seq.{take-append_seam, drop-append_seam}
 use Rattle.std.proofs.lemmas.List.{take-take, drop-take, drop-drop}
 use Rattle.std.specs.Prelude.{slice_range}
-use Rattle.sgb_search.specs.declared.end.End.TheVariants.{Front}
-use Rattle.sgb_search.specs.Calls.{Place, StandsAt, place_after, between}
+use Rattle.sgb_search.specs.Calls.{Place, StandsAt, between}
 use Rattle.sgb_search.proofs.Lists.Between.{is_range, ends_at, are_places}
 
 -- an empty part stands everywhere

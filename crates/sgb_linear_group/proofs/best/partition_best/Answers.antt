@@ -1,4 +1,4 @@
-use Rattle.std.proofs.Common.{◌≡◌, ◌≤◌, ◌<◌, ◌+◌, ◌-◌, ◌∷◌, [], length, take, drop, Some, refl, sym, ap, ◌∙◌, arith, ℕ}
+use Rattle.std.proofs.Common.{◌≡◌, ◌≤◌, ◌<◌, ◌+◌, ◌-◌, length, take, drop, Some, refl, sym, ap, ◌∙◌, arith, ℕ}
 use Rattle.std.specs.Prelude.{slice_range}
 use Rattle.std.specs.Fn.{CalledAtTwo}
 use Rattle.std.proofs.lemmas.List.{drop_all, drop-drop, length-drop, take_all}
@@ -7,8 +7,7 @@ use Rattle.sgb_search.specs.Calls.{CallAt}
 use Rattle.sgb_search.specs.Linear.{LinearQuestions}
 use Rattle.sgb_search.specs.declared.end.End.TheVariants.{Front}
 use Rattle.sgb_search.proofs.Linear.LinearQueue.{keeps}
-use Rattle.sgb_linear_group.specs.Best.{Keeps, KeepsOfEach}
-use Rattle.sgb_linear_group.proofs.BestOf.{call_at, each_more, stands_at, swapped_kept, swapped_rest, yields_more}
+use Rattle.sgb_linear_group.proofs.BestOf.{call_at, each_more, swapped_kept, swapped_rest, yields_more}
 use Rattle.sgb_linear_group.proofs.best.partition_best.Goals as goal
 
 pub loop-rest-preserved : goal.loop-rest-preserved
