@@ -60,8 +60,7 @@ impl<'a, T, J, W> SliceGroups<'a, T, J, W> {
         ensures { MatchOption result ((groups_of self.now).remainder ≡ [])
             (λ p. (p.0 ≡ self.now.low) × (p.1 ≡ self.now.high) × (p.0 < p.1) × (p.1 ≤ length self.now.slice.now)) }
     {
-        // That the places lie in order and within the slice is tested here, and not kept of the fields: what is kept of a struct
-        // that holds a closure hides from callers what the closure captured.
+        // Tested on each call: an invariant on a struct that holds a closure would hide the closure's captures from callers' proofs.
         if self.low < self.high && self.high <= self.slice.len() {
             Some((self.low, self.high))
         } else {
@@ -198,10 +197,15 @@ impl<'a, T, J: Judge<T> + Drop, W: Way> SliceGroups<'a, T, J, W> {
     {
         self.next_back()
     }
+}
 
-    // The group at the end. Each caller names its end, and gets a copy for that end alone.
+impl<'a, T, J: Judge<T>, W: Way> SliceGroups<'a, T, J, W> {
+    ghost use Rattle.sgb_groups.specs.Gives.{groups_of, Gives};
+
+    /// The group at this end of the remainder, or `None` where nothing remains: what `next` and `next_back` give.
+    // Each caller names its end, and gets a copy for that end alone.
     #[inline(always)]
-    fn next_at(&mut self, end: &End) -> Option<&'a [T]>
+    pub fn next_at(&mut self, end: &End) -> Option<&'a [T]>
         requires { IsCallableBy (W.allowed T) J.Judge (groups_of self.old) }
         ensures gives { Gives (W.asks T J J.Judge) end.now self.old result self.new }
         ensures callable { IsCallableBy (W.allowed T) J.Judge (groups_of self.new) }

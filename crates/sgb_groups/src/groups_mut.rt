@@ -228,10 +228,15 @@ impl<'a, T, J: Judge<T> + Drop, W: Way> SliceGroupsMut<'a, T, J, W> {
             loans,
         }
     }
+}
 
-    // The group at the end. Each caller names its end, and gets a copy for that end alone.
+impl<'a, T, J: Judge<T>, W: Way> SliceGroupsMut<'a, T, J, W> {
+    ghost use Rattle.sgb_groups.specs.Gives.{GivesMut, groups_of_mut};
+
+    /// The group at this end of the remainder, or `None` where nothing remains: what `next` and `next_back` give.
+    // Each caller names its end, and gets a copy for that end alone.
     #[inline(always)]
-    fn next_at(&mut self, end: &End) -> Option<&'a mut [T]>
+    pub fn next_at(&mut self, end: &End) -> Option<&'a mut [T]>
         requires { IsCallableBy (W.allowed T) J.Judge (groups_of_mut self.old) }
         ensures gives { GivesMut (W.asks T J J.Judge) end.now self.old result self.new }
         ensures callable { IsCallableBy (W.allowed T) J.Judge (groups_of_mut self.new) }

@@ -24,8 +24,8 @@ impl<'a, T, J: Judge<T> + Drop, W: Way> SliceGroups<'a, T, J, W> {
     /// Cuts the remainder where groups end, into at most `count` parts of about the same length (0 counts as 1). None is empty. The
     /// groups of the parts are the groups of the whole, so that each part can be walked apart, also in threads of yours.
     ///
-    /// Each part is its share of what remains, with the rest of the group in which the share ends: a call asks what one call of these
-    /// groups asks that begins with the last element of the share. Long groups leave fewer parts.
+    /// A part is its share of what remains, with the rest of the group that the share ends in. It costs one call of these groups, from
+    /// the last element of the share on. Long groups leave fewer parts.
     ///
     /// If the judge depends only on its arguments, `laws::sees_shards` says what a loop or an adapter sees. Binary and exponential
     /// groups need a grouped slice.

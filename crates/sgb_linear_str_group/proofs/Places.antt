@@ -65,7 +65,7 @@ part_is_between text part start u part_u some stands =
     (omega (arith, stands.within), λ l h. rw byte at ((IsCharBoundary-start part part_u).1 some (rw (← byte) at h))) in (
       start_is,
       IsCharBoundary-from_rest text start (length part) start_is.0 (IsCharBoundary-from_take rest (length part)
-      (IsUtf8-drop text start u start_is) (omega (arith, stands.within, length-drop start text)) (rw front part_u)),
+          (IsUtf8-drop text start u start_is) (omega (arith, stands.within, length-drop start text)) (rw front part_u)),
     )
 
 -- a text is the part between its ends

@@ -189,10 +189,15 @@ impl<'a, J: TextJudge + Drop> LinearStrGroups<'a, J> {
     {
         self.next_back()
     }
+}
 
-    // The group at the end. Each caller names its end, and gets a copy for that end alone.
+impl<'a, J: TextJudge> LinearStrGroups<'a, J> {
+    ghost use Rattle.sgb_linear_str_group.specs.Texts.{GivesText};
+
+    /// The group at this end of the remainder, or `None` where nothing remains: what `next` and `next_back` give.
+    // Each caller names its end, and gets a copy for that end alone.
     #[inline(always)]
-    fn next_at(&mut self, end: &End) -> Option<&'a str>
+    pub fn next_at(&mut self, end: &End) -> Option<&'a str>
         requires { IsCallableBy AreNeighbours J.Judge (in_characters (text_groups_of self.old)) }
         ensures gives { GivesText J.Judge end.now self.old result self.new }
         ensures callable { IsCallableBy AreNeighbours J.Judge (in_characters (text_groups_of self.new)) }

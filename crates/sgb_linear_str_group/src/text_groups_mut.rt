@@ -219,10 +219,15 @@ impl<'a, J: TextJudge + Drop> LinearStrGroupsMut<'a, J> {
             loans,
         }
     }
+}
 
-    // The group at the end. Each caller names its end, and gets a copy for that end alone.
+impl<'a, J: TextJudge> LinearStrGroupsMut<'a, J> {
+    ghost use Rattle.sgb_linear_str_group.specs.TextsMut.{text_groups_of_mut, GivesTextMut};
+
+    /// The group at this end of the remainder, or `None` where nothing remains: what `next` and `next_back` give.
+    // Each caller names its end, and gets a copy for that end alone.
     #[inline(always)]
-    fn next_at(&mut self, end: &End) -> Option<&'a mut [u8]>
+    pub fn next_at(&mut self, end: &End) -> Option<&'a mut [u8]>
         requires { IsCallableBy AreNeighbours J.Judge (in_characters (text_groups_of_mut self.old)) }
         ensures gives { GivesTextMut J.Judge end.now self.old result self.new }
         ensures callable { IsCallableBy AreNeighbours J.Judge (in_characters (text_groups_of_mut self.new)) }

@@ -67,7 +67,7 @@ pub fn halve<A, P: Places<A>>(
 {
     let mut from = low;
     let mut upto = high;
-    // As many as are left, or one more: so it halves whatever the answer is, and the next question need not wait for it.
+    // `size` may exceed `upto - from` by one. Halving it regardless of the answer keeps the loop free of branches.
     let mut size = high - low;
     while from < upto {
         let middle = from + (size - 1) / 2;

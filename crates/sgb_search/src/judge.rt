@@ -96,7 +96,7 @@ impl<T, P: FnMut(&T, &T) -> bool> Judge<T> for PredicateJudge<P> {
 }
 
 /// Asks for the keys: a call of the key function on the first element of a question, then one on the second, then `==` of the
-/// two keys. How often the keys are compared, and which way round, no contract can say: it is read in the body of `ask`.
+/// two keys. How often the keys are compared, and which way round, was reviewed by hand.
 #[derive(Drop)]
 pub struct KeyJudge<F, K> {
     pub func: F,
@@ -193,7 +193,7 @@ impl<K: PartialEq + Drop, F: FnMut(char) -> K> Judge<char> for CharKeyJudge<F, K
 /// Asks `==` of the elements. It may always be asked.
 ///
 /// It counts its questions, for contracts alone: the number takes no bytes, and no code can read it. That a question is one
-/// `==`, and that no other is made, no contract can say: it is read in the body of `ask`, and tested.
+/// `==`, and that no other is made, is tested.
 #[derive(Drop)]
 pub struct EqualityJudge {
     pub ghost asked: { ℕ },

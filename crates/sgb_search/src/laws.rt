@@ -128,8 +128,8 @@ pub fn pairs_are_elements<T>()
     ensures apart { (xs : List T) (q : T × T) → AreApart xs q → Contains xs q.0 × Contains xs q.1 }
 {}
 
-/// A predicate that may be called in each of its states on each neighbouring pair of a slice, the left element first, or on every
-/// two different places, in both orders: its judge may be asked about them.
+/// If a predicate may be called in each of its states on each neighbouring pair of a slice, linear groups by it may be made (`along`).
+/// If it may be called on any two different places, in both orders, binary and exponential ones may be (`apart`).
 pub fn callable_on_pairs<T, P: FnMut(&T, &T) -> bool>()
     ensures along { (xs : List T) → ((p : P) (q : T × T) → AreNeighbours xs q → TakesAtTwo P.FnMut p q.0 q.1)
         → (predicate : P) → IsCallableBy AreNeighbours (by_predicate P.FnMut)

@@ -159,8 +159,7 @@ where
     exponential_partition_point_ref(slice, &mut pred)
 }
 
-/// The partition point by a predicate that is lent: it gives and asks what `exponential_partition_point` does, and the predicate
-/// comes back in the state that just these questions lead to, to be called again.
+/// `exponential_partition_point` with a borrowed predicate, so that you can call it again, or read what it counted.
 ///
 /// ```
 /// let mut asked = 0u32;

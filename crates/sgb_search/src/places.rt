@@ -40,8 +40,8 @@ fn places<T, K, L: Test<K>, E: Test<K>, F: FnMut(&T) -> K>(
 /// The slice should be sorted so that the comparator answers `Less` of its first elements, then `Equal`, then `Greater`, each perhaps
 /// of none.
 ///
-/// It gallops to both ends, to the first from the first element of the slice, to the second from there on, so it is cheap
-/// where few elements come before the equal ones and few are equal. A call that passes over m elements and finds n asks at
+/// It gallops from the front to the first equal element, and from there to the last, so it is cheap where few elements come
+/// before the equal ones and few are equal. A call that passes over m elements and finds n asks at
 /// most `2 * digits(m + 1) + 2 * digits(n + 1) + 2` questions, whatever the comparator answers. On any slice, if the
 /// comparator depends only on its argument, its answers show both ends (`IsLocalRangeAt`).
 ///
@@ -74,8 +74,7 @@ where
     exponential_equal_places_by_ref(slice, &mut f)
 }
 
-/// The places of the equal elements by a comparator that is lent: it gives and asks what `exponential_equal_places_by` does, and the
-/// comparator comes back in the state that just these questions lead to, to be called again.
+/// `exponential_equal_places_by` with a borrowed comparator, so that you can call it again, or read what it counted.
 ///
 /// ```
 /// let mut asked = 0u32;
@@ -166,7 +165,7 @@ where
     exponential_equal_places_by_key_ref(slice, b, &mut f)
 }
 
-/// `exponential_equal_places_by_key` with a key function that is lent: it comes back in the state that just these calls lead to.
+/// `exponential_equal_places_by_key` with a borrowed key function, so that you can call it again, or read what it counted.
 ///
 /// ```
 /// let mut called = 0u32;

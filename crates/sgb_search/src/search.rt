@@ -88,11 +88,10 @@ where
     exponential_search_by_ref(slice, &mut f)
 }
 
-/// Searches a slice with a comparator that it is lent: it answers and asks what `exponential_search_by` does.
+/// `exponential_search_by` with a borrowed comparator, so that you can call it again, or read what it counted.
 ///
-/// The comparator comes back in the state that just these questions lead to. So where each call raises a number that it
-/// captured by one, the number is raised by at most `2 * digits(i + 1) + 1` (`laws::search_counts`). It may be called on
-/// each element again, and answers what it answered.
+/// Where each call raises a number that the comparator captured by one, the number is raised by at most
+/// `2 * digits(i + 1) + 1` (`laws::search_counts`).
 ///
 /// ```
 /// let mut asked = 0u32;
@@ -172,8 +171,8 @@ where
     exponential_search_by_key_ref(slice, b, &mut f)
 }
 
-/// Searches a slice for a key by a key function that it is lent: it answers and asks what `exponential_search_by_key` does,
-/// and the function comes back in the state that just these calls lead to (`laws::search_counts`).
+/// `exponential_search_by_key` with a borrowed key function, so that you can call it again, or read what it counted
+/// (`laws::search_counts`).
 ///
 /// ```
 /// let mut called = 0u32;

@@ -60,9 +60,9 @@ impl<T: Copy> StreamGroups<T> {
         }
     }
 
-    /// The parts that the block has of the groups by a predicate. It is called on the last element before the block and
-    /// the block's first at once, and on the neighbours in the block as the parts are taken: over all blocks that is
-    /// one linear walk.
+    /// The parts that the block has of the groups by a predicate. When the block comes, it is called on the last element
+    /// before and the block's first; on neighbours in the block, as you take the parts. Over all blocks that is one linear
+    /// walk.
     ///
     /// The block has come then, whether or not its parts are taken.
     #[inline]

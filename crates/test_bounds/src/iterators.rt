@@ -1,7 +1,7 @@
 //! What the types are: iterators that stay at their end, queues, what may be shown and what may cross threads.
 ghost use Rattle.std.specs.Prelude.{◌≡◌, length};
 
-use slice_group_by::adapters::{DedupWithCount, Keyed, Offsets, WithKeys, WithOffsets};
+use slice_group_by::adapters::{DedupWithCount, Offsets, WithKeys, WithOffsets};
 use slice_group_by::laws::{RemainderLen, SliceQueue, SliceQueueMut};
 use slice_group_by::loans::{Ended, Loans};
 use slice_group_by::*;
@@ -13,7 +13,7 @@ fn is_read<'a, T: 'a, Q: FusedIterator + SliceQueue<'a, T> + Offsets>(_groups: &
 
 fn is_written<'a, T: 'a, Q: FusedIterator + SliceQueueMut<'a, T> + RemainderLen>(_groups: &Q) {}
 
-fn is_queue<Q: DoubleEndedIterator + FusedIterator + RemainderLen>(_groups: &Q) {}
+fn is_queue<Q: DoubleEndedIterator + FusedIterator + GroupQueue + RemainderLen>(_groups: &Q) {}
 
 fn is_shown<W: Debug>(_value: &W) {}
 
@@ -64,17 +64,15 @@ pub fn of_texts<P: FnMut(char, char) -> bool, F: FnMut(char) -> K, K: PartialEq 
     is_queue(by_key.1);
 }
 
-pub fn groups_with_keys<Q: Keyed + Drop>(groups: Q) -> WithKeys<Q> {
+pub fn groups_with_keys<Q>(groups: Q) -> WithKeys<Q> {
     groups.with_keys()
 }
 
-pub fn counted_groups<'a, T: 'a, Q: RemainderLen + SliceQueue<'a, T>>(
-    groups: Q,
-) -> DedupWithCount<'a, T, Q> {
+pub fn counted_groups<'a, T: 'a, Q: SliceQueue<'a, T>>(groups: Q) -> DedupWithCount<'a, T, Q> {
     dedup_with_count(groups)
 }
 
-pub fn groups_with_both<Q: Offsets + Keyed + Drop>(groups: Q) -> WithKeys<WithOffsets<Q>> {
+pub fn groups_with_both<Q>(groups: Q) -> WithKeys<WithOffsets<Q>> {
     groups.with_offsets().with_keys()
 }
 

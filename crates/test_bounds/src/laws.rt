@@ -117,9 +117,7 @@ pub fn of_keyed<Q: Keyed>(groups: &WithKeys<Q>) {
     sees_keys(groups);
 }
 
-pub fn of_counts<'a, T: 'a, Q: RemainderLen + SliceQueue<'a, T>>(
-    groups: &DedupWithCount<'a, T, Q>,
-) {
+pub fn of_counts<'a, T: 'a, Q: SliceQueue<'a, T>>(groups: &DedupWithCount<'a, T, Q>) {
     sees_counts(groups);
 }
 

@@ -1,7 +1,7 @@
 -- Where the groups stand in the input that calls give.
-use Rattle.std.proofs.Common.{◌≡◌, ℕ, ◌+◌, ◌<◌, ◌^◌, List, [], ◌∷◌, length, Option, Some, map, refl, ap, ◌∙◌, subst, arith, length-append}
+use Rattle.std.proofs.Common.{◌≡◌, ℕ, ◌+◌, ◌<◌, ◌^◌, List, [], ◌∷◌, length, Option, None, Some, map, rules, refl, ap, ◌∙◌, subst, arith, length-append}
 use Rattle.std.specs.Borrow.{Bor}
-use Rattle.std.specs.Iterator.{Yields, AlwaysYields}
+use Rattle.std.specs.Iterator.{AlwaysYields, MakesProgress, Yields}
 use Rattle.std.specs.List.{AllByRecursion}
 use Rattle.std.specs.Str.{IsCharBoundary, IsUtf8}
 use Rattle.sgb_search.specs.Calls.{Place, StandsAt, place_after}
@@ -12,7 +12,7 @@ use Rattle.sgb_search.specs.declared.judge.Judge.{Ghosts}
 use Rattle.sgb_linear_str_group.specs.Texts.{GivesText, text_groups_of, text_place_of}
 use Rattle.sgb_linear_str_group.specs.declared.text_groups.LinearStrGroups.{LinearStrGroups}
 use Rattle.sgb_linear_str_group.proofs.Places.{part_is_between}
-use Rattle.slice_group_by.specs.Offsets.{with_offsets, TakesUnits, start_of, BeginsAt, GivesWithOffset}
+use Rattle.slice_group_by.specs.Offsets.{with_offsets, offsets_to_come, TakesUnits, start_of, BeginsAt, GivesWithOffset}
 use Rattle.slice_group_by.specs.declared.adapters.offsets.WithOffsets.{WithOffsets}
 
 module _ {Q I U : Type 0} (place : Q → Place U) (left : Q → List U) (units : I → List U) where
@@ -71,6 +71,15 @@ module _ {Q I U : Type 0} (place : Q → Place U) (left : Q → List U) (units :
       let next : (place y.0.groups).offset ≡ (place q.groups).offset + length (units x.1) = ap (λ (r : Place U). r.offset) moves in
       ap (λ l. (x.0, units x.1) ∷ l) (front_offsets y.0 t xs y.2 ∙ ap (λ n. with_offsets n (map (λ x. units x.1) xs)) next)
       ∙ ap (λ n. (n, units x.1) ∷ with_offsets ((place q.groups).offset + length (units x.1)) (map (λ x. units x.1) xs)) start
+
+  -- less remains after each group
+  pub progress : (can : WithOffsets Q → Type 0) (e : End) (q : WithOffsets Q) (r : Option (ℕ × I)) (t : WithOffsets Q) → steps e q r t
+      → can t → MakesProgress can (offsets_to_come left) q r t
+  progress can e q None t h c = record { on = λ f. tt; keeps = tt; rests = λ f. search rules }
+  progress can e q (Some x) t h c =
+      let taken = takes e q.groups x.1 t.groups h.0 in
+      let less = fewer place left units e q.groups x.1 t.groups taken in
+      record { on = λ f. (c, search rules, omega (arith, taken.nonempty, less)); keeps = c; rests = λ f. tt }
 
   -- what always yields parts yields each with its offset
   pub yields_offsets : (q : WithOffsets Q) (ps : List (List U)) → AlwaysYields (steps Front) (λ x. units x.1) q ps

@@ -10,6 +10,7 @@ ghost use Rattle.sgb_search.specs.declared.end.End.TheVariants.{Front, Back};
 ghost use Rattle.slice_group_by.specs.Dedup.{GivesCounted, counted, counted_groups, counts_to_come};
 ghost use Rattle.slice_group_by.specs.declared.adapters.dedup.DedupWithCount.{DedupWithCount};
 
+use crate::adapters::offsets::Offsets;
 use crate::laws::queue::{GroupQueue, RemainderLen, SliceQueue};
 use std::iter::FusedIterator;
 use std::marker::PhantomData;
@@ -30,9 +31,7 @@ pub struct DedupWithCount<'a, T, Q> {
 /// }
 /// ```
 #[inline]
-pub fn dedup_with_count<'a, T: 'a, Q: RemainderLen + SliceQueue<'a, T>>(
-    groups: Q,
-) -> DedupWithCount<'a, T, Q>
+pub fn dedup_with_count<'a, T: 'a, Q: SliceQueue<'a, T>>(groups: Q) -> DedupWithCount<'a, T, Q>
     ensures { counted_groups result ≡ groups }
 {
     DedupWithCount {
@@ -43,9 +42,7 @@ pub fn dedup_with_count<'a, T: 'a, Q: RemainderLen + SliceQueue<'a, T>>(
 
 /// What a loop or an adapter sees of the lengths and first elements of groups that are settled for a test: those of the
 /// pieces of the split, in order, and from the back in reverse.
-pub fn sees_counts<'a, T: 'a, Q: RemainderLen + SliceQueue<'a, T>>(
-    _groups: &DedupWithCount<'a, T, Q>,
-)
+pub fn sees_counts<'a, T: 'a, Q: SliceQueue<'a, T>>(_groups: &DedupWithCount<'a, T, Q>)
     ensures pieces { (p : T → T → Bool) (e : End) (s : DedupWithCount T Q) → Q.GroupQueue.is_settled (counted_groups s) p
         → YieldsList (GivesCounted Q.GroupQueue.gives e) (λ x. (x.0, x.1.now)) s
         (counted (from e (split p (Q.GroupQueue.remainder (counted_groups s))))) }
@@ -54,7 +51,7 @@ pub fn sees_counts<'a, T: 'a, Q: RemainderLen + SliceQueue<'a, T>>(
         → map (λ x. (x.0, x.1.now)) items ≡ counted (from e (split p (Q.GroupQueue.remainder (counted_groups s)))) }
 {}
 
-impl<'a, T: 'a, Q: RemainderLen + SliceQueue<'a, T> + Drop> Iterator for DedupWithCount<'a, T, Q> {
+impl<'a, T: 'a, Q: Offsets + SliceQueue<'a, T> + Drop> Iterator for DedupWithCount<'a, T, Q> {
     type Item = (usize, &'a T);
 
     ghost use Rattle.slice_group_by.specs.Dedup.{GivesCounted, counts_to_come};
@@ -85,7 +82,7 @@ impl<'a, T: 'a, Q: RemainderLen + SliceQueue<'a, T> + Drop> Iterator for DedupWi
     }
 }
 
-impl<'a, T: 'a, Q: RemainderLen + SliceQueue<'a, T> + Drop> DoubleEndedIterator
+impl<'a, T: 'a, Q: Offsets + SliceQueue<'a, T> + Drop> DoubleEndedIterator
     for DedupWithCount<'a, T, Q> {
     ghost use Rattle.slice_group_by.specs.Dedup.{GivesCounted};
 
@@ -101,5 +98,4 @@ impl<'a, T: 'a, Q: RemainderLen + SliceQueue<'a, T> + Drop> DoubleEndedIterator
     }
 }
 
-impl<'a, T: 'a, Q: RemainderLen + SliceQueue<'a, T> + Drop> FusedIterator
-    for DedupWithCount<'a, T, Q> {}
+impl<'a, T: 'a, Q: Offsets + SliceQueue<'a, T> + Drop> FusedIterator for DedupWithCount<'a, T, Q> {}

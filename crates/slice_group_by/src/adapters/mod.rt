@@ -3,8 +3,6 @@ ghost use Rattle.std.specs.Prelude.{◌≡◌};
 ghost use Rattle.slice_group_by.specs.Offsets.{groups_under};
 ghost use Rattle.slice_group_by.specs.Keyed.{groups_within};
 
-use crate::laws::queue::GroupQueue;
-
 pub(crate) mod dedup;
 pub(crate) mod keyed;
 pub(crate) mod offsets;
@@ -14,7 +12,7 @@ pub use keyed::{Keyed, WithKeys};
 pub use offsets::{Offsets, WithOffsets};
 
 /// Adapters of groups, as methods. What they give are iterators from both ends over the groups that are still to come.
-pub trait GroupAdapters: GroupQueue {
+pub trait GroupAdapters: Sized {
     /// Each group with the offset at which it begins in the input: its first element of a slice, its first byte of a text. That the
     /// offset and the length of the group add up without overflow is known in each turn of a loop.
     ///
@@ -25,8 +23,6 @@ pub trait GroupAdapters: GroupQueue {
     /// ```
     #[inline]
     fn with_offsets(self) -> WithOffsets<Self>
-    where
-        Self: Offsets + Sized,
         ensures { groups_under result ≡ self }
     {
         WithOffsets { groups: self }
@@ -48,12 +44,10 @@ pub trait GroupAdapters: GroupQueue {
     /// ```
     #[inline]
     fn with_keys(self) -> WithKeys<Self>
-    where
-        Self: Keyed + Sized,
         ensures { groups_within result ≡ self }
     {
         WithKeys { groups: self }
     }
 }
 
-impl<Q: GroupQueue> GroupAdapters for Q {}
+impl<Q> GroupAdapters for Q {}

@@ -31,7 +31,7 @@ use std::iter::FusedIterator;
 /// groups.next();   // Some([1, 1])
 /// groups.offset(); // 2
 /// ```
-pub trait Offsets: RemainderLen {
+pub trait Offsets: GroupQueue + RemainderLen {
     // The input, and where the remainder begins in it.
     ghost place: { Self → Place Self.Unit };
 
@@ -77,7 +77,7 @@ pub fn groups_stand<Q: Offsets>(_groups: &WithOffsets<Q>)
 {}
 
 /// The groups of a text begin and end between characters, so that `&text[start..end]` is a text.
-pub fn texts_stand<'a, J: TextJudge + Drop>(_groups: &WithOffsets<LinearStrGroups<'a, J>>)
+pub fn texts_stand<'a, J: TextJudge>(_groups: &WithOffsets<LinearStrGroups<'a, J>>)
     ensures { (e : End) (q t : WithOffsets (LinearStrGroups J)) (items : List (ℕ × Bor (List ℕ)))
         → IsUtf8 (text_place_of (groups_under q)).input
         → Yields (GivesWithOffset text_place_of (λ s. (text_groups_of s).text) (λ group. group.now) (GivesText J.Judge) e) q items t
@@ -99,9 +99,7 @@ impl<Q: Offsets + Drop> Iterator for WithOffsets<Q> {
     /// The first group of the remainder, and where it begins, or `None` where nothing remains.
     #[inline]
     fn next(&mut self) -> Option<(usize, Q::Item)> {
-        let offset = self.groups.offset();
-        let group = self.groups.pop_front()?;
-        Some((offset, group))
+        self.pop_front()
     }
 
     /// No groups where nothing remains, and else at least one and at most as many as elements or bytes remain.
@@ -127,13 +125,11 @@ impl<Q: Offsets + Drop> DoubleEndedIterator for WithOffsets<Q> {
     /// The last group of the remainder, and where it begins, or `None` where nothing remains.
     #[inline]
     fn next_back(&mut self) -> Option<(usize, Q::Item)> {
-        let end = self.groups.offset() + self.groups.remainder_len();
-        let group = self.groups.pop_back()?;
-        Some((end - Q::group_len(&group), group))
+        self.pop_back()
     }
 }
 
-impl<'a, T, J: Judge<T> + Drop, W: Way> Offsets for SliceGroups<'a, T, J, W> {
+impl<'a, T, J: Judge<T>, W: Way> Offsets for SliceGroups<'a, T, J, W> {
     ghost use Rattle.sgb_groups.specs.Gives.{place_of};
 
     ghost place = { place_of };
@@ -153,7 +149,7 @@ impl<'a, T, J: Judge<T> + Drop, W: Way> Offsets for SliceGroups<'a, T, J, W> {
     ghost takes = { λ e q group t h. record { nonempty = h.call.nonempty; part = h.call.cut; moves = h.place } };
 }
 
-impl<'a, J: TextJudge + Drop> Offsets for LinearStrGroups<'a, J> {
+impl<'a, J: TextJudge> Offsets for LinearStrGroups<'a, J> {
     ghost use Rattle.sgb_linear_str_group.specs.Texts.{text_place_of};
 
     ghost place = { text_place_of };
@@ -175,7 +171,7 @@ impl<'a, J: TextJudge + Drop> Offsets for LinearStrGroups<'a, J> {
 
 impl<Q: Offsets + Drop> FusedIterator for WithOffsets<Q> {}
 
-impl<Q: Offsets + Drop> GroupQueue for WithOffsets<Q> {
+impl<Q: Offsets> GroupQueue for WithOffsets<Q> {
     type Item = (usize, Q::Item);
 
     ghost use Rattle.std.specs.Prelude.{option_map};
@@ -204,12 +200,16 @@ impl<Q: Offsets + Drop> GroupQueue for WithOffsets<Q> {
 
     #[inline]
     fn pop_front(&mut self) -> Option<(usize, Q::Item)> {
-        self.next()
+        let offset = self.groups.offset();
+        let group = self.groups.pop_front()?;
+        Some((offset, group))
     }
 
     #[inline]
     fn pop_back(&mut self) -> Option<(usize, Q::Item)> {
-        self.next_back()
+        let end = self.groups.offset() + self.groups.remainder_len();
+        let group = self.groups.pop_back()?;
+        Some((end - Q::group_len(&group), group))
     }
 
     ghost part = { λ e s item t h. read_at_once (λ o. TakesPart e (Q.remainder s.groups) o (Q.remainder t.groups))
@@ -231,7 +231,7 @@ impl<Q: Offsets + Drop> GroupQueue for WithOffsets<Q> {
         (Q.GroupQueue.asks_due e s.groups (option_map (λ x. x.1) item) t.groups h.0) };
 }
 
-impl<Q: Offsets + Drop> RemainderLen for WithOffsets<Q> {
+impl<Q: RemainderLen> RemainderLen for WithOffsets<Q> {
     type Unit = Q::Unit;
 
     ghost left = { λ s. Q.RemainderLen.left s.groups };
@@ -240,11 +240,9 @@ impl<Q: Offsets + Drop> RemainderLen for WithOffsets<Q> {
     fn remainder_len(&self) -> usize {
         self.groups.remainder_len()
     }
-
-    ghost fewer = { λ e s item t h. Q.RemainderLen.fewer e s.groups item.1 t.groups h.0 };
 }
 
-impl<Q: Offsets + Keyed + Drop> Keyed for WithOffsets<Q> {
+impl<Q: Offsets + Keyed> Keyed for WithOffsets<Q> {
     type Key = Q::Key;
 
     ghost use Rattle.std.specs.Prelude.{option_map};
@@ -267,6 +265,8 @@ impl<Q: Offsets + Keyed + Drop> Keyed for WithOffsets<Q> {
     }
 
     ghost may_pop = { λ s callable. Q.Keyed.may_pop s.groups callable };
+
+    ghost fewer = { λ e s item t h. Q.Keyed.fewer e s.groups item.1 t.groups h.0 };
 
     ghost pop_has_key = { λ e s item t h. Q.Keyed.pop_has_key e s.groups item.1 t.groups h.0 };
 

@@ -33,9 +33,8 @@ pub fn families_agree<T, Q: GroupQueue<Element = T>, R: GroupQueue<Element = T>>
         → map (option_map Q.shows) out ≡ map (option_map R.shows) other }
 {}
 
-/// The standard library agrees: by its own contract, `chunk_by` with a predicate that computes a test gives the pieces of the one
-/// split, from both ends. So its chunks are the groups of every queue that is settled for the test, as of `LinearGroupBy` by that
-/// predicate.
+/// The standard library agrees. If a predicate computes a test, `chunk_by` gives the pieces of the one split by its own contract, from
+/// both ends. So its chunks are the groups of every queue that is settled for the test, such as `LinearGroupBy` by that predicate.
 pub fn chunk_by_agrees<T, F: FnMut(&T, &T) -> bool, Q: GroupQueue<Element = T>>(
     _chunks: &ChunkBy<'_, T, F>,
     _queue: &Q,

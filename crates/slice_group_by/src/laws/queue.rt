@@ -88,8 +88,8 @@ pub trait GroupQueue {
         → AsksWithin asked due exact q t };
 }
 
-/// A queue that knows how much remains: elements of a slice, bytes of a text.
-pub trait RemainderLen: GroupQueue {
+/// Groups that know how much remains: elements of a slice, bytes of a text.
+pub trait RemainderLen {
     type Unit;
 
     // What remains, in these units.
@@ -98,10 +98,6 @@ pub trait RemainderLen: GroupQueue {
     /// How much of the input no call has handed out yet.
     fn remainder_len(&self) -> usize
         ensures { result ≡ length (left self.now) };
-
-    // A group takes some of it.
-    ghost fewer: { (e : End) (q : Self) (group : Self.Item) (t : Self) → Self.gives e q (Some group) t
-        → length (left t) < length (left q) };
 }
 
 /// A queue whose groups are slices: what a group shows is what it holds.

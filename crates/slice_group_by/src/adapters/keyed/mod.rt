@@ -1,5 +1,5 @@
 //! Groups by a key, with their keys.
-ghost use Rattle.std.specs.Prelude.{◌≡◌, Bool, List, length, map, nat_eq, slice_get, Option, Some, IfSome};
+ghost use Rattle.std.specs.Prelude.{◌≡◌, ◌<◌, Bool, List, length, map, nat_eq, slice_get, Option, Some, IfSome};
 ghost use Rattle.std.specs.Prelude.{if◌then◌else◌, option_map};
 ghost use Rattle.std.specs.Iterator.{Drains, UpTo};
 ghost use Rattle.std.specs.Iterator.SizeHint.{IsWithinCount};
@@ -22,7 +22,7 @@ mod texts;
 /// let mut groups = LinearGroupByKey::new(&[10, 11, 20], |x| *x / 10);
 /// groups.first_key(&[20, 21].as_slice()); // 2
 /// ```
-pub trait Keyed: RemainderLen {
+pub trait Keyed: GroupQueue + RemainderLen {
     type Key;
 
     // The key function may be called on any element, in every state that its calls lead to.
@@ -50,6 +50,10 @@ pub trait Keyed: RemainderLen {
 
     // So groups may be asked for, and then the key function may be called still.
     ghost may_pop: { (q : Self) → key_callable q → Self.can_pop q };
+
+    // A group takes some of what remains.
+    ghost fewer: { (e : End) (q : Self) (group : Self.Item) (t : Self) → Self.gives e q (Some group) t
+        → length (Self.left t) < length (Self.left q) };
 
     ghost pop_has_key: { (e : End) (q : Self) (group : Self.Item) (t : Self) → Self.gives e q (Some group) t
         → has_key group };

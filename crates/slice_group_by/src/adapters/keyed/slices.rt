@@ -20,6 +20,7 @@ impl<'a, T, F: FnMut(&T) -> K, K: PartialEq + Drop, W: Way> Keyed
     ghost use Rattle.sgb_groups.proofs.Cuts.{call};
     ghost use Rattle.sgb_search.specs.Judges.{by_key};
     ghost use Rattle.sgb_search.specs.declared.judge.KeyJudge.{KeyJudge};
+    ghost use Rattle.sgb_search.proofs.Lists.Ends.{less_remains};
     ghost use Rattle.sgb_search.proofs.Questions.Closures as closures;
     ghost use Rattle.slice_group_by.specs.Keyed.{CallsAtFirst};
 
@@ -41,6 +42,8 @@ impl<'a, T, F: FnMut(&T) -> K, K: PartialEq + Drop, W: Way> Keyed
     }
 
     ghost may_pop = { λ q callable. closures.key_callable F.FnMut K.eq (W.allowed T (groups_of q).remainder) q.judge.func callable };
+
+    ghost fewer = { λ e q group t h. less_remains e group.now ((groups_of t).remainder) _ h.call.nonempty h.call.cut };
 
     ghost pop_has_key = { λ _ _ _ _ h. h.call.nonempty };
 
@@ -79,6 +82,7 @@ impl<'a, T, F: FnMut(&T) -> K, K: PartialEq + Drop, W: Way> Keyed
     ghost use Rattle.sgb_groups.specs.Gives.{groups_of_mut};
     ghost use Rattle.sgb_search.specs.Judges.{by_key};
     ghost use Rattle.sgb_search.specs.declared.judge.KeyJudge.{KeyJudge};
+    ghost use Rattle.sgb_search.proofs.Lists.Ends.{less_remains};
     ghost use Rattle.sgb_search.proofs.Questions.Closures as closures;
     ghost use Rattle.slice_group_by.specs.Keyed.{CallsAtFirst};
 
@@ -101,6 +105,8 @@ impl<'a, T, F: FnMut(&T) -> K, K: PartialEq + Drop, W: Way> Keyed
     }
 
     ghost may_pop = { λ q callable. closures.key_callable F.FnMut K.eq (W.allowed T q.remainder) q.judge.func callable };
+
+    ghost fewer = { λ e q group t h. less_remains e group.now (t.remainder) _ h.0.nonempty h.0.cut };
 
     ghost pop_has_key = { λ _ _ _ _ h. h.0.nonempty };
 
@@ -139,6 +145,7 @@ impl<'a, C: ByteClasses> Keyed for MaskGroups<'a, u8, ClassJudge<C>> {
     ghost use Rattle.sgb_masks.specs.Gives.{groups_of};
     ghost use Rattle.sgb_search.specs.Linear.{IsSettled};
     ghost use Rattle.sgb_search.proofs.Linear.LinearQueue as laws;
+    ghost use Rattle.sgb_search.proofs.Lists.Ends.{less_remains};
 
     ghost key_callable = { λ _. ⊤ };
 
@@ -157,6 +164,8 @@ impl<'a, C: ByteClasses> Keyed for MaskGroups<'a, u8, ClassJudge<C>> {
     }
 
     ghost may_pop = { λ _ _. tt };
+
+    ghost fewer = { λ e q group t h. less_remains e group.now (groups_of t).remainder _ h.call.nonempty h.call.cut };
 
     ghost pop_has_key = { λ _ _ _ _ h. h.call.nonempty };
 

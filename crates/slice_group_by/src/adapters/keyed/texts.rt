@@ -13,6 +13,7 @@ impl<'a, F: FnMut(char) -> K, K: PartialEq + Drop> Keyed
     ghost use Rattle.std.specs.Str.{chars};
     ghost use Rattle.std.proofs.Common.{ap};
     ghost use Rattle.sgb_search.specs.Judges.{by_char_key, CalledAtChar, ComputesCharKey};
+    ghost use Rattle.sgb_search.proofs.Lists.Ends.{less_remains};
     ghost use Rattle.sgb_search.proofs.Questions.Closures as closures;
     ghost use Rattle.sgb_linear_str_group.specs.Texts.{text_groups_of, text_place_of};
     ghost use Rattle.sgb_linear_str_group.proofs.Queue as queue;
@@ -38,6 +39,8 @@ impl<'a, F: FnMut(char) -> K, K: PartialEq + Drop> Keyed
     }
 
     ghost may_pop = { λ q callable. closures.char_key_callable F.FnMut K.eq (chars (text_groups_of q).text) q.judge.func callable };
+
+    ghost fewer = { λ e q group t h. less_remains e group.now ((text_groups_of t).text) _ h.call.nonempty h.call.cut };
 
     ghost pop_has_key = { λ _ _ _ _ h. h.call.characters.nonempty };
 
@@ -67,6 +70,7 @@ impl<'a, F: FnMut(char) -> K, K: PartialEq + Drop> Keyed
     ghost use Rattle.std.specs.Str.{IsUtf8, chars};
     ghost use Rattle.std.proofs.Common.{ap};
     ghost use Rattle.sgb_search.specs.Judges.{by_char_key, CalledAtChar, ComputesCharKey};
+    ghost use Rattle.sgb_search.proofs.Lists.Ends.{less_remains};
     ghost use Rattle.sgb_search.proofs.Questions.Closures as closures;
     ghost use Rattle.sgb_linear_str_group.specs.TextsMut.{text_groups_of_mut};
     ghost use Rattle.sgb_linear_str_group.proofs.Queue as queue;
@@ -89,6 +93,8 @@ impl<'a, F: FnMut(char) -> K, K: PartialEq + Drop> Keyed
     }
 
     ghost may_pop = { λ q callable. closures.char_key_callable F.FnMut K.eq (chars q.text) q.judge.func callable };
+
+    ghost fewer = { λ e q group t h. less_remains e group.now (t.text) _ h.0.nonempty h.0.cut };
 
     ghost pop_has_key = { λ _ _ _ _ h. (h.0.characters.nonempty, h.0.group_utf8) };
 

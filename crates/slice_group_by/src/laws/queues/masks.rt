@@ -83,7 +83,6 @@ impl<'a, T, J: MaskJudge<T> + Drop> RemainderLen for MaskGroups<'a, T, J> {
     type Unit = T;
 
     ghost use Rattle.sgb_masks.specs.Gives.{groups_of};
-    ghost use Rattle.sgb_search.proofs.Lists.Ends.{less_remains};
 
     ghost left = { λ q. (groups_of q).remainder };
 
@@ -91,8 +90,6 @@ impl<'a, T, J: MaskJudge<T> + Drop> RemainderLen for MaskGroups<'a, T, J> {
     fn remainder_len(&self) -> usize {
         MaskGroups::remainder_len(self)
     }
-
-    ghost fewer = { λ e q group t h. less_remains e group.now (groups_of t).remainder _ h.call.nonempty h.call.cut };
 }
 
 impl<'a, T, J: MaskJudge<T> + Drop> Offsets for MaskGroups<'a, T, J> {

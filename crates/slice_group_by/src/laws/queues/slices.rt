@@ -6,9 +6,10 @@ use crate::laws::queue::{GroupQueue, RemainderLen, SliceQueue, SliceQueueMut};
 use sgb_groups::groups::SliceGroups;
 use sgb_groups::groups_mut::SliceGroupsMut;
 use sgb_groups::way::Way;
+use sgb_search::end::End;
 use sgb_search::judge::Judge;
 
-impl<'a, T, J: Judge<T> + Drop, W: Way> GroupQueue for SliceGroups<'a, T, J, W> {
+impl<'a, T, J: Judge<T>, W: Way> GroupQueue for SliceGroups<'a, T, J, W> {
     type Item = &'a [T];
 
     ghost use Rattle.std.specs.Prelude.{option_copied};
@@ -39,12 +40,12 @@ impl<'a, T, J: Judge<T> + Drop, W: Way> GroupQueue for SliceGroups<'a, T, J, W> 
 
     #[inline]
     fn pop_front(&mut self) -> Option<&'a [T]> {
-        self.next()
+        self.next_at(&End::Front)
     }
 
     #[inline]
     fn pop_back(&mut self) -> Option<&'a [T]> {
-        self.next_back()
+        self.next_at(&End::Back)
     }
 
     ghost part = { λ e s group t h. part (W.asks T J J.Judge) e (groups_of s) (option_copied group) (groups_of t)
@@ -67,10 +68,9 @@ impl<'a, T, J: Judge<T> + Drop, W: Way> GroupQueue for SliceGroups<'a, T, J, W> 
         (call (W.asks T J J.Judge) e s group t h)) };
 }
 
-impl<'a, T, J: Judge<T> + Drop, W: Way> RemainderLen for SliceGroups<'a, T, J, W> {
+impl<'a, T, J, W> RemainderLen for SliceGroups<'a, T, J, W> {
     type Unit = T;
 
-    ghost use Rattle.sgb_search.proofs.Lists.Ends.{less_remains};
     ghost use Rattle.sgb_groups.specs.Gives.{groups_of};
 
     ghost left = { λ q. (groups_of q).remainder };
@@ -79,15 +79,13 @@ impl<'a, T, J: Judge<T> + Drop, W: Way> RemainderLen for SliceGroups<'a, T, J, W
     fn remainder_len(&self) -> usize {
         SliceGroups::remainder_len(self)
     }
-
-    ghost fewer = { λ e q group t h. less_remains e group.now ((groups_of t).remainder) _ h.call.nonempty h.call.cut };
 }
 
-impl<'a, T: 'a, J: Judge<T> + Drop, W: Way> SliceQueue<'a, T> for SliceGroups<'a, T, J, W> {
+impl<'a, T: 'a, J: Judge<T>, W: Way> SliceQueue<'a, T> for SliceGroups<'a, T, J, W> {
     ghost shows_now = { λ _. refl };
 }
 
-impl<'a, T, J: Judge<T> + Drop, W: Way> Judged<T, J, W> for SliceGroups<'a, T, J, W> {
+impl<'a, T, J: Judge<T>, W: Way> Judged<T, J, W> for SliceGroups<'a, T, J, W> {
     ghost use Rattle.sgb_groups.specs.Gives.{groups_of};
     ghost use Rattle.sgb_groups.proofs.Cuts as cuts;
 
@@ -97,7 +95,7 @@ impl<'a, T, J: Judge<T> + Drop, W: Way> Judged<T, J, W> for SliceGroups<'a, T, J
 }
 
 // What holds of the groups for reading holds of what these show.
-impl<'a, T, J: Judge<T> + Drop, W: Way> GroupQueue for SliceGroupsMut<'a, T, J, W> {
+impl<'a, T, J: Judge<T>, W: Way> GroupQueue for SliceGroupsMut<'a, T, J, W> {
     type Item = &'a mut [T];
 
     ghost use Rattle.std.specs.Option.{option_copied_mut};
@@ -127,12 +125,12 @@ impl<'a, T, J: Judge<T> + Drop, W: Way> GroupQueue for SliceGroupsMut<'a, T, J, 
 
     #[inline]
     fn pop_front(&mut self) -> Option<&'a mut [T]> {
-        self.next()
+        self.next_at(&End::Front)
     }
 
     #[inline]
     fn pop_back(&mut self) -> Option<&'a mut [T]> {
-        self.next_back()
+        self.next_at(&End::Back)
     }
 
     ghost part = { λ e s group t h. part (W.asks T J J.Judge) e (groups_of_mut s) (option_copied_mut group) (groups_of_mut t) h.0 };
@@ -151,10 +149,8 @@ impl<'a, T, J: Judge<T> + Drop, W: Way> GroupQueue for SliceGroupsMut<'a, T, J, 
         (W.asks_due T J J.Judge e (groups_of_mut s) (option_copied_mut group) (groups_of_mut t) h.0) };
 }
 
-impl<'a, T, J: Judge<T> + Drop, W: Way> RemainderLen for SliceGroupsMut<'a, T, J, W> {
+impl<'a, T, J, W> RemainderLen for SliceGroupsMut<'a, T, J, W> {
     type Unit = T;
-
-    ghost use Rattle.sgb_search.proofs.Lists.Ends.{less_remains};
 
     ghost left = { λ q. q.remainder };
 
@@ -162,15 +158,13 @@ impl<'a, T, J: Judge<T> + Drop, W: Way> RemainderLen for SliceGroupsMut<'a, T, J
     fn remainder_len(&self) -> usize {
         SliceGroupsMut::remainder_len(self)
     }
-
-    ghost fewer = { λ e q group t h. less_remains e group.now (t.remainder) _ h.0.nonempty h.0.cut };
 }
 
-impl<'a, T: 'a, J: Judge<T> + Drop, W: Way> SliceQueueMut<'a, T> for SliceGroupsMut<'a, T, J, W> {
+impl<'a, T: 'a, J: Judge<T>, W: Way> SliceQueueMut<'a, T> for SliceGroupsMut<'a, T, J, W> {
     ghost shows_now = { λ _. refl };
 }
 
-impl<'a, T, J: Judge<T> + Drop, W: Way> Judged<T, J, W> for SliceGroupsMut<'a, T, J, W> {
+impl<'a, T, J: Judge<T>, W: Way> Judged<T, J, W> for SliceGroupsMut<'a, T, J, W> {
     ghost use Rattle.sgb_groups.specs.Gives.{groups_of_mut};
 
     ghost groups = { groups_of_mut };
@@ -178,7 +172,7 @@ impl<'a, T, J: Judge<T> + Drop, W: Way> Judged<T, J, W> for SliceGroupsMut<'a, T
     ghost call = { λ e s group t h. h.0 };
 }
 
-impl<'a, T, J: Judge<T> + Drop, W: Way> Lends<T> for SliceGroupsMut<'a, T, J, W> {
+impl<'a, T, J: Judge<T>, W: Way> Lends<T> for SliceGroupsMut<'a, T, J, W> {
     ghost loans = { λ s. s.loans };
 
     ghost name = { λ group. group.ghost_name };

@@ -5,8 +5,9 @@ use sgb_linear_group::linear_group::Linear;
 use sgb_linear_str_group::text_groups::LinearStrGroups;
 use sgb_linear_str_group::text_groups_mut::LinearStrGroupsMut;
 use sgb_linear_str_group::text_judge::TextJudge;
+use sgb_search::end::End;
 
-impl<'a, J: TextJudge + Drop> GroupQueue for LinearStrGroups<'a, J> {
+impl<'a, J: TextJudge> GroupQueue for LinearStrGroups<'a, J> {
     type Item = &'a str;
 
     ghost use Rattle.std.specs.Prelude.{length, true};
@@ -38,12 +39,12 @@ impl<'a, J: TextJudge + Drop> GroupQueue for LinearStrGroups<'a, J> {
 
     #[inline]
     fn pop_front(&mut self) -> Option<&'a str> {
-        self.next()
+        self.next_at(&End::Front)
     }
 
     #[inline]
     fn pop_back(&mut self) -> Option<&'a str> {
-        self.next_back()
+        self.next_at(&End::Back)
     }
 
     ghost part = { λ e q r t h. laws.part J.Judge e text_groups_of (λ group. group.now) q r t
@@ -65,10 +66,9 @@ impl<'a, J: TextJudge + Drop> GroupQueue for LinearStrGroups<'a, J> {
         (laws.call J.Judge e q r t h) };
 }
 
-impl<'a, J: TextJudge + Drop> RemainderLen for LinearStrGroups<'a, J> {
+impl<'a, J> RemainderLen for LinearStrGroups<'a, J> {
     type Unit = u8;
 
-    ghost use Rattle.sgb_search.proofs.Lists.Ends.{less_remains};
     ghost use Rattle.sgb_linear_str_group.specs.Texts.{text_groups_of};
 
     ghost left = { λ q. (text_groups_of q).text };
@@ -77,11 +77,9 @@ impl<'a, J: TextJudge + Drop> RemainderLen for LinearStrGroups<'a, J> {
     fn remainder_len(&self) -> usize {
         LinearStrGroups::remainder_len(self)
     }
-
-    ghost fewer = { λ e q group t h. less_remains e group.now ((text_groups_of t).text) _ h.call.nonempty h.call.cut };
 }
 
-impl<'a, J: TextJudge + Drop> Judged<char, J, Linear> for LinearStrGroups<'a, J> {
+impl<'a, J: TextJudge> Judged<char, J, Linear> for LinearStrGroups<'a, J> {
     ghost use Rattle.sgb_linear_str_group.specs.Texts.{text_groups_of, in_characters};
     ghost use Rattle.sgb_linear_str_group.proofs.Queue as queue;
 
@@ -91,7 +89,7 @@ impl<'a, J: TextJudge + Drop> Judged<char, J, Linear> for LinearStrGroups<'a, J>
         (queue.call J.Judge e s group t h) };
 }
 
-impl<'a, J: TextJudge + Drop> OfText for LinearStrGroups<'a, J> {
+impl<'a, J: TextJudge> OfText for LinearStrGroups<'a, J> {
     ghost use Rattle.sgb_linear_str_group.specs.Texts.{text_groups_of};
     ghost use Rattle.sgb_linear_str_group.proofs.Queue as queue;
 
@@ -107,7 +105,7 @@ impl<'a, J: TextJudge + Drop> OfText for LinearStrGroups<'a, J> {
 }
 
 // What holds of the groups for reading holds of what these show.
-impl<'a, J: TextJudge + Drop> GroupQueue for LinearStrGroupsMut<'a, J> {
+impl<'a, J: TextJudge> GroupQueue for LinearStrGroupsMut<'a, J> {
     type Item = &'a mut [u8];
 
     ghost use Rattle.std.specs.Prelude.{length, true};
@@ -140,12 +138,12 @@ impl<'a, J: TextJudge + Drop> GroupQueue for LinearStrGroupsMut<'a, J> {
 
     #[inline]
     fn pop_front(&mut self) -> Option<&'a mut [u8]> {
-        self.next()
+        self.next_at(&End::Front)
     }
 
     #[inline]
     fn pop_back(&mut self) -> Option<&'a mut [u8]> {
-        self.next_back()
+        self.next_at(&End::Back)
     }
 
     ghost part = { λ e q r t h. laws.part J.Judge e text_groups_of_mut (λ group. group.now) q r t h.0 };
@@ -163,10 +161,8 @@ impl<'a, J: TextJudge + Drop> GroupQueue for LinearStrGroupsMut<'a, J> {
     ghost asks_due = { λ e q r t h. laws.asks J.Judge e text_groups_of_mut (λ group. group.now) q r t h.0 };
 }
 
-impl<'a, J: TextJudge + Drop> RemainderLen for LinearStrGroupsMut<'a, J> {
+impl<'a, J> RemainderLen for LinearStrGroupsMut<'a, J> {
     type Unit = u8;
-
-    ghost use Rattle.sgb_search.proofs.Lists.Ends.{less_remains};
 
     ghost left = { λ q. q.text };
 
@@ -174,11 +170,9 @@ impl<'a, J: TextJudge + Drop> RemainderLen for LinearStrGroupsMut<'a, J> {
     fn remainder_len(&self) -> usize {
         LinearStrGroupsMut::remainder_len(self)
     }
-
-    ghost fewer = { λ e q group t h. less_remains e group.now (t.text) _ h.0.nonempty h.0.cut };
 }
 
-impl<'a, J: TextJudge + Drop> Judged<char, J, Linear> for LinearStrGroupsMut<'a, J> {
+impl<'a, J: TextJudge> Judged<char, J, Linear> for LinearStrGroupsMut<'a, J> {
     ghost use Rattle.sgb_linear_str_group.specs.Texts.{in_characters};
     ghost use Rattle.sgb_linear_str_group.specs.TextsMut.{text_groups_of_mut};
     ghost use Rattle.sgb_linear_str_group.proofs.Queue as queue;
@@ -188,7 +182,7 @@ impl<'a, J: TextJudge + Drop> Judged<char, J, Linear> for LinearStrGroupsMut<'a,
     ghost call = { λ e s group t h. queue.by_characters J.Judge e text_groups_of_mut (λ x. x.now) s group t h.0 };
 }
 
-impl<'a, J: TextJudge + Drop> OfText for LinearStrGroupsMut<'a, J> {
+impl<'a, J: TextJudge> OfText for LinearStrGroupsMut<'a, J> {
     ghost use Rattle.sgb_linear_str_group.specs.TextsMut.{text_groups_of_mut};
     ghost use Rattle.sgb_linear_str_group.proofs.Queue as queue;
 
@@ -201,7 +195,7 @@ impl<'a, J: TextJudge + Drop> OfText for LinearStrGroupsMut<'a, J> {
     ghost utf8 = { λ e s group t h. queue.group_utf8 J.Judge e text_groups_of_mut (λ x. x.now) s group t h.0 };
 }
 
-impl<'a, J: TextJudge + Drop> Lends<u8> for LinearStrGroupsMut<'a, J> {
+impl<'a, J: TextJudge> Lends<u8> for LinearStrGroupsMut<'a, J> {
     ghost loans = { λ s. s.loans };
 
     ghost name = { λ group. group.ghost_name };
