@@ -1,5 +1,5 @@
-//! Cases of the library's calls and of the examples: worked cases, the Rust crate's tests under their names, and what no
-//! contract says; and cases of the definitions that contracts cite.
+//! Cases of the library's calls: worked cases, the Rust crate's tests under their names, and what no contract says; and cases of
+//! the definitions that contracts cite.
 #![tactic(auto)]
 
 #[cfg(test)]
@@ -9,8 +9,6 @@ mod calls;
 #[cfg(test)]
 mod debug;
 mod definitions;
-#[cfg(test)]
-mod examples;
 #[cfg(test)]
 mod guarded;
 #[cfg(test)]
