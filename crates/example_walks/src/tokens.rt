@@ -9,8 +9,8 @@ ghost use Rattle.slice_group_by.specs.Split.{split};
 
 use slice_group_by::laws::{groups_stand, sees_pieces, texts_stand};
 use slice_group_by::{
-    AsciiClass, AsciiClasses, GroupAdapters, GroupByClass, LinearClassGroup,
-    LinearStrGroupByKey, StrGroupBy, count_classes,
+    AsciiClass, AsciiClasses, GroupAdapters, GroupByClass, LinearClassGroup, LinearStrGroupByKey,
+    StrGroupBy, count_classes,
 };
 use std::alloc::{AllocError, Global};
 use std::io;
