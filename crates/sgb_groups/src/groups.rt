@@ -202,8 +202,9 @@ impl<'a, T, J: Judge<T> + Drop, W: Way> SliceGroups<'a, T, J, W> {
 impl<'a, T, J: Judge<T>, W: Way> SliceGroups<'a, T, J, W> {
     ghost use Rattle.sgb_groups.specs.Gives.{groups_of, Gives};
 
-    /// The group at this end of the remainder, or `None` where nothing remains: what `next` and `next_back` give.
-    // Each caller names its end, and gets a copy for that end alone.
+    /// The group at this end of the remainder, or `None` where nothing remains: what `next` gives from the front and `next_back`
+    /// from the back, by their questions.
+    // Public for `GroupQueue`, which asks for no `Drop`. Each caller names its end, and gets a copy for that end alone.
     #[inline(always)]
     pub fn next_at(&mut self, end: &End) -> Option<&'a [T]>
         requires { IsCallableBy (W.allowed T) J.Judge (groups_of self.old) }

@@ -233,8 +233,9 @@ impl<'a, T, J: Judge<T> + Drop, W: Way> SliceGroupsMut<'a, T, J, W> {
 impl<'a, T, J: Judge<T>, W: Way> SliceGroupsMut<'a, T, J, W> {
     ghost use Rattle.sgb_groups.specs.Gives.{GivesMut, groups_of_mut};
 
-    /// The group at this end of the remainder, or `None` where nothing remains: what `next` and `next_back` give.
-    // Each caller names its end, and gets a copy for that end alone.
+    /// The group at this end of the remainder, or `None` where nothing remains: what `next` gives from the front and `next_back`
+    /// from the back, by their questions.
+    // Public for `GroupQueue`, which asks for no `Drop`. Each caller names its end, and gets a copy for that end alone.
     #[inline(always)]
     pub fn next_at(&mut self, end: &End) -> Option<&'a mut [T]>
         requires { IsCallableBy (W.allowed T) J.Judge (groups_of_mut self.old) }

@@ -1,5 +1,6 @@
 -- What an iterator over groups of a text shows, and what its calls give. A text is its bytes, and questions are about its characters.
-use Rattle.std.specs.Prelude.{◌≡◌, ℕ, ◌<◌, Bool, ◌&&◌, ◌||◌, List, [], length, nat_lt, nat_le, slice_index, Option, MatchOption, if◌then◌else◌}
+use Rattle.std.specs.Prelude.{◌≡◌, ℕ, ◌<◌, Bool, ◌&&◌, ◌||◌, List, [], length, nat_lt, nat_le, slice_index}
+use Rattle.std.specs.Prelude.{Option, MatchOption, if◌then◌else◌}
 use Rattle.std.specs.Borrow.{Bor}
 use Rattle.std.specs.Iterator.{Count, at_most}
 use Rattle.std.specs.Str.{chars, IsUtf8}

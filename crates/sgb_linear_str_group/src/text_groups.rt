@@ -6,7 +6,8 @@ ghost use Rattle.std.specs.Str.{IsCharBoundary};
 ghost use Rattle.std.specs.Iterator.{UpTo};
 ghost use Rattle.std.specs.Iterator.SizeHint.{IsWithinCount};
 ghost use Rattle.sgb_search.specs.declared.end.End.TheVariants.{Front, Back};
-ghost use Rattle.sgb_linear_str_group.specs.Texts.{place_or_end, text_between, text_groups_of, text_place_of, text_groups_to_come, in_characters};
+ghost use Rattle.sgb_linear_str_group.specs.Texts.{in_characters, text_groups_of, text_groups_to_come};
+ghost use Rattle.sgb_linear_str_group.specs.Texts.{place_or_end, text_between, text_place_of};
 
 use crate::text_judge::TextJudge;
 use sgb_search::end::End;
@@ -194,8 +195,9 @@ impl<'a, J: TextJudge + Drop> LinearStrGroups<'a, J> {
 impl<'a, J: TextJudge> LinearStrGroups<'a, J> {
     ghost use Rattle.sgb_linear_str_group.specs.Texts.{GivesText};
 
-    /// The group at this end of the remainder, or `None` where nothing remains: what `next` and `next_back` give.
-    // Each caller names its end, and gets a copy for that end alone.
+    /// The group at this end of the remainder, or `None` where nothing remains: what `next` gives from the front and `next_back`
+    /// from the back, by their questions.
+    // Public for `GroupQueue`, which asks for no `Drop`. Each caller names its end, and gets a copy for that end alone.
     #[inline(always)]
     pub fn next_at(&mut self, end: &End) -> Option<&'a str>
         requires { IsCallableBy AreNeighbours J.Judge (in_characters (text_groups_of self.old)) }

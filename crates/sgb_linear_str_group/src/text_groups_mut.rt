@@ -224,8 +224,9 @@ impl<'a, J: TextJudge + Drop> LinearStrGroupsMut<'a, J> {
 impl<'a, J: TextJudge> LinearStrGroupsMut<'a, J> {
     ghost use Rattle.sgb_linear_str_group.specs.TextsMut.{text_groups_of_mut, GivesTextMut};
 
-    /// The group at this end of the remainder, or `None` where nothing remains: what `next` and `next_back` give.
-    // Each caller names its end, and gets a copy for that end alone.
+    /// The group at this end of the remainder, or `None` where nothing remains: what `next` gives from the front and `next_back`
+    /// from the back, by their questions.
+    // Public for `GroupQueue`, which asks for no `Drop`. Each caller names its end, and gets a copy for that end alone.
     #[inline(always)]
     pub fn next_at(&mut self, end: &End) -> Option<&'a mut [u8]>
         requires { IsCallableBy AreNeighbours J.Judge (in_characters (text_groups_of_mut self.old)) }

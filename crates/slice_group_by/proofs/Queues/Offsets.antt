@@ -1,5 +1,6 @@
 -- Where the groups stand in the input that calls give.
-use Rattle.std.proofs.Common.{◌≡◌, ℕ, ◌+◌, ◌<◌, ◌^◌, List, [], ◌∷◌, length, Option, None, Some, map, rules, refl, ap, ◌∙◌, subst, arith, length-append}
+use Rattle.std.proofs.Common.{◌≡◌, ℕ, ◌+◌, ◌<◌, ◌^◌, List, [], ◌∷◌, length, Option, None, Some, map, rules}
+use Rattle.std.proofs.Common.{refl, ap, ◌∙◌, subst, arith, length-append}
 use Rattle.std.specs.Borrow.{Bor}
 use Rattle.std.specs.Iterator.{AlwaysYields, MakesProgress, Yields}
 use Rattle.std.specs.List.{AllByRecursion}

@@ -23,7 +23,7 @@ pub struct DedupWithCount<'a, T, Q> {
 }
 
 /// How many elements each group that is still to come has, and its first element. A call asks what a call on the groups
-/// asks.
+/// asks. Groups of your own must have `Offsets`, as all groups of slices for reading have.
 ///
 /// ```
 /// for (count, x) in dedup_with_count(LinearGroup::new(&[1, 1, 1, 3, 3])) {

@@ -76,7 +76,7 @@ pub fn groups_stand<Q: Offsets>(_groups: &WithOffsets<Q>)
         (with_offsets (Q.place (groups_under q)).offset parts) }
 {}
 
-/// The groups of a text begin and end between characters, so that `&text[start..end]` is a text.
+/// The groups of a text begin and end between characters, whatever the judge answers, so that `&text[start..end]` is a text.
 pub fn texts_stand<'a, J: TextJudge>(_groups: &WithOffsets<LinearStrGroups<'a, J>>)
     ensures { (e : End) (q t : WithOffsets (LinearStrGroups J)) (items : List (ℕ × Bor (List ℕ)))
         → IsUtf8 (text_place_of (groups_under q)).input
