@@ -4,10 +4,10 @@ ghost use Rattle.std.specs.Option.{option_copied};
 ghost use Rattle.slice_group_by.specs.Split.{split};
 ghost use Rattle.slice_group_by.specs.Seams.{are_accepted, lens_joined};
 
+use slice_group_by::LinearGroup;
 use slice_group_by::laws::{
     groups_still_come, one_split, pieces_add_up, sees_pieces, sees_shards, splits_join,
 };
-use slice_group_by::{LinearGroup, linear_boundary};
 use std::alloc::{AllocError, Global};
 
 // How many groups of equal elements a part has.
@@ -51,7 +51,7 @@ pub fn count_in_parts(slice: &[u32], mid: usize) -> usize
 pub fn count_in_two(slice: &[u32]) -> usize
     ensures { result ≡ length (split nat_eq slice.now) }
 {
-    let (left, right) = slice.split_at(linear_boundary(slice, slice.len() / 2));
+    let (left, right) = slice.split_at(LinearGroup::new(slice).boundary(slice.len() / 2));
     count_groups(left) + count_groups(right)
 }
 

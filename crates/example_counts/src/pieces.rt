@@ -10,8 +10,8 @@ ghost use Rattle.example_counts.specs.Keys.{by_key, key, same_key};
 
 use crate::joins::{Entry, count_common_keys};
 use slice_group_by::laws::{
-    chunk_by_agrees, descending_is_grouped, pieces_are_filters, pieces_begin_as_dedup,
-    pieces_by_key, sees_keys, sees_pieces, sorted_by_key_ascends,
+    ascending_is_grouped, chunk_by_agrees, pieces_begin_as_dedup, pieces_by_key, sees_keys,
+    sees_pieces, sorts_ascend,
 };
 use slice_group_by::{BinaryGroup, GroupAdapters, LinearGroup, LinearGroupByKey};
 use std::alloc::{AllocError, Global};
@@ -43,7 +43,7 @@ pub fn count_descending(xs: &[u32]) -> usize
     requires { NeverDescends (flip_args nat_cmp) xs.now }
     ensures { result ≡ length (split nat_eq xs.now) }
 {
-    descending_is_grouped::<u32, u32>();
+    ascending_is_grouped::<u32, u32>();
     let groups = BinaryGroup::new(xs);
     sees_pieces(&groups);
     groups.count()
@@ -55,7 +55,7 @@ pub fn rows_by_key(alloc: Global, rows: &[Entry]) -> Result<Vec<(u32, usize)>, A
     ensures { IfOk result (λ counts. counts.items
         ≡ map (λ k. (k, length (filter (λ row. nat_eq (key row) k) rows.now))) (dedup nat_eq (map key rows.now))) }
 {
-    pieces_are_filters::<Entry, u32>();
+    pieces_by_key::<Entry, u32>();
     let groups = LinearGroupByKey::new(rows, |e: &Entry| e.0).with_keys();
     sees_keys(&groups);
     groups.map(|(key, group)| (key, group.len())).collect(alloc)
@@ -85,7 +85,7 @@ pub fn common_keys_if_sorted(left: &[Entry], right: &[Entry]) -> Option<usize>
     ensures sorted { NeverDescends nat_cmp (map key left.now) → NeverDescends nat_cmp (map key right.now)
         → IsSome result }
 {
-    sorted_by_key_ascends::<Entry, u32>();
+    sorts_ascend::<Entry, u32>();
     if !left.is_sorted_by_key(|e| e.0) {
         return None;
     }

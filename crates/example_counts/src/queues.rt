@@ -1,12 +1,12 @@
 //! Functions over any queue of groups, whatever its family and judge.
 ghost use Rattle.std.specs.Option.{option_copied_mut};
-ghost use Rattle.std.specs.Prelude.{◌≡◌, ◌<◌, ◌^◌, Bool, length, map, option_copied, IfOk};
+ghost use Rattle.std.specs.Prelude.{◌≡◌, ◌<◌, ◌^◌, Bool, length, map, option_copied, option_map, IfOk};
 ghost use Rattle.slice_group_by.specs.End.TheVariants.{Front};
 ghost use Rattle.slice_group_by.specs.Split.{split, first, concat};
 
 use slice_group_by::GroupQueue;
 use slice_group_by::laws::{
-    SliceQueue, SliceQueueMut, calls_take_pieces, groups_join, sees_pieces,
+    SliceQueue, SliceQueueMut, calls_may_go_on, calls_take_pieces, groups_join, sees_pieces,
 };
 use std::alloc::{AllocError, Global};
 
@@ -30,6 +30,19 @@ pub fn first_of_queue_mut<'a, T: 'a, Q: SliceQueueMut<'a, T>>(queue: &mut Q) -> 
 {
     calls_take_pieces(queue);
     queue.pop_front()
+}
+
+/// The next two groups of a queue. It may be called again, also where nothing remains.
+pub fn next_two<Q: GroupQueue>(queue: &mut Q) -> (Option<Q::Item>, Option<Q::Item>)
+    requires { Q.can_pop queue.old }
+    ensures can { Q.can_pop queue.new }
+    ensures first { (p : Q.Element → Q.Element → Bool) → Q.is_settled queue.old p
+        → option_map Q.shows result.0 ≡ first (split p (Q.remainder queue.old)) }
+{
+    calls_may_go_on(queue);
+    calls_take_pieces(queue);
+    let first = queue.pop_front();
+    (first, queue.pop_front())
 }
 
 /// All groups of what remains, in a vector. They join to what remains, and those of a settled queue are its pieces.

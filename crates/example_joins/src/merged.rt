@@ -10,7 +10,7 @@ ghost use Rattle.example_joins.specs.Names.{shown_groups};
 
 use slice_group_by::MergeJoinBy;
 use slice_group_by::laws::{
-    always_compares, merges_exist, merges_interleave, parts_or_empty, sees_merge,
+    always_compares, merges_interleave, one_merge, parts_or_empty, sees_merge,
 };
 use std::alloc::{AllocError, Global};
 use std::cmp::Ordering;
@@ -55,7 +55,7 @@ pub fn merge<T: Ord + Copy>(alloc: Global, left: &[T], right: &[T]) -> Result<Ve
     ensures ascends { IfOk result (λ merged. NeverDescends T.cmp merged.items) }
     ensures same { IfOk result (λ merged. IsPermutation (left.now ++ right.now) merged.items) }
 {
-    merges_exist::<T, T, T>();
+    one_merge::<T, T, T>();
     merges_interleave::<T>();
     let sides = sides::<T, T>(alloc, left, right)?;
     let mut merged = Vec::new(alloc);

@@ -19,15 +19,6 @@ pub fn count_groups<T: PartialEq>(xs: &[T]) -> usize
     groups.count()
 }
 
-/// How many groups there are, counted from the back.
-pub fn count_from_the_back<T: PartialEq>(xs: &[T]) -> usize
-    ensures { result ≡ length (split T.eq xs.now) }
-{
-    let groups = LinearGroup::new(xs);
-    sees_pieces(&groups);
-    groups.rev().count()
-}
-
 /// The first group of more than `len` elements, if there is one.
 pub fn first_longer<T: PartialEq>(xs: &[T], len: usize) -> Option<&[T]>
     ensures { option_map (λ group. group.now) result ≡ find (λ g. nat_lt len (length g)) (split T.eq xs.now) }

@@ -8,7 +8,7 @@ ghost use Rattle.slice_group_by.specs.Streams.{add_part, kept_of};
 ghost use Rattle.example_walks.specs.Totals.{amount, key, larger_total, same_key, total_of, totals};
 
 use slice_group_by::StreamGroups;
-use slice_group_by::laws::{last_changes, parts_begin_by_keys, parts_fold, pieces_are_filters};
+use slice_group_by::laws::{last_changes, parts_begin_by_keys, parts_fold, pieces_by_key};
 use std::alloc::{AllocError, Global};
 
 /// A key and an amount.
@@ -22,7 +22,7 @@ pub fn totals_of_blocks(alloc: Global, blocks: &[&[Row]]) -> Result<Vec<Total>, 
     requires { NeverDescends nat_cmp (map key (flat_map (λ block. block.now) blocks.now)) }
     ensures { IfOk result (λ found. found.items ≡ totals (flat_map (λ block. block.now) blocks.now)) }
 {
-    pieces_are_filters::<Row, u32>();
+    pieces_by_key::<Row, u32>();
     let mut stream = StreamGroups::new();
     let mut found = Vec::new(alloc);
     for block in blocks {

@@ -1,3 +1,4 @@
+pub mod Boundaries
 pub mod Cuts
 pub mod CutsMut
 pub mod Outward

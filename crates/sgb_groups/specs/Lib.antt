@@ -1,2 +1,3 @@
 pub mod Gives
 pub mod Shards
+pub mod Boundaries

@@ -24,8 +24,8 @@ impl<'a, T, K: PartialEq + Drop, F: FnMut(&T) -> K, W: Way> ByKey<'a, T, F, K, W
     /// must be callable in this way on the pairs that are `allowed` (`Way`), in whatever state earlier calls left it. A closure
     /// whose body may run on all elements, in every state, meets this at once.
     ///
-    /// If the function is handed to you, take `F.IsAlwaysCallable func` as a `requires`, call `laws::always_callable_key`, or
-    /// `laws::always_callable_key_apart`, and answer with `c.always_callable_key.ensures _ _ c.requires`.
+    /// If the function is handed to you, take `F.IsAlwaysCallable func` as a `requires`, call `laws::always_callable_key`, and answer
+    /// with its clause `along`, or `apart`: `c.always_callable_key.ensures.along _ _ c.requires`.
     ///
     /// The result is settled for equality of the keys that the function computes. For binary and exponential groups the slice
     /// should be grouped for the key: equal keys should stand side by side, as where the slice ascends by the key.

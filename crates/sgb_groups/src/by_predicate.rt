@@ -20,8 +20,7 @@ impl<'a, T, P: FnMut(&T, &T) -> bool, W: Way> SliceGroups<'a, T, PredicateJudge<
     /// closure whose body may run on all elements, in every state, meets this at once. One with a `requires` meets it if the
     /// slice is known to have only such pairs.
     ///
-    /// If the closure is handed to you, take `P.IsAlwaysCallable predicate` as a `requires`, and call `laws::always_callable`,
-    /// or `laws::always_callable_apart`.
+    /// If the closure is handed to you, take `P.IsAlwaysCallable predicate` as a `requires`, and call `laws::always_callable`.
     ///
     /// The result is settled for each test that the predicate computes. For binary and exponential groups the slice should be
     /// grouped for the test: any two different places should agree exactly if all neighbours between them do.

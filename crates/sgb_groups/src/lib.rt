@@ -2,6 +2,7 @@
 //! group ends. A family of groups is such a way (`Way`), in a crate of its own.
 #![tactic(auto)]
 
+pub mod boundary;
 mod by_equality;
 mod by_key;
 mod by_number;

@@ -58,11 +58,8 @@ impl<'a, T, J: Judge<T> + Drop, W: Way> SliceGroups<'a, T, J, W> {
         ensures callable { IsCallableBy (W.allowed T) J.Judge (groups_of self.new) }
     {
         let remainder = self.remainder();
-        self.skip_front(place);
-        match self.next() {
-            Some(group) => &remainder[..place + group.len()],
-            None => remainder,
-        }
+        let rest = self.next_from(place);
+        &remainder[..place + rest.len()]
     }
 }
 

@@ -5,4 +5,3 @@ pub mod FirstPiece
 pub mod Grouped
 pub mod AscendingGroups
 pub mod Lens
-pub mod Boundaries

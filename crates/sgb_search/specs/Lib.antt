@@ -7,4 +7,3 @@ pub mod Searching
 pub mod Search
 pub mod Ranges
 pub mod Seams
-pub mod Boundaries

@@ -1,21 +1,18 @@
 //! Laws of the definitions. Each is a function that does nothing: its contract is the law, and a caller cites it.
-ghost use Rattle.std.specs.Prelude.{cond, ◌≡◌, ◌↔◌, ℕ, ◌+◌, ◌-◌, ◌^◌, ◌<◌, ◌≤◌, ◌++◌, Bool, List, Some, length, map, nat_lt};
+ghost use Rattle.std.specs.Prelude.{cond, ◌≡◌, ◌↔◌, ℕ, ◌+◌, ◌-◌, ◌<◌, ◌≤◌, ◌++◌, Bool, List, Some, length, map};
 ghost use Rattle.std.specs.Prelude.{slice_range};
 ghost use Rattle.sgb_search.specs.Calls.{ComputesBy, IsCallableBy};
-ghost use Rattle.std.specs.Fn.{ComputesKey, Takes, TakesAt, TakesAtTwo, Called, CalledAt, CalledAtTwo};
+ghost use Rattle.std.specs.Fn.{ComputesKey, Takes, TakesAt, TakesAtTwo, CalledAt, CalledAtTwo};
 ghost use Rattle.std.specs.List.{Contains, slice_get, count_by, filter};
 ghost use Rattle.std.specs.List.Sorted.{IsPartitionedBy};
 ghost use Rattle.std.specs.Ordering.{flip_args, is_lt, is_le, is_eq, is_gt};
 ghost use Rattle.std.specs.declared.cmp.Ordering.{Ordering};
 ghost use Rattle.std.specs.declared.cmp.Ordering.TheVariants.{Less, Equal, Greater};
-ghost use Rattle.sgb_search.specs.declared.end.End.{End};
-ghost use Rattle.sgb_search.specs.Searching.{digits};
 ghost use Rattle.sgb_search.specs.Ranges.{IsRangeAt};
-ghost use Rattle.sgb_search.specs.Split.{AreApart, neighbours, AreNeighbours, IsGrouped, IsSplit, concat, first, last};
+ghost use Rattle.sgb_search.specs.Split.{AreApart, AreNeighbours, IsGrouped, IsSplit, concat, first, last};
 ghost use Rattle.sgb_search.specs.Split.{without_last, split, refused_pairs};
 ghost use Rattle.sgb_search.specs.Seams.{is_accepted_across, lens_joined, seam};
 ghost use Rattle.sgb_search.specs.Search.{IsCallableOn, ComputesOn, IsLessEqualGreater, NeverDescends, between};
-ghost use Rattle.sgb_search.specs.Linear.{questions};
 ghost use Rattle.sgb_search.specs.Judges.{IsRunOf, by_predicate, predicate_judge, by_key, key_judge};
 ghost use Rattle.sgb_search.specs.Judges.{by_char_predicate, char_predicate_judge, by_char_key, char_key_judge, by_equality};
 ghost use Rattle.sgb_search.specs.Judges.{CalledAtChar};
@@ -47,28 +44,21 @@ pub fn splits_join<T>()
         ≡ lens_joined (is_accepted_across p xs ys) (map length (split p xs)) (map length (split p ys)) }
 {}
 
-/// A predicate that may always be called may be asked about the neighbouring pairs of every slice.
+/// A predicate that may always be called may be asked about the neighbouring pairs of every slice (`along`), and about every two
+/// different places, in both orders (`apart`).
 pub fn always_callable<T, P: FnMut(&T, &T) -> bool>()
-    ensures { (xs : List T) (predicate : P) → P.IsAlwaysCallable predicate
+    ensures along { (xs : List T) (predicate : P) → P.IsAlwaysCallable predicate
         → IsCallableBy AreNeighbours (by_predicate P.FnMut)
         (record { remainder = xs; judge = predicate_judge predicate }) }
-{}
-
-/// A key function that may always be called may be asked about the neighbouring pairs of every slice.
-pub fn always_callable_key<T, F: FnMut(&T) -> K, K: PartialEq + Drop>()
-    ensures { (xs : List T) (func : F) → F.IsAlwaysCallable func
-        → IsCallableBy AreNeighbours (by_key F.FnMut K.eq) (record { remainder = xs; judge = key_judge func }) }
-{}
-
-/// A predicate that may always be called may be asked about every two different places of every slice, in both orders.
-pub fn always_callable_apart<T, P: FnMut(&T, &T) -> bool>()
-    ensures { (xs : List T) (predicate : P) → P.IsAlwaysCallable predicate
+    ensures apart { (xs : List T) (predicate : P) → P.IsAlwaysCallable predicate
         → IsCallableBy AreApart (by_predicate P.FnMut) (record { remainder = xs; judge = predicate_judge predicate }) }
 {}
 
-/// A key function that may always be called may be asked about every two different places of every slice, in both orders.
-pub fn always_callable_key_apart<T, F: FnMut(&T) -> K, K: PartialEq + Drop>()
-    ensures { (xs : List T) (func : F) → F.IsAlwaysCallable func
+/// The same for a key function that may always be called.
+pub fn always_callable_key<T, F: FnMut(&T) -> K, K: PartialEq + Drop>()
+    ensures along { (xs : List T) (func : F) → F.IsAlwaysCallable func
+        → IsCallableBy AreNeighbours (by_key F.FnMut K.eq) (record { remainder = xs; judge = key_judge func }) }
+    ensures apart { (xs : List T) (func : F) → F.IsAlwaysCallable func
         → IsCallableBy AreApart (by_key F.FnMut K.eq) (record { remainder = xs; judge = key_judge func }) }
 {}
 
@@ -174,14 +164,6 @@ pub fn callable_unchanged_char_key<F: FnMut(char) -> K, K: PartialEq + Drop>(_f:
         (record { remainder = cs; judge = char_key_judge f }) }
 {}
 
-/// The same for a predicate of characters that may be called on each neighbouring pair of a text.
-pub fn callable_unchanged_chars<P: FnMut(char, char) -> bool>(_predicate: &P)
-    ensures { (cs : List ℕ) (predicate : P) → ((f h : P) (a b : ℕ) (r : Bool) → Called P.FnMut f (a, (b, tt)) r h → h ≡ f)
-        → ((q : ℕ × ℕ) → AreNeighbours cs q → Takes P.FnMut predicate (q.0, (q.1, tt)))
-        → IsCallableBy AreNeighbours (by_char_predicate P.FnMut)
-        (record { remainder = cs; judge = char_predicate_judge predicate }) }
-{}
-
 /// Equality may be asked about every slice, answers what `==` says, and counts: in every state of its judge.
 pub fn equality_judges<T: PartialEq>()
     ensures callable { (xs : List T) (j : EqualityJudge)
@@ -207,18 +189,15 @@ pub fn always_computes<T, F: FnMut(&T) -> K, K>(_f: &F)
     ensures { (xs : List T) (answer : T → K) (f : F) → ComputesKey F.FnMut answer f → ComputesOn F.FnMut xs answer f }
 {}
 
-/// A list that ascends by a key is grouped for equality of that key, and one that ascends for equality of its elements.
+/// A list that ascends by a key is grouped for equality of that key (`by_key`), and one that ascends for equality of its elements
+/// (`by_itself`). So is one that descends (`descending_by_key`, `descending`).
 pub fn ascending_is_grouped<T, K: Ord>()
     ensures by_key { (key : T → K) (xs : List T) → NeverDescends K.cmp (map key xs)
         → IsGrouped (λ x y. K.eq (key x) (key y)) xs }
     ensures by_itself { (xs : List K) → NeverDescends K.cmp xs → IsGrouped K.eq xs }
-{}
-
-/// A list that descends by a key is grouped for equality of that key, and one that descends for equality of its elements.
-pub fn descending_is_grouped<T, K: Ord>()
-    ensures by_key { (key : T → K) (xs : List T) → NeverDescends (flip_args K.cmp) (map key xs)
+    ensures descending_by_key { (key : T → K) (xs : List T) → NeverDescends (flip_args K.cmp) (map key xs)
         → IsGrouped (λ x y. K.eq (key x) (key y)) xs }
-    ensures by_itself { (xs : List K) → NeverDescends (flip_args K.cmp) xs → IsGrouped K.eq xs }
+    ensures descending { (xs : List K) → NeverDescends (flip_args K.cmp) xs → IsGrouped K.eq xs }
 {}
 
 /// In a list that ascends by a key, comparing the keys with any other answers `Less`, then `Equal`, then `Greater`: a search for that
@@ -239,26 +218,6 @@ pub fn searchable_is_partitioned<T>()
     ensures less { (ord : T → Ordering) (xs : List T) → IsLessEqualGreater ord xs → IsPartitionedBy (λ x. is_lt (ord x)) xs }
     ensures not_greater { (ord : T → Ordering) (xs : List T) → IsLessEqualGreater ord xs
         → IsPartitionedBy (λ x. is_le (ord x)) xs }
-{}
-
-/// Of a grouped list, the element at a place q > 0 agrees with the first, in either order, exactly if the first piece has more
-/// than q elements: what a plan of questions rests on.
-pub fn first_group_agrees<T>()
-    ensures { (p : T → T → Bool) (xs group : List T) → IsGrouped p xs → first (split p xs) ≡ Some group
-        → (q : ℕ) (x y : T) → 0 < q → slice_get xs 0 ≡ Some x → slice_get xs q ≡ Some y
-        → (p x y ≡ nat_lt q (length group)) × (p y x ≡ nat_lt q (length group)) }
-{}
-
-/// A part of a grouped list is grouped.
-pub fn parts_are_grouped<T>()
-    ensures { (p : T → T → Bool) (before part after : List T) → IsGrouped p (before ++ (part ++ after))
-        → IsGrouped p part }
-{}
-
-/// The number of binary digits of m is the least d with m below the d-th power of two.
-pub fn digits_is_least()
-    ensures above { (m : ℕ) → m < 2 ^ digits m }
-    ensures least { (m d : ℕ) → m < 2 ^ d → digits m ≤ d }
 {}
 
 /// Where the equal elements stand, in a list whose answers are `Less`, then `Equal`, then `Greater`: behind as many as are `Less`

@@ -156,35 +156,5 @@ where
     ensures count { (passes : T → Bool) → ComputesOn P.FnMut slice.now passes pred → IsPartitionedBy passes slice.now
         → result ≡ count_by passes slice.now }
 {
-    exponential_partition_point_ref(slice, &mut pred)
-}
-
-/// `exponential_partition_point` with a borrowed predicate, so that you can call it again, or read what it counted.
-///
-/// ```
-/// let mut asked = 0u32;
-/// let mut below = |x: &u32| {
-///     asked = asked.wrapping_add(1);
-///     *x < 5
-/// };
-/// exponential_partition_point_ref(&[1, 2, 3, 5, 8, 13, 21], &mut below); // 3, and `asked` is at most 7
-/// ```
-#[inline]
-pub fn exponential_partition_point_ref<T, P>(slice: &[T], pred: &mut P) -> usize
-where
-    P: FnMut(&T) -> bool,
-    requires { IsCallableOn P.FnMut slice.now pred.old }
-    ensures bound { result ≤ length slice.now }
-    ensures questions { AsksPartition P.FnMut (λ b. b) slice.now pred.old result pred.new }
-    ensures boundary { (passes : T → Bool) → ComputesOn P.FnMut slice.now passes pred.old
-        → IsLocalBoundary (λ x. as_ordering (passes x)) slice.now result }
-    ensures partitioned { (passes : T → Bool) → ComputesOn P.FnMut slice.now passes pred.old → IsPartitionedBy passes slice.now
-        → IsPartitionPoint (λ x. passes x ≡ true) (λ x. passes x ≡ false) slice.now result }
-    ensures count { (passes : T → Bool) → ComputesOn P.FnMut slice.now passes pred.old → IsPartitionedBy passes slice.now
-        → result ≡ count_by passes slice.now }
-    ensures callable { IsCallableOn P.FnMut slice.now pred.new }
-    ensures computes { (passes : T → Bool) → ComputesOn P.FnMut slice.now passes pred.old
-        → ComputesOn P.FnMut slice.now passes pred.new }
-{
-    count_before(slice, &Passing {}, pred)
+    count_before(slice, &Passing {}, &mut pred)
 }

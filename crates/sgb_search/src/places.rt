@@ -162,43 +162,5 @@ where
     ensures filter { (key : T → B) → ComputesOn F.FnMut slice.now key f → NeverDescends B.cmp (map key slice.now)
         → slice_range slice.now result.start result.end ≡ filter (λ x. is_eq (B.cmp (key x) b.now)) slice.now }
 {
-    exponential_equal_places_by_key_ref(slice, b, &mut f)
-}
-
-/// `exponential_equal_places_by_key` with a borrowed key function, so that you can call it again, or read what it counted.
-///
-/// ```
-/// let mut called = 0u32;
-/// let mut key = |row: &(u32, char)| {
-///     called = called.wrapping_add(1);
-///     row.0
-/// };
-/// exponential_equal_places_by_key_ref(&[(1, 'a'), (3, 'b'), (7, 'd')], &3, &mut key); // 1..2, and `called` is at most 10
-/// ```
-#[inline]
-pub fn exponential_equal_places_by_key_ref<T, B, F>(slice: &[T], b: &B, f: &mut F) -> Range<usize>
-where
-    F: FnMut(&T) -> B,
-    B: Ord + Drop,
-    requires { IsCallableOn F.FnMut slice.now f.old }
-    ensures order { result.start ≤ result.end }
-    ensures within { result.end ≤ length slice.now }
-    ensures questions { AsksRangeAt F.FnMut (λ k. is_lt (B.cmp k b.now)) (λ k. is_eq (B.cmp k b.now))
-        slice.now f.old result.start result.end f.new }
-    ensures local { (key : T → B) → ComputesOn F.FnMut slice.now key f.old
-        → IsLocalRangeAt slice.now result.start result.end
-        (λ x. is_lt (B.cmp (key x) b.now)) (λ x. is_eq (B.cmp (key x) b.now)) }
-    ensures range { (key : T → B) → ComputesOn F.FnMut slice.now key f.old
-        → IsLessEqualGreater (λ x. B.cmp (key x) b.now) slice.now
-        → IsRangeAt slice.now result.start result.end (λ x. B.cmp (key x) b.now) }
-    ensures sorted { (key : T → B) → ComputesOn F.FnMut slice.now key f.old → NeverDescends B.cmp (map key slice.now)
-        → IsRangeAt slice.now result.start result.end (λ x. B.cmp (key x) b.now) }
-    ensures start { (key : T → B) → ComputesOn F.FnMut slice.now key f.old → NeverDescends B.cmp (map key slice.now)
-        → result.start ≡ count_by (λ x. is_lt (B.cmp (key x) b.now)) slice.now }
-    ensures filter { (key : T → B) → ComputesOn F.FnMut slice.now key f.old → NeverDescends B.cmp (map key slice.now)
-        → slice_range slice.now result.start result.end ≡ filter (λ x. is_eq (B.cmp (key x) b.now)) slice.now }
-    ensures callable { IsCallableOn F.FnMut slice.now f.new }
-    ensures computes { (key : T → B) → ComputesOn F.FnMut slice.now key f.old → ComputesOn F.FnMut slice.now key f.new }
-{
-    places(slice, &LessKey { key: b }, &EqualKey { key: b }, f)
+    places(slice, &LessKey { key: b }, &EqualKey { key: b }, &mut f)
 }

@@ -4,18 +4,13 @@ use Rattle.std.proofs.Common.{refl, sym, ap, ◌∙◌, append_assoc, append-nil
 use Rattle.std.specs.Prelude.{option_map}
 use Rattle.std.specs.Iterator.{Yields}
 use Rattle.sgb_search.specs.Seams.{is_accepted_across, are_accepted, seam}
-use Rattle.sgb_search.specs.Split.{concat, first, last, neighbours, put_before, split}
+use Rattle.sgb_search.specs.Split.{first, last, put_before, split}
 use Rattle.sgb_search.proofs.Splits.Joined.{split_joins}
 use Rattle.sgb_search.proofs.Splits.Split.{split_begins}
 use Rattle.sgb_stream_group.specs.declared.parts.Parts.{Parts}
-use Rattle.sgb_stream_group.specs.Streams.{across, asked_pairs, begins_at, both, last_after, as_parts, or_before, pair_list}
+use Rattle.sgb_stream_group.specs.Streams.{across, as_parts, begins_at, both, last_after, or_before}
 use Rattle.sgb_stream_group.specs.Streams.{GivesPart, with_part, with_parts}
 use Rattle.sgb_stream_group.proofs.Ends.{not_not, first_mapped, last_mapped}
-use Rattle.std.proofs.Common.{subst}
-use Rattle.std.proofs.lemmas.List.{map-append}
-use Rattle.sgb_search.specs.declared.judge.Judge.{Ghosts}
-use Rattle.sgb_search.proofs.Questions.Runs.{run_append}
-use Rattle.sgb_stream_group.specs.Streams.{AsksBlocks, AsksPairs}
 
 module _ {A : Type 0} where
   pub last_some : (x : A) (xs : List A) → (z : A) × (last (x ∷ xs) ≡ Some z)
@@ -114,7 +109,7 @@ module _ {I X A : Type 0} (gives : I → Option X → I → Type 0) (shows : X �
   shown_alone [] = refl
   shown_alone (x ∷ xs) = ap (λ l. shows x.1 ∷ l) (shown_alone xs)
 
--- what is kept, and what is asked
+-- what is kept
 module _ {A : Type 0} where
   or_last : (x : A) (xs : List A) (before : Option A) → or_before (last (x ∷ xs)) before ≡ last (x ∷ xs)
   or_last x xs before = let z = last_some x xs in rw z.1 refl
@@ -124,34 +119,6 @@ module _ {A : Type 0} where
   last_kept [] (y ∷ ys) = sym (or_last y ys None)
   last_kept (x ∷ []) (y ∷ ys) = sym (or_last y ys (Some x))
   last_kept (x ∷ z ∷ zs) (y ∷ ys) = last_kept (z ∷ zs) (y ∷ ys)
-
-  abbrev behind : Option A → List A → List A
-  behind None xs = xs
-  behind (Some x) xs = x ∷ xs
-
-  inside : (x : A) (xs ys : List A) → neighbours (x ∷ xs) ++ neighbours (behind (last (x ∷ xs)) ys) ≡ neighbours (x ∷ (xs ++ ys))
-  inside x [] ys = refl
-  inside x (z ∷ zs) ys = ap (λ l. (x, z) ∷ l) (inside z zs ys)
-
-  asked_block : (before : Option A) (block ys : List A)
-      → pair_list (across before block) ++ (neighbours block ++ neighbours (behind (last_after before block) ys))
-      ≡ neighbours (behind before (block ++ ys))
-  asked_block None [] ys = refl
-  asked_block (Some w) [] ys = refl
-  asked_block None (x ∷ xs) ys =
-      ap (λ o. neighbours (x ∷ xs) ++ neighbours (behind o ys)) (or_last x xs None) ∙ inside x xs ys
-  asked_block (Some w) (x ∷ xs) ys =
-      ap (λ l. (w, x) ∷ l) (ap (λ o. neighbours (x ∷ xs) ++ neighbours (behind o ys)) (or_last x xs (Some w)) ∙ inside x xs ys)
-
-  asked_from : (before : Option A) (blocks : List (List A)) → asked_pairs before blocks ≡ neighbours (behind before (concat blocks))
-  asked_from None [] = refl
-  asked_from (Some x) [] = refl
-  asked_from before (block ∷ blocks) =
-      ap (λ l. pair_list (across before block) ++ (neighbours block ++ l)) (asked_from (last_after before block) blocks)
-      ∙ asked_block before block (concat blocks)
-
-  pub asked_once : (blocks : List (List A)) → asked_pairs None blocks ≡ neighbours (concat blocks)
-  asked_once blocks = asked_from None blocks
 
 -- by a key
 module _ {A K : Type 0} (k : A → K) where
@@ -175,25 +142,3 @@ module _ {A K : Type 0} (k : A → K) where
       → begins_at eq (across (option_map k before) (map k block)) ≡ begins_at (λ a b. eq (k a) (k b)) (across before block)
   keys_begin eq before block =
       ap (λ o. begins_at eq (both (option_map k before) o)) (first_mapped k block) ∙ both_mapped eq before (first block)
-
--- what is asked about all blocks
-module _ {T J : Type 0} (g : Ghosts J T) where
-  pub asks_then : (ps qs : List (T × T)) (j k l : J) → AsksPairs g ps j k → AsksPairs g qs k l → AsksPairs g (ps ++ qs) j l
-  asks_then ps qs j k l a b = record {
-    questions = a.questions ++ b.questions;
-    run = run_append _ _ j a.questions k b.questions l a.run b.run;
-    are =
-        map-append {B = T × T} (λ r. r.0) a.questions b.questions ∙ ap (λ t. t ++ map (λ r. r.0) b.questions) a.are
-        ∙ ap (λ t. ps ++ t) b.are;
-  }
-
-  asks_blocks : (before : Option T) (blocks : List (List T)) (j k : J) → AsksBlocks g before blocks j k
-      → AsksPairs g (asked_pairs before blocks) j k
-  asks_blocks before [] j k e = record { questions = []; run = e; are = refl }
-  asks_blocks before (block ∷ blocks) j k h =
-      subst (λ t. AsksPairs g t j k) (append_assoc (pair_list (across before block)) (neighbours block) (asked_pairs (last_after before block) blocks))
-      (asks_then (pair_list (across before block) ++ neighbours block) (asked_pairs (last_after before block) blocks) j h.0 k h.1
-      (asks_blocks (last_after before block) blocks h.0 k h.2))
-
-  pub asks_walk : (blocks : List (List T)) (j k : J) → AsksBlocks g None blocks j k → AsksPairs g (neighbours (concat blocks)) j k
-  asks_walk blocks j k h = subst (λ t. AsksPairs g t j k) (asked_once blocks) (asks_blocks None blocks j k h)

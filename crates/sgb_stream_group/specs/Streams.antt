@@ -3,9 +3,8 @@ use Rattle.std.specs.Prelude.{◌≡◌, Bool, true, not, cond, List, [], ◌∷
 use Rattle.std.specs.Borrow.{Bor}
 use Rattle.std.specs.Fn.{CalledAt, Mut}
 use Rattle.std.specs.List.{fold}
-use Rattle.sgb_search.specs.declared.judge.Judge.{Ghosts}
 use Rattle.sgb_search.specs.Judges.{IsRun, by_predicate, predicate_judge}
-use Rattle.sgb_search.specs.Split.{first, last, neighbours}
+use Rattle.sgb_search.specs.Split.{first, last}
 use Rattle.sgb_stream_group.specs.declared.parts.Parts.{Parts}
 use Rattle.sgb_stream_group.specs.declared.stream.StreamGroups.{StreamGroups}
 
@@ -59,11 +58,6 @@ module _ {A : Type 0} where
   pair_list None = []
   pair_list (Some q) = q ∷ []
 
-  abbrev pub asked_pairs : Option A → List (List A) → List (A × A)
-  asked_pairs before [] = []
-  asked_pairs before (block ∷ blocks) =
-      pair_list (across before block) ++ (neighbours block ++ asked_pairs (last_after before block) blocks)
-
 -- the last element that has come, or its key
 abbrev pub kept_of : {K : Type 0} → StreamGroups K → Option K
 kept_of s = s.kept
@@ -87,19 +81,6 @@ pub record AsksAcross {P T : Type 0} (g : Mut P (Bor T × (Bor T × Unit {0})) B
   pub run : IsRun (by_predicate g).may_ask (by_predicate g).answers (predicate_judge f) (map (λ q. (q, not begins)) (pair_list pair))
       (predicate_judge f')
   pub alone : pair ≡ None → begins ≡ true
-
-module _ {T J : Type 0} (g : Ghosts J T) where
-  -- a run of questions about just these pairs, in their order
-  pub record AsksPairs (pairs : List (T × T)) (j k : J) : Type 0 where
-    pub questions : List ((T × T) × Bool)
-    pub run : IsRun g.may_ask g.answers j questions k
-    pub are : map (λ r. r.0) questions ≡ pairs
-
-  -- from j to k the judge is asked, of each block, about the pair across and then about its neighbours
-  abbrev pub AsksBlocks : Option T → List (List T) → J → J → Type 0
-  AsksBlocks before [] j k = k ≡ j
-  AsksBlocks before (block ∷ blocks) j k =
-      (l : J) × AsksPairs (pair_list (across before block) ++ neighbours block) j l × AsksBlocks (last_after before block) blocks l k
 
 -- the key function is called on the one element, and then on the other
 pub record CallsTwice {F T K : Type 0} (g : Mut F (Bor T × Unit {0}) K) (first last : T) (f f' : F) : Type 0 where

@@ -4,7 +4,6 @@ pub mod Yields
 pub mod StreamParts
 pub mod GroupsToCome
 pub mod FamiliesAgree
-pub mod HandedOut
 pub mod Offsets
 pub mod Keyed
 pub mod Dedup

@@ -31,6 +31,7 @@ pub use Rattle.sgb_merge_join.specs.JoinKinds
 pub use Rattle.sgb_merge_join.specs.Blocks
 pub use Rattle.sgb_groups.specs.Gives
 pub use Rattle.sgb_groups.specs.Shards
+pub use Rattle.sgb_groups.specs.Boundaries
 pub use Rattle.sgb_linear_group.specs.Best
 pub use Rattle.sgb_stream_group.specs.Streams
 pub use Rattle.sgb_linear_str_group.specs.Texts
@@ -39,4 +40,3 @@ pub use Rattle.sgb_loans.specs.Loans
 pub use Rattle.sgb_search.specs.declared.end.End
 pub use Rattle.sgb_masks.specs.declared.ascii_classes.AsciiClass
 pub use Rattle.sgb_merge_join.specs.declared.either_or_both.EitherOrBoth
-pub use Rattle.sgb_search.specs.Boundaries

@@ -1,7 +1,5 @@
 -- What one call of a queue of groups does, and what a list of calls does.
-use Rattle.std.specs.Prelude.{◌≡◌, Bool, List, [], ◌∷◌, ◌++◌, Option, None, Some, reverse}
-use Rattle.std.specs.Borrow.{GName}
-use Rattle.sgb_loans.specs.declared.loans.Loans.{Loans}
+use Rattle.std.specs.Prelude.{◌≡◌, Bool, List, [], ◌∷◌, ◌++◌, Option, Some, reverse}
 use Rattle.sgb_search.specs.Split.{concat, IsSplit}
 use Rattle.slice_group_by.specs.Queue.{pops, after_pops}
 use Rattle.sgb_search.specs.declared.end.End.{End}
@@ -38,17 +36,3 @@ pub record AnswersAsQueue {A : Type 0} (p : A → A → Bool) (xs : List A) (end
   pub only : (qs : List (List A)) → IsSplit p xs qs → qs ≡ ps
   pub gave : groups ≡ pops ps ends
   pub rest : IsSplit p ys (after_pops ps ends)
-
--- the parts that the calls gave, each by its name and with the end that it came off
-abbrev pub handed_out : {X : Type 0} → (X → GName) → List End → List (Option X) → List (End × GName)
-handed_out name (e ∷ es) (Some x ∷ os) = (e, name x) ∷ handed_out name es os
-handed_out name (e ∷ es) (None ∷ os) = handed_out name es os
-handed_out name [] os = []
-handed_out name (e ∷ es) [] = []
-
--- these parts are out with those that were out before, in this order, and nothing else of what the slice ends as has changed
-pub record HandsOutAll {T : Type 0} (l : Loans T) (parts : List (End × GName)) (m : Loans T) : Type 0 where
-  pub root : m.root ≡ l.root
-  pub before : m.before ≡ l.before
-  pub after : m.after ≡ l.after
-  pub cuts : m.cuts ≡ l.cuts ++ parts

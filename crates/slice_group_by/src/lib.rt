@@ -24,7 +24,7 @@
 //! - `StreamGroups`: a stream that comes in blocks;
 //! - `MergeJoinBy`, `MergeJoin`: two sorted slices; `joinable_prefixes`, if they come in blocks;
 //! - `exponential_search`, `exponential_partition_point`, `exponential_equal_places`: a sorted slice, and what is sought;
-//! - `linear_boundary`, `exponential_boundary`: a slice to cut between two groups; `shards` of its groups: into parts for threads;
+//! - `boundary` of groups: a slice to cut between two of them; `shards`: into parts for threads;
 //! - `partition_best_by`: to keep the first or the best element of each group, in place.
 //!
 //! Types come as `..By` (a predicate), `..ByKey` (a key function) and `..Mut` (for writing) too, and as methods of slices,
@@ -37,17 +37,12 @@
 #![tactic(auto)]
 
 pub mod adapters;
-mod boundaries;
 mod join;
 pub mod laws;
 pub mod loans;
 mod traits;
 
 pub use adapters::{GroupAdapters, dedup_with_count};
-pub use boundaries::{
-    exponential_boundary, exponential_boundary_by, exponential_boundary_by_key, linear_boundary,
-    linear_boundary_by, linear_boundary_by_key,
-};
 pub use join::MergeJoin;
 pub use join::outer::OuterJoin;
 pub use laws::plans::{Plan, refute};
@@ -79,10 +74,10 @@ pub use sgb_masks::class_counter::ClassCounter;
 pub use sgb_masks::class_counts::{ClassCounts, count_classes};
 pub use sgb_merge_join::{EitherOrBoth, JoinablePrefixes, MergeJoinBy, joinable_prefixes};
 pub use sgb_numbers::lanes::Lanes;
-pub use sgb_search::partition::{exponential_partition_point, exponential_partition_point_ref};
+pub use sgb_search::partition::exponential_partition_point;
 pub use sgb_search::places::{
     exponential_equal_places, exponential_equal_places_by, exponential_equal_places_by_key,
-    exponential_equal_places_by_key_ref, exponential_equal_places_by_ref,
+    exponential_equal_places_by_ref,
 };
 pub use sgb_search::search::{
     exponential_search, exponential_search_by, exponential_search_by_key,

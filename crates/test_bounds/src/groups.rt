@@ -5,7 +5,7 @@ ghost use Rattle.slice_group_by.specs.Judges.{by_char_key, by_key, char_key_judg
 ghost use Rattle.slice_group_by.specs.Split.{AreApart, AreNeighbours};
 ghost use Rattle.slice_group_by.specs.Texts.{in_characters};
 
-use slice_group_by::laws::{always_callable, always_callable_apart, always_callable_chars};
+use slice_group_by::laws::{always_callable, always_callable_chars};
 use slice_group_by::{
     AsMutSlice, ByteClasses, Elements, ExponentialGroupByKey, ExponentialGroupByKeyMut, GroupBy,
     GroupByClass, GroupByMut, Lanes, StrGroupBy, StrGroupByMut,
@@ -28,7 +28,6 @@ pub fn by_predicate<T, P: FnMut(&T, &T) -> bool>(xs: &[T], p: P, q: P, r: P)
     requires r { P.IsAlwaysCallable r }
 {
     always_callable::<T, P>();
-    always_callable_apart::<T, P>();
     let _ = xs.linear_group_by(p);
     let _ = xs.binary_group_by(q);
     let _ = xs.exponential_group_by(r);
@@ -40,7 +39,6 @@ pub fn by_predicate_mut<T, P: FnMut(&T, &T) -> bool>(mut xs: &mut [T], p: P, q: 
     requires r { P.IsAlwaysCallable r }
 {
     always_callable::<T, P>();
-    always_callable_apart::<T, P>();
     let _ = xs.linear_group_by_mut(p);
     let _ = xs.binary_group_by_mut(q);
     let _ = xs.exponential_group_by_mut(r);

@@ -4,7 +4,6 @@
 
 pub mod groups;
 pub mod iterators;
-pub mod laws;
 pub mod searches;
 pub mod streams;
 pub mod tokens;

@@ -1,5 +1,4 @@
 //! Searches, ranges, partition points, joins and their parts.
-ghost use Rattle.std.specs.Prelude.{drop, ◌-◌};
 ghost use Rattle.slice_group_by.specs.Asking.{IsCallableAcross};
 ghost use Rattle.slice_group_by.specs.Calls.{IsCallableBy};
 ghost use Rattle.slice_group_by.specs.Judges.{by_key, key_judge};
@@ -35,15 +34,12 @@ pub fn by_key<T, B: Ord + Drop, F: FnMut(&T) -> B>(xs: &[T], b: &B, f: F, g: F, 
     let _ = exponential_search_by_key(xs, b, f);
     let _ = exponential_equal_places_by_key(xs, b, g);
     let _ = exponential_search_by_key_ref(xs, b, lent);
-    let _ = exponential_equal_places_by_key_ref(xs, b, lent);
 }
 
-pub fn points<T, P: FnMut(&T) -> bool>(xs: &[T], p: P, lent: &mut P)
-    requires p { IsCallableOn P.FnMut xs.now p }
-    requires lent { IsCallableOn P.FnMut xs.now lent.old }
+pub fn points<T, P: FnMut(&T) -> bool>(xs: &[T], p: P)
+    requires { IsCallableOn P.FnMut xs.now p }
 {
     let _ = exponential_partition_point(xs, p);
-    let _ = exponential_partition_point_ref(xs, lent);
 }
 
 pub fn joined_by_key<A, B, FA: Fn(&A) -> K, FB: Fn(&B) -> K, K: Ord + Drop>(
@@ -88,20 +84,6 @@ pub fn values<L: Copy + Eq + Debug, R: Copy + Eq + Debug>(end: &End, part: &Eith
     is_copied(part);
 }
 
-pub fn boundaries<T: PartialEq>(xs: &[T], index: usize) {
-    let _ = (linear_boundary(xs, index), exponential_boundary(xs, index));
-}
-
-pub fn boundaries_by<T, P: FnMut(&T, &T) -> bool>(xs: &[T], index: usize, p: P, q: P)
-    requires p { P.IsAlwaysCallable p }
-    requires q { P.IsAlwaysCallable q }
-{
-    laws::always_callable::<T, P>();
-    laws::always_callable_apart::<T, P>();
-    let _ = linear_boundary_by(xs, index, p);
-    let _ = exponential_boundary_by(xs, index, q);
-}
-
 pub fn best_by<T, P: FnMut(&T, &T) -> bool, B: FnMut(&T, &T) -> bool>(xs: &mut [T], p: P, b: B)
     requires p { P.IsAlwaysCallable p }
     requires b { B.IsAlwaysCallable b }
@@ -119,19 +101,4 @@ pub fn best_by_key<T, F: FnMut(&T) -> K, K: PartialEq + Drop, B: FnMut(&T, &T) -
     requires b { B.IsAlwaysCallable b }
 {
     let _ = partition_best_by_key(xs, f, b);
-}
-
-pub fn boundaries_by_key<T, F: FnMut(&T) -> K, K: PartialEq + Drop>(
-    xs: &[T],
-    index: usize,
-    f: F,
-    g: F,
-)
-    requires f { IsCallableBy AreNeighbours (by_key F.FnMut K.eq)
-        (record { remainder = drop (index - 1) xs.now; judge = key_judge f }) }
-    requires g { IsCallableBy AreApart (by_key F.FnMut K.eq)
-        (record { remainder = drop (index - 1) xs.now; judge = key_judge g }) }
-{
-    let _ = linear_boundary_by_key(xs, index, f);
-    let _ = exponential_boundary_by_key(xs, index, g);
 }

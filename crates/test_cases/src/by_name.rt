@@ -2,32 +2,138 @@
 use crate::calls::Group;
 use slice_group_by::{BinaryGroup, ExponentialGroup, LinearGroup};
 
-// A slice and its three groups.
-type Three = (&'static [i32], [Group; 3]);
+// A name; a slice; calls, `F` at the front, `B` at the back and `L` of `last` on new groups; and what they answer.
+type Case = (&'static str, &'static [i32], &'static str, &'static [Group]);
 
-const UNSORTED: Three = (
-    &[1, 1, 1, 3, 3, 2, 2, 2],
-    [Some(&[1, 1, 1]), Some(&[3, 3]), Some(&[2, 2, 2])],
-);
+const CASES: &[Case] = &[
+    (
+        "one_big_group",
+        &[1, 1, 1, 1],
+        "FF",
+        &[Some(&[1, 1, 1, 1]), None],
+    ),
+    (
+        "two_equal_groups",
+        &[1, 1, 1, 1, 2, 2, 2, 2],
+        "FFF",
+        &[Some(&[1, 1, 1, 1]), Some(&[2, 2, 2, 2]), None],
+    ),
+    (
+        "two_little_equal_groups",
+        &[1, 2],
+        "FFF",
+        &[Some(&[1]), Some(&[2]), None],
+    ),
+    ("last_of_nothing", &[], "L", &[None]),
+    ("back_empty_slice", &[], "B", &[None]),
+    (
+        "back_one_little_group",
+        &[1],
+        "BBF",
+        &[Some(&[1]), None, None],
+    ),
+    (
+        "fused_iterator",
+        &[1, 2, 3],
+        "FFFFF",
+        &[Some(&[1]), Some(&[2]), Some(&[3]), None, None],
+    ),
+    (
+        "back_fused_iterator",
+        &[1, 2, 3],
+        "BBBBB",
+        &[Some(&[3]), Some(&[2]), Some(&[1]), None, None],
+    ),
+];
 
-const UNSORTED_LITTLE: Three = (&[1, 3, 2], [Some(&[1]), Some(&[3]), Some(&[2])]);
+// The others are of linear groups over slices that are not sorted, and of the other families over sorted ones.
+const NOT_SORTED: &[Case] = &[
+    ("three_groups", THREE, "FFFF", &[ONES, THREES, TWOS, None]),
+    (
+        "three_little_groups",
+        LITTLE,
+        "FFFF",
+        &[Some(&[1]), Some(&[3]), Some(&[2]), None],
+    ),
+    ("last_three_little_groups", LITTLE, "L", &[Some(&[2])]),
+    ("last_three_groups", THREE, "L", &[TWOS]),
+    (
+        "back_three_little_groups",
+        LITTLE,
+        "BBBB",
+        &[Some(&[2]), Some(&[3]), Some(&[1]), None],
+    ),
+    (
+        "back_three_groups",
+        THREE,
+        "BBBB",
+        &[TWOS, THREES, ONES, None],
+    ),
+    (
+        "double_ended_dont_cross",
+        THREE,
+        "FBFBF",
+        &[ONES, TWOS, THREES, None, None],
+    ),
+];
 
-const SORTED: Three = (
-    &[1, 1, 1, 2, 2, 2, 3, 3],
-    [Some(&[1, 1, 1]), Some(&[2, 2, 2]), Some(&[3, 3])],
-);
+const THREE: &[i32] = &[1, 1, 1, 3, 3, 2, 2, 2];
 
-const SORTED_LITTLE: Three = (&[1, 2, 3], [Some(&[1]), Some(&[2]), Some(&[3])]);
+const LITTLE: &[i32] = &[1, 3, 2];
+
+const SORTED: &[Case] = &[
+    (
+        "three_groups",
+        SORTED_THREE,
+        "FFFF",
+        &[ONES, TWOS, THREES, None],
+    ),
+    (
+        "three_little_groups",
+        SORTED_LITTLE,
+        "FFFF",
+        &[Some(&[1]), Some(&[2]), Some(&[3]), None],
+    ),
+    (
+        "last_three_little_groups",
+        SORTED_LITTLE,
+        "L",
+        &[Some(&[3])],
+    ),
+    ("last_three_groups", SORTED_THREE, "L", &[THREES]),
+    (
+        "back_three_little_groups",
+        SORTED_LITTLE,
+        "BBBB",
+        &[Some(&[3]), Some(&[2]), Some(&[1]), None],
+    ),
+    (
+        "back_three_groups",
+        SORTED_THREE,
+        "BBBB",
+        &[THREES, TWOS, ONES, None],
+    ),
+    (
+        "double_ended_dont_cross",
+        SORTED_THREE,
+        "FBFBF",
+        &[ONES, THREES, TWOS, None, None],
+    ),
+];
+
+const SORTED_THREE: &[i32] = &[1, 1, 1, 2, 2, 2, 3, 3];
+
+const SORTED_LITTLE: &[i32] = &[1, 2, 3];
+
+const ONES: Group = Some(&[1, 1, 1]);
+
+const TWOS: Group = Some(&[2, 2, 2]);
+
+const THREES: Group = Some(&[3, 3]);
 
 /// A family of groups of equal numbers.
 trait Family {
     type Groups: Drop;
-
-    /// Three groups, not sorted where the family does not ask for it.
-    fn three() -> Three;
-
-    /// The same with groups of one element.
-    fn three_little() -> Three;
 
     fn over(slice: &'static [i32]) -> Self::Groups;
 
@@ -42,14 +148,6 @@ struct Linear;
 
 impl Family for Linear {
     type Groups = LinearGroup<'static, i32>;
-
-    fn three() -> Three {
-        UNSORTED
-    }
-
-    fn three_little() -> Three {
-        UNSORTED_LITTLE
-    }
 
     fn over(slice: &'static [i32]) -> LinearGroup<'static, i32> {
         LinearGroup::new(slice)
@@ -73,14 +171,6 @@ struct Binary;
 impl Family for Binary {
     type Groups = BinaryGroup<'static, i32>;
 
-    fn three() -> Three {
-        SORTED
-    }
-
-    fn three_little() -> Three {
-        SORTED_LITTLE
-    }
-
     fn over(slice: &'static [i32]) -> BinaryGroup<'static, i32> {
         BinaryGroup::new(slice)
     }
@@ -103,14 +193,6 @@ struct Exponential;
 impl Family for Exponential {
     type Groups = ExponentialGroup<'static, i32>;
 
-    fn three() -> Three {
-        SORTED
-    }
-
-    fn three_little() -> Three {
-        SORTED_LITTLE
-    }
-
     fn over(slice: &'static [i32]) -> ExponentialGroup<'static, i32> {
         ExponentialGroup::new(slice)
     }
@@ -128,121 +210,43 @@ impl Family for Exponential {
     }
 }
 
-// Whether these calls, `F` at the front and `B` at the back, answer so.
-fn gives<F: Family>(slice: &'static [i32], calls: &str, answers: &[Group]) -> bool {
+fn answers<F: Family>(slice: &'static [i32], calls: &str, wanted: &[Group]) -> bool {
     let mut groups = F::over(slice);
-    for (call, wanted) in calls.bytes().zip(answers) {
+    for (call, wanted) in calls.bytes().zip(wanted) {
         let group = match call {
             b'F' => F::next(&mut groups),
-            _ => F::next_back(&mut groups),
+            b'B' => F::next_back(&mut groups),
+            _ => F::last(F::over(slice)),
         };
         if group != *wanted {
             return false;
         }
     }
-    calls.len() == answers.len()
+    calls.len() == wanted.len()
 }
 
-fn one_big_group<F: Family>() -> bool {
-    gives::<F>(&[1, 1, 1, 1], "FF", &[Some(&[1, 1, 1, 1]), None])
+// The name of the first case that the family answers otherwise.
+fn first_failure<F: Family>(cases: &[Case]) -> Option<&'static str> {
+    for (name, slice, calls, wanted) in cases {
+        if !answers::<F>(slice, calls, wanted) {
+            return Some(name);
+        }
+    }
+    None
 }
 
-fn two_equal_groups<F: Family>() -> bool {
-    let answers: [Group; 3] = [Some(&[1, 1, 1, 1]), Some(&[2, 2, 2, 2]), None];
-    gives::<F>(&[1, 1, 1, 1, 2, 2, 2, 2], "FFF", &answers)
-}
-
-fn two_little_equal_groups<F: Family>() -> bool {
-    gives::<F>(&[1, 2], "FFF", &[Some(&[1]), Some(&[2]), None])
-}
-
-fn three_groups<F: Family>() -> bool {
-    let (slice, [first, second, third]) = F::three();
-    gives::<F>(slice, "FFFF", &[first, second, third, None])
-}
-
-fn three_little_groups<F: Family>() -> bool {
-    let (slice, [first, second, third]) = F::three_little();
-    gives::<F>(slice, "FFFF", &[first, second, third, None])
-}
-
-fn last_three_little_groups<F: Family>() -> bool {
-    let (slice, [_, _, last]) = F::three_little();
-    F::last(F::over(slice)) == last
-}
-
-fn last_three_groups<F: Family>() -> bool {
-    let (slice, [_, _, last]) = F::three();
-    F::last(F::over(slice)) == last
-}
-
-fn last_of_nothing<F: Family>() -> bool {
-    F::last(F::over(&[])).is_none()
-}
-
-fn back_empty_slice<F: Family>() -> bool {
-    gives::<F>(&[], "B", &[None])
-}
-
-fn back_one_little_group<F: Family>() -> bool {
-    gives::<F>(&[1], "BBF", &[Some(&[1]), None, None])
-}
-
-fn back_three_little_groups<F: Family>() -> bool {
-    let (slice, [first, second, third]) = F::three_little();
-    gives::<F>(slice, "BBBB", &[third, second, first, None])
-}
-
-fn back_three_groups<F: Family>() -> bool {
-    let (slice, [first, second, third]) = F::three();
-    gives::<F>(slice, "BBBB", &[third, second, first, None])
-}
-
-fn double_ended_dont_cross<F: Family>() -> bool {
-    let (slice, [first, second, third]) = F::three();
-    gives::<F>(slice, "FBFBF", &[first, third, second, None, None])
-}
-
-fn fused_iterator<F: Family>() -> bool {
-    let answers: [Group; 5] = [Some(&[1]), Some(&[2]), Some(&[3]), None, None];
-    gives::<F>(&[1, 2, 3], "FFFFF", &answers)
-}
-
-fn back_fused_iterator<F: Family>() -> bool {
-    let answers: [Group; 5] = [Some(&[3]), Some(&[2]), Some(&[1]), None, None];
-    gives::<F>(&[1, 2, 3], "BBBBB", &answers)
-}
-
-// Whether the family answers each case.
-fn answered<F: Family>() -> [(&'static str, bool); 15] {
+fn failures() -> [Option<&'static str>; 6] {
     [
-        ("one_big_group", one_big_group::<F>()),
-        ("two_equal_groups", two_equal_groups::<F>()),
-        ("two_little_equal_groups", two_little_equal_groups::<F>()),
-        ("three_groups", three_groups::<F>()),
-        ("three_little_groups", three_little_groups::<F>()),
-        ("last_three_little_groups", last_three_little_groups::<F>()),
-        ("last_three_groups", last_three_groups::<F>()),
-        ("last_of_nothing", last_of_nothing::<F>()),
-        ("back_empty_slice", back_empty_slice::<F>()),
-        ("back_one_little_group", back_one_little_group::<F>()),
-        ("back_three_little_groups", back_three_little_groups::<F>()),
-        ("back_three_groups", back_three_groups::<F>()),
-        ("double_ended_dont_cross", double_ended_dont_cross::<F>()),
-        ("fused_iterator", fused_iterator::<F>()),
-        ("back_fused_iterator", back_fused_iterator::<F>()),
+        first_failure::<Linear>(CASES),
+        first_failure::<Linear>(NOT_SORTED),
+        first_failure::<Binary>(CASES),
+        first_failure::<Binary>(SORTED),
+        first_failure::<Exponential>(CASES),
+        first_failure::<Exponential>(SORTED),
     ]
 }
 
 #[test]
 fn each_family_answers(rt: HostRuntime) {
-    for (name, answers) in answered::<Linear>() {
-        assert!(rt; answers, "linear: {name}");
-    }
-    for (name, answers) in answered::<Binary>() {
-        assert!(rt; answers, "binary: {name}");
-    }
-    for (name, answers) in answered::<Exponential>() {
-        assert!(rt; answers, "exponential: {name}");
-    }
+    assert_eq!(rt; failures(), [None; 6]);
 }

@@ -75,14 +75,27 @@ fn halving(alloc: Global) -> Result<Plan, AllocError> {
     ask(alloc, 2, upper, lower)
 }
 
+// Where plans for up to four elements are refuted.
+fn refuted(alloc: Global) -> Result<[usize; 4], AllocError> {
+    let short = ask(alloc, 1, Answer(2), Answer(1))?;
+    let plans = [
+        scanning(alloc)?,
+        last_place_first(alloc)?,
+        short,
+        halving(alloc)?,
+    ];
+    Ok([
+        refute(&plans[0], 4),
+        refute(&plans[1], 4),
+        refute(&plans[2], 4),
+        refute(&plans[3], 4),
+    ])
+}
+
 #[test]
 fn plans_are_refuted(rt: HostRuntime) -> Result<(), AllocError> {
-    let alloc = rt.alloc();
     assert_eq!(rt; refute(&Answer(1), 1), 1);
-    assert!(rt; matches!(refute(&scanning(alloc)?, 4), 2..=4));
-    assert!(rt; matches!(refute(&last_place_first(alloc)?, 4), 1..=3));
-    assert!(rt; matches!(refute(&ask(alloc, 1, Answer(2), Answer(1))?, 4), 3..=4));
-    assert!(rt; matches!(refute(&halving(alloc)?, 4), 1..=4));
+    assert!(rt; matches!(refuted(rt.alloc())?, [2..=4, 1..=3, 3..=4, 1..=4]));
     Ok(())
 }
 

@@ -49,26 +49,6 @@ pub fn calls_may_go_on<Q: GroupQueue>(_queue: &Q)
         → Q.can_pop q → Q.can_pop t }
 {}
 
-/// A list of calls on a queue, made one by one, as a loop of a caller makes them: what `walk` promises of its calls.
-pub fn chains_answer<Q: GroupQueue>(_queue: &Q)
-    ensures none { (q : Q) → IsChain Q.gives q [] [] q }
-    ensures more { (q r t : Q) (ends : List End) (out : List (Option Q.Item)) (e : End) (group : Option Q.Item)
-        → IsChain Q.gives q ends out r → Q.gives e r group t
-        → IsChain Q.gives q (ends ++ e ∷ []) (out ++ group ∷ []) t }
-    ensures partition { (q t : Q) (ends : List End) (out : List (Option Q.Item))
-        → IsChain Q.gives q ends out t → Partition ends (map (option_map Q.shows) out) (Q.remainder t) (Q.remainder q) }
-    ensures pieces { (p : Q.Element → Q.Element → Bool) (q t : Q) (ends : List End) (out : List (Option Q.Item))
-        → IsChain Q.gives q ends out t → Q.is_settled q p
-        → map (option_map Q.shows) out ≡ pops (split p (Q.remainder q)) ends }
-    ensures left { (p : Q.Element → Q.Element → Bool) (q t : Q) (ends : List End) (out : List (Option Q.Item))
-        → IsChain Q.gives q ends out t → Q.is_settled q p
-        → split p (Q.remainder t) ≡ after_pops (split p (Q.remainder q)) ends }
-    ensures settled { (p : Q.Element → Q.Element → Bool) (q t : Q) (ends : List End) (out : List (Option Q.Item))
-        → IsChain Q.gives q ends out t → Q.is_settled q p → Q.is_settled t p }
-    ensures questions { (q t : Q) (ends : List End) (out : List (Option Q.Item))
-        → IsChain Q.gives q ends out t → AsksWithin Q.asked Q.due Q.exact q t }
-{}
-
 /// What a loop or an adapter sees of a settled queue: the pieces of the split in order, and from the back or under `rev()`
 /// in reverse. `next` and `next_back` of this library's types give `gives Front` and `gives Back`. The lemmas of the standard
 /// library that take it stand in `Rattle.std.proofs.lemmas.Iterator.Consumers`, as `count_from_yields_List`.

@@ -19,8 +19,13 @@ pub fn pieces_share_keys<T, K: PartialEq>()
         → Contains (split (λ a b. K.eq (key a) (key b)) xs) g → Contains g x → Contains g y → K.eq (key x) (key y) ≡ true }
 {}
 
-/// In a list that ascends by a key the pieces ascend strictly: each element of a piece has a lesser key than each of a later one, so
-/// no key has two pieces. The keys of their first elements, which `dedup` leaves (`pieces_begin_as_dedup`), ascend strictly too.
+/// In a list that ascends by a key:
+///
+/// - `ascend`: the pieces ascend strictly. Each element of a piece has a lesser key than each of a later one, so no key has two pieces.
+/// - `firsts`: so do the keys of their first elements, which `dedup` leaves (`pieces_begin_as_dedup`).
+/// - `each`: a piece holds all elements of its key. A filter of the list by the key of any of its elements gives the piece.
+/// - `keyed`, `by_first`: the pieces with their keys, as `sees_keys` has them, are the keys in order, each once, and with each all
+///   elements that have it.
 pub fn pieces_by_key<T, K: Ord>()
     ensures ascend { (key : T → K) (xs : List T) → NeverDescends K.cmp (map key xs)
         → (i j : ℕ) (g h : List T) (x y : T) → i < j → slice_get (split (λ a b. K.eq (key a) (key b)) xs) i ≡ Some g
@@ -28,12 +33,6 @@ pub fn pieces_by_key<T, K: Ord>()
         → K.cmp (key x) (key y) ≡ Less }
     ensures firsts { (key : T → K) (xs : List T) → NeverDescends K.cmp (map key xs)
         → IsStrictlySortedBy K.cmp (map key (dedup (λ a b. K.eq (key a) (key b)) xs)) }
-{}
-
-/// In a list that ascends by a key, a piece holds all elements of its key: a filter of the list by the key of any of its elements
-/// gives the piece (`each`). The pieces with their keys, as `sees_keys` has them, are then the keys in order, each once, and with
-/// each all elements that have it (`keyed`, `by_first`).
-pub fn pieces_are_filters<T, K: Ord>()
     ensures each { (key : T → K) (xs g : List T) (x : T) → NeverDescends K.cmp (map key xs)
         → Contains (split (λ a b. K.eq (key a) (key b)) xs) g → Contains g x → g ≡ filter (λ y. K.eq (key y) (key x)) xs }
     ensures keyed { (key : T → K) (xs : List T) → NeverDescends K.cmp (map key xs)

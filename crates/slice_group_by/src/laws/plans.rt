@@ -1,10 +1,10 @@
 //! Plans of questions, and an adversary that shows what each of them costs.
-ghost use Rattle.std.specs.Prelude.{ℕ, ◌-◌};
+ghost use Rattle.std.specs.Prelude.{◌≡◌, ℕ, ◌-◌, ◌<◌, ◌≤◌, ◌^◌, Bool, List, Some, length, nat_lt};
+ghost use Rattle.std.specs.List.{slice_get};
 ghost use Rattle.sgb_search.specs.Searching.{digits};
 ghost use Rattle.slice_group_by.specs.declared.laws.plans.Plan.{Plan};
-ghost use Rattle.slice_group_by.specs.Plans.{run, IsRight};
-ghost use Rattle.std.specs.Prelude.{◌≤◌, ◌<◌};
-ghost use Rattle.slice_group_by.specs.Plans.{IsRefuted};
+ghost use Rattle.sgb_search.specs.Split.{IsGrouped, first, split};
+ghost use Rattle.slice_group_by.specs.Plans.{IsRefuted, IsRight, run};
 
 /// A plan of questions that finds how long the first group of a grouped slice is, by comparing its first element with others.
 ///
@@ -53,8 +53,17 @@ pub fn refute(plan: &Plan, n: usize) -> usize
 }
 
 /// No plan of questions has a smaller worst case than halving: each that answers every length from 1 up to n rightly asks
-/// at least `digits(n - 1)` questions at one of them. A plan compares the first element with others, and nothing else.
-pub fn right_plans_ask()
-    ensures { (plan : Plan) (n : ℕ) → 0 < n → IsRight plan 1 n
+/// at least `digits(n - 1)` questions at one of them (`most`). `digits(m)` is the least d with m below the d-th power of two
+/// (`above`, `least`).
+///
+/// A plan compares the first element with others, and nothing else. Of a grouped list, the element at a place q > 0 agrees with
+/// the first, in either order, exactly if the first piece has more than q elements (`agrees`).
+pub fn right_plans_ask<T>()
+    ensures most { (plan : Plan) (n : ℕ) → 0 < n → IsRight plan 1 n
         → (l : ℕ) × (1 ≤ l) × (l ≤ n) × (digits (n - 1) ≤ (run plan l).1) }
+    ensures above { (m : ℕ) → m < 2 ^ digits m }
+    ensures least { (m d : ℕ) → m < 2 ^ d → digits m ≤ d }
+    ensures agrees { (p : T → T → Bool) (xs group : List T) → IsGrouped p xs → first (split p xs) ≡ Some group
+        → (q : ℕ) (x y : T) → 0 < q → slice_get xs 0 ≡ Some x → slice_get xs q ≡ Some y
+        → (p x y ≡ nat_lt q (length group)) × (p y x ≡ nat_lt q (length group)) }
 {}

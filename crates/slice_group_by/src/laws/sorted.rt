@@ -25,20 +25,18 @@ pub fn is_sorted_for_groups<T: Ord>(slice: &[T]) -> bool
 
 /// What sorting leaves never descends: what `sort` ensures, and, by a key that its function computes, what `sort_by_key` does. And
 /// what never descends, as of a slice of which `is_sorted_for_groups` says yes, is sorted as they leave it.
+///
+/// `is_sorted_by_key` says yes exactly of the slices that never descend by the key, which its function computes (`said_by_key`,
+/// `only_by_key`).
 pub fn sorts_ascend<T, K: Ord>()
     ensures by_itself { (xs : List K) → IsSorted K.cmp xs → NeverDescends K.cmp xs }
     ensures by_key { (key : T → K) (xs : List T) → IsSortedByKey key K.cmp xs → NeverDescends K.cmp (map key xs) }
     ensures sorted { (xs : List K) → NeverDescends K.cmp xs → IsSorted K.cmp xs }
     ensures sorted_by_key { (key : T → K) (xs : List T) → NeverDescends K.cmp (map key xs) → IsSortedByKey key K.cmp xs }
-{}
-
-/// The standard library's `is_sorted_by_key` says yes exactly of the slices that never descend by the key, which its function
-/// computes: from what `is_sorted_by_key` ensures.
-pub fn sorted_by_key_ascends<T, K: Ord>()
-    ensures ascends { (key : T → K) (xs : List T) (sorted : Bool)
+    ensures said_by_key { (key : T → K) (xs : List T) (sorted : Bool)
         → IsAllAdjacentAnswer (λ x y b. b ≡ partial_le K.partial_cmp (key x) (key y)) xs sorted
         → sorted ≡ true → NeverDescends K.cmp (map key xs) }
-    ensures only { (key : T → K) (xs : List T) (sorted : Bool)
+    ensures only_by_key { (key : T → K) (xs : List T) (sorted : Bool)
         → IsAllAdjacentAnswer (λ x y b. b ≡ partial_le K.partial_cmp (key x) (key y)) xs sorted
         → NeverDescends K.cmp (map key xs) → sorted ≡ true }
 {}

@@ -9,7 +9,7 @@ ghost use Rattle.sgb_search.specs.Judges.{IsRun};
 ghost use Rattle.sgb_search.specs.Split.{concat, last, neighbours, split};
 ghost use Rattle.sgb_search.specs.declared.end.End.TheVariants.{Front};
 ghost use Rattle.sgb_stream_group.specs.declared.parts.Parts.{Parts};
-ghost use Rattle.sgb_stream_group.specs.Streams.{AsksBlocks, AsksEnds, AsksPairs, GivesPart, across, add_part};
+ghost use Rattle.sgb_stream_group.specs.Streams.{AsksEnds, GivesPart, across, add_part};
 ghost use Rattle.sgb_stream_group.specs.Streams.{as_parts, begins_at, begins_of, change_last, groups_in};
 ghost use Rattle.sgb_stream_group.specs.Streams.{last_after, pair_list, with_part, with_parts};
 ghost use Rattle.slice_group_by.specs.Counts.{RaisesJust};
@@ -88,21 +88,6 @@ pub fn parts_begin_by_keys<T, K>()
         ≡ begins_at (λ x y. eq (k x) (k y)) (across (last before) block) }
     ensures kept { (k : T → K) (before block : List T)
         → last_after (option_map k (last before)) (map k block) ≡ option_map k (last (before ++ block)) }
-{}
-
-/// The questions of a judge that is asked about one block after another are those of one linear walk over all of them,
-/// in its order: n - 1 for n elements (`walk`). The parts of a block of linear groups ask about its neighbouring pairs
-/// (`block`), behind the question about the pair across (`more`), which is that of `AsksAcross`.
-pub fn parts_ask<T, J: Judge<T>, S: Judged<T, J, Linear>>(_parts: &Parts<S>)
-    ensures block { (s t : Parts S) (parts : List (Bool × S.Item))
-        → Yields (GivesPart (S.GroupQueue.gives Front)) s parts t
-        → (S.groups (groups_in t)).remainder ≡ []
-        → AsksPairs J.Judge (neighbours (S.groups (groups_in s)).remainder)
-        (S.groups (groups_in s)).judge (S.groups (groups_in t)).judge }
-    ensures more { (ps qs : List (T × T)) (j k l : J) → AsksPairs J.Judge ps j k → AsksPairs J.Judge qs k l
-        → AsksPairs J.Judge (ps ++ qs) j l }
-    ensures walk { (blocks : List (List T)) (j k : J) → AsksBlocks J.Judge None blocks j k
-        → AsksPairs J.Judge (neighbours (concat blocks)) j k }
 {}
 
 /// What a block of a stream does to a counter that the predicate captured by `&mut`, if each question raises it by just

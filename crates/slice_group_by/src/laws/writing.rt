@@ -3,17 +3,8 @@ ghost use Rattle.std.specs.Prelude.{◌≡◌, Bool, List, ◌++◌, Option, Som
 ghost use Rattle.sgb_search.specs.Split.{concat, split};
 ghost use Rattle.sgb_search.specs.declared.end.End.{End};
 ghost use Rattle.sgb_loans.specs.Loans.{before_with, after_with};
-ghost use Rattle.slice_group_by.specs.Walk.{IsChain, handed_out, HandsOutAll};
 
 use crate::laws::judged::Lends;
-
-/// What a list of calls on groups for writing, as those of `walk`, has handed out: the groups stand at the end of `cuts`, in the
-/// order of the calls, each with its end. Nothing else of what the input ends as has changed. So once these are noted, `finish`
-/// says what the input ends as.
-pub fn chains_hand_out<T, S: Lends<T>>(_groups: &S)
-    ensures { (s t : S) (ends : List End) (out : List (Option S.Item)) → IsChain S.GroupQueue.gives s ends out t
-        → HandsOutAll (S.loans s) (handed_out S.name ends out) (S.loans t) }
-{}
 
 /// What a loop keeps that notes each group as it comes, at either end. A call leads from `s` to `t`, and the note of how its group
 /// was left from `t` to `u`. If `f` says how each piece is left, what is noted, and between it what `f` makes of the pieces to come,

@@ -1,4 +1,4 @@
-use Rattle.std.proofs.Common.{ℕ, List, length, nat_eq, flat_map, sym, ap, ◌∙◌, arith, rules}
+use Rattle.std.proofs.Common.{length, nat_eq, sym, ap, ◌∙◌, arith, rules}
 use Rattle.std.proofs.lemmas.Iterator.{YieldsList-from_map}
 use Rattle.std.proofs.lemmas.Iterator.Consumers.{YieldsList-at, fits_by_from_yields_list, sum_by_from_yields_List}
 use Rattle.std.proofs.lemmas.List.Concat.{length-flat_map}

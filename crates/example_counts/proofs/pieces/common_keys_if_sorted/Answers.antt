@@ -5,24 +5,24 @@ use Rattle.example_counts.proofs.pieces.common_keys_if_sorted.Goals as goal
 
 pub count_common_keys-requires-clause-left : goal.count_common_keys-requires-clause-left
 count_common_keys-requires-clause-left c =
-    c.sorted_by_key_ascends.ensures.ascends key c.args.left.now _
+    c.sorts_ascend.ensures.said_by_key key c.args.left.now _
     (c.is_sorted_by_key.ensures.cases key (always_returns_same _ _ _ (λ a r h k. search rules)))
     (search (rules, c.if-not-is_sorted_by_key))
 
 pub count_common_keys-requires-clause-right : goal.count_common_keys-requires-clause-right
 count_common_keys-requires-clause-right c =
-    c.sorted_by_key_ascends.ensures.ascends key c.args.right.now _
+    c.sorts_ascend.ensures.said_by_key key c.args.right.now _
     (c.is_sorted_by_key-2.ensures.cases key (always_returns_same _ _ _ (λ a r h k. search rules)))
     (search (rules, c.if-not-is_sorted_by_key-2))
 
 pub returns-then-not-is_sorted_by_key-clause-sorted : goal.returns-then-not-is_sorted_by_key-clause-sorted
 returns-then-not-is_sorted_by_key-clause-sorted c left right =
-    let yes = c.sorted_by_key_ascends.ensures.only key c.args.left.now _
+    let yes = c.sorts_ascend.ensures.only_by_key key c.args.left.now _
     (c.is_sorted_by_key.ensures.cases key (always_returns_same _ _ _ (λ a r h k. search rules))) left in
     search (rules, yes)
 
 pub returns-then-not-is_sorted_by_key-2-clause-sorted : goal.returns-then-not-is_sorted_by_key-2-clause-sorted
 returns-then-not-is_sorted_by_key-2-clause-sorted c left right =
-    let yes = c.sorted_by_key_ascends.ensures.only key c.args.right.now _
+    let yes = c.sorts_ascend.ensures.only_by_key key c.args.right.now _
     (c.is_sorted_by_key-2.ensures.cases key (always_returns_same _ _ _ (λ a r h k. search rules))) right in
     search (rules, yes)

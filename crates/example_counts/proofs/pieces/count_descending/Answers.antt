@@ -5,6 +5,6 @@ use Rattle.example_counts.proofs.pieces.count_descending.Goals as goal
 
 pub returns : goal.returns
 returns c =
-    let grouped = c.descending_is_grouped.ensures.by_itself c.args.xs.now c.requires in
+    let grouped = c.ascending_is_grouped.ensures.descending c.args.xs.now c.requires in
     let seen = c.sees_pieces.ensures.pieces nat_eq Front c.new-groups.result (c.new-groups.ensures.settled grouped) in
     rw c.new-groups.ensures.remainder at (count_from_yields_List _ _ c.count.ensures.ran seen)

@@ -16,6 +16,6 @@ returns c =
       subst (ComputesKey _ key) (sym (ap (λ j. j.func) c.new.ensures.judge)) (always_returns_same _ _ _ (λ a r f' k. search rules)),
       tt,
     ))) in
-    rw (groups.ensures, c.new.ensures.remainder, c.pieces_are_filters.ensures.keyed key c.args.rows.now c.requires, map-map)
+    rw (groups.ensures, c.new.ensures.remainder, c.pieces_by_key.ensures.keyed key c.args.rows.now c.requires, map-map)
     at (items_from_collect c.collect.result c.collect.ensures.ran
     (YieldsList-from_map _ (λ run. (run.0, length run.1)) seen c.map.ensures.closure (λ x r q k. search rules)))

@@ -12,4 +12,4 @@ returns c =
     let total : ℕ × List (ℕ × ℕ) → ℕ × ℕ = λ g. (g.0, min (sum_by amount g.1) (2 ^ 64 - 1)) in
     let all = take_all c.loop-block.block-index c.args.blocks.now (search rules) in
     rw all at c.loop-block.invariant.1 ∙ sym (map-map total (λ g. (key (get_or g 0 (0, 0)), g)) (split same_key rows))
-    ∙ ap (map total) (c.pieces_are_filters.ensures.by_first key (0, 0) rows c.requires) ∙ map-map total _ _
+    ∙ ap (map total) (c.pieces_by_key.ensures.by_first key (0, 0) rows c.requires) ∙ map-map total _ _

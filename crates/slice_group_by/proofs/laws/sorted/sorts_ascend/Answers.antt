@@ -1,4 +1,4 @@
-use Rattle.slice_group_by.proofs.Pieces.Adjacent.{sort_ascends, keys_of_neighbours, ascends_sorted, neighbours_of_keys}
+use Rattle.slice_group_by.proofs.Pieces.Adjacent.{sort_ascends, keys_of_neighbours, ascends_sorted, neighbours_of_keys, sorted_by_key, sorted_by_key_only}
 use Rattle.slice_group_by.proofs.laws.sorted.sorts_ascend.Goals as goal
 
 pub returns-clause-by_itself : goal.returns-clause-by_itself
@@ -14,3 +14,11 @@ returns-clause-sorted g c xs h = ascends_sorted g.K.Ord.cmp g.met.K.Ord.total (Î
 pub returns-clause-sorted_by_key : goal.returns-clause-sorted_by_key
 returns-clause-sorted_by_key g c key xs h =
     ascends_sorted g.K.Ord.cmp g.met.K.Ord.total key xs (neighbours_of_keys g.K.Ord.cmp g.met.K.Ord.total key xs h)
+
+pub returns-clause-said_by_key : goal.returns-clause-said_by_key
+returns-clause-said_by_key g c =
+    sorted_by_key g.K.PartialOrd.partial_cmp g.K.Ord.cmp g.met.K.Ord.total g.met.K.Ord.matches_partial_cmp
+
+pub returns-clause-only_by_key : goal.returns-clause-only_by_key
+returns-clause-only_by_key g c =
+    sorted_by_key_only g.K.PartialOrd.partial_cmp g.K.Ord.cmp g.met.K.Ord.total g.met.K.Ord.matches_partial_cmp

@@ -1,6 +1,0 @@
-use Rattle.sgb_search.specs.Split.{AreApart}
-use Rattle.sgb_search.proofs.Questions.Closures.{predicate_callable}
-use Rattle.sgb_search.proofs.laws.always_callable_apart.Goals as goal
-
-pub returns : goal.returns
-returns g c xs = predicate_callable g.P.FnMut (AreApart xs)
