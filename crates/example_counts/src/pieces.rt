@@ -1,6 +1,6 @@
 //! What the pieces of a slice share with the slice: as many as `dedup` leaves, and the same from a descending slice by halving.
-ghost use Rattle.std.specs.Prelude.{◌≡◌, count_by, length, map, nat_eq, IfOk, IfSome, IsSome};
-ghost use Rattle.std.specs.List.{dedup, filter};
+ghost use Rattle.std.specs.Prelude.{◌≡◌, ◌≤◌, ℕ, true, count_by, length, map, nat_eq, take, IfOk, IfSome, IsSome};
+ghost use Rattle.std.specs.List.{AllByRecursion, Contains, dedup, filter};
 ghost use Rattle.std.specs.List.Sorted.{IsStrictlySortedBy};
 ghost use Rattle.std.specs.Ordering.{flip_args, nat_cmp};
 ghost use Rattle.slice_group_by.specs.Search.{NeverDescends};
@@ -10,10 +10,12 @@ ghost use Rattle.example_counts.specs.Keys.{by_key, key, same_key};
 
 use crate::joins::{Entry, count_common_keys};
 use slice_group_by::laws::{
-    ascending_is_grouped, chunk_by_agrees, pieces_begin_as_dedup, pieces_by_key, sees_keys,
-    sees_pieces, sorts_ascend,
+    ascending_is_grouped, bests_are_greatest, chunk_by_agrees, pieces_by_key, pieces_have_keys,
+    sees_keys, sees_pieces, sorts_ascend,
 };
-use slice_group_by::{BinaryGroup, GroupAdapters, LinearGroup, LinearGroupByKey};
+use slice_group_by::{
+    BinaryGroup, GroupAdapters, LinearGroup, LinearGroupByKey, partition_best_by_key,
+};
 use std::alloc::{AllocError, Global};
 
 /// How many elements `dedup` would leave of the slice.
@@ -22,7 +24,7 @@ pub fn deduped_len(xs: &[u32]) -> usize
 {
     let groups = LinearGroup::new(xs);
     sees_pieces(&groups);
-    pieces_begin_as_dedup::<u32, u32>();
+    pieces_have_keys::<u32, u32>();
     groups.count()
 }
 
@@ -69,7 +71,7 @@ pub fn keys_once(alloc: Global, rows: &[Entry]) -> Result<Vec<u32>, AllocError>
     ensures once { IfOk result (λ keys. IsStrictlySortedBy nat_cmp keys.items) }
 {
     pieces_by_key::<Entry, u32>();
-    pieces_begin_as_dedup::<Entry, u32>();
+    pieces_have_keys::<Entry, u32>();
     let groups = LinearGroupByKey::new(rows, |e: &Entry| e.0);
     sees_pieces(&groups);
     let mut keys = Vec::new(alloc);
@@ -93,4 +95,18 @@ pub fn common_keys_if_sorted(left: &[Entry], right: &[Entry]) -> Option<usize>
         return None;
     }
     Some(count_common_keys(left, right))
+}
+
+/// Moves a row of each key to the front, whose value no row of that key exceeds, of rows that ascend by their keys.
+pub fn keep_greatest(rows: &mut [Entry]) -> usize
+    requires { NeverDescends nat_cmp (map key rows.old) }
+    ensures { AllByRecursion (λ best. Contains rows.old best
+        × ((row : ℕ × ℕ) → Contains rows.old row → nat_eq (key row) (key best) ≡ true → row.1 ≤ best.1)) (take result rows.new) }
+{
+    bests_are_greatest::<Entry, u32>();
+    partition_best_by_key(
+        rows,
+        |row: &Entry| row.0,
+        |kept: &Entry, row: &Entry| kept.1 < row.1,
+    )
 }

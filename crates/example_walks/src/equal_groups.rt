@@ -1,10 +1,11 @@
 //! Groups of equal elements: calls as of a queue, the outer groups, their number, and their lengths.
-ghost use Rattle.std.specs.Prelude.{◌≡◌, ◌+◌, ◌<◌, ◌≤◌, length, map, option_map, take, drop};
+ghost use Rattle.std.specs.Prelude.{◌≡◌, ◌+◌, ◌<◌, ◌≤◌, ◌++◌, length, map, option_map, reverse, take, drop, IfOk};
 ghost use Rattle.slice_group_by.specs.Split.{first, last, without_first, split, refused_pairs};
 ghost use Rattle.slice_group_by.specs.Queue.{pops};
 
 use slice_group_by::laws::{calls_take_pieces, one_split, sees_pieces};
 use slice_group_by::{End, LinearGroup, walk};
+use std::alloc::{AllocError, Global};
 
 /// Calls at these ends answer as the two-ended queue of the pieces of the split.
 pub fn equal_groups<'a, T: PartialEq>(xs: &'a [T], ends: &[End], out: &mut [Option<&'a [T]>])
@@ -66,4 +67,25 @@ pub fn run_lengths<T: PartialEq>(xs: &[T], out: &mut [usize]) -> usize
         count += 1;
     }
     count
+}
+
+/// The groups that calls at the front and at the back give in turn, until they meet: each piece once.
+pub fn in_turn<'a, T: PartialEq>(
+    alloc: Global,
+    xs: &'a [T],
+) -> Result<(Vec<&'a [T]>, Vec<&'a [T]>), AllocError>
+    ensures { IfOk result (λ v. map (λ g. g.now) v.0.items ++ reverse (map (λ g. g.now) v.1.items) ≡ split T.eq xs.now) }
+{
+    let mut groups = LinearGroup::new(xs);
+    sees_pieces(&groups);
+    calls_take_pieces(&groups);
+    let mut fronts = Vec::new(alloc);
+    let mut backs = Vec::new(alloc);
+    while let Some(front) = groups.next() {
+        fronts.push(front)?;
+        if let Some(back) = groups.next_back() {
+            backs.push(back)?;
+        }
+    }
+    Ok((fronts, backs))
 }

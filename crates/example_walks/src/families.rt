@@ -1,5 +1,5 @@
 //! The families of groups beside each other, and functions over binary and exponential groups.
-ghost use Rattle.std.specs.Prelude.{◌≡◌, ◌↔◌, ◌<◌, not, length, map, option_map, IfSome, IsSome};
+ghost use Rattle.std.specs.Prelude.{◌≡◌, ◌↔◌, ◌<◌, ◌≤◌, not, drop, length, map, option_map, IfSome, IsSome};
 ghost use Rattle.slice_group_by.specs.Split.{split};
 ghost use Rattle.slice_group_by.specs.Searching.{IsLocalEnd};
 ghost use Rattle.slice_group_by.specs.Search.{NeverDescends};
@@ -48,6 +48,20 @@ pub fn count_sorted<T: Ord>(slice: &[T]) -> Option<usize>
     let groups = ExponentialGroup::new(slice);
     sees_pieces(&groups);
     Some(groups.count())
+}
+
+/// How many groups the elements of a sorted slice have from a place on, by galloping.
+pub fn count_from<T: Ord>(slice: &[T], start: usize) -> usize
+    requires sorted { NeverDescends T.cmp slice.now }
+    requires within { start ≤ length slice.now }
+    ensures { result ≡ length (split T.eq (drop start slice.now)) }
+{
+    sorts_ascend::<T, T>();
+    ascending_is_grouped::<T, T>();
+    let (_, part) = slice.split_at(start);
+    let groups = ExponentialGroup::new(part);
+    sees_pieces(&groups);
+    groups.count()
 }
 
 /// Sorts a slice, and says how many groups it has then.

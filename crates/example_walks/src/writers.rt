@@ -11,7 +11,7 @@ ghost use Rattle.example_walks.specs.Tens.{same_tens, tens};
 ghost use Rattle.example_walks.specs.LongGroups.{is_long, cleared_if_long};
 
 use slice_group_by::laws::{
-    calls_take_pieces, equal_pieces_are_copies, one_split, pieces_share_keys,
+    calls_take_pieces, equal_pieces_are_copies, one_split, pieces_have_keys,
 };
 use slice_group_by::loans::{Ended, resolve, resolve_and_return, resolve_in};
 use slice_group_by::{LinearGroupByKeyMut, LinearGroupMut};
@@ -156,7 +156,7 @@ fn filled_with_keys<'a, F: FnMut(&u32) -> u32>(
     ensures value { result.value ≡ map tens groups.entry.remainder }
 {
     calls_take_pieces(&groups);
-    pieces_share_keys::<u32, u32>();
+    pieces_have_keys::<u32, u32>();
     while let Some(group) = groups.next() {
         let key = groups.key_of(&group[0]);
         group.fill(key);

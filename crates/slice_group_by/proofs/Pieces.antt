@@ -4,3 +4,4 @@ pub mod TextParts
 pub mod WrittenPieces
 pub mod PiecesOfLists
 pub mod Adjacent
+pub mod Bests

@@ -6,6 +6,7 @@ pub mod GroupsToCome
 pub mod FamiliesAgree
 pub mod Offsets
 pub mod Keyed
+pub mod KeyedOffsets
 pub mod Dedup
 pub mod Chunks
 pub mod Greatest

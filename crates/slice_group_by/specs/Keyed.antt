@@ -1,5 +1,5 @@
 -- Groups by a key, each with its key: that of its first element.
-use Rattle.std.specs.Prelude.{◌≡◌, List, [], ◌∷◌, length, Option, None, Some, MatchOption, slice_get}
+use Rattle.std.specs.Prelude.{◌≡◌, ℕ, ◌+◌, List, [], ◌∷◌, length, Option, None, Some, MatchOption, slice_get}
 use Rattle.std.specs.Iterator.{Count, at_most}
 use Rattle.sgb_search.specs.declared.end.End.{End}
 use Rattle.slice_group_by.specs.declared.adapters.keyed.WithKeys.{WithKeys}
@@ -9,6 +9,12 @@ abbrev pub keyed : {T K : Type 0} → (T → K) → List (List T) → List (K ×
 keyed key [] = []
 keyed key ([] ∷ groups) = keyed key groups
 keyed key ((x ∷ xs) ∷ groups) = (key x, x ∷ xs) ∷ keyed key groups
+
+-- the same, with the sum of the lengths of those before it, and n, between the two
+abbrev pub keyed_at : {T K : Type 0} → (T → K) → ℕ → List (List T) → List (K × (ℕ × List T))
+keyed_at key n [] = []
+keyed_at key n ([] ∷ groups) = keyed_at key n groups
+keyed_at key n ((x ∷ xs) ∷ groups) = (key x, (n, x ∷ xs)) ∷ keyed_at key (n + length (x ∷ xs)) groups
 
 -- the groups whose keys are given
 abbrev pub groups_within : {Q : Type 0} → WithKeys Q → Q

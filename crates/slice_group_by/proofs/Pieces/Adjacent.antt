@@ -1,5 +1,5 @@
 -- What holds of each two elements side by side, by their places and by the list of neighbours.
-use Rattle.std.specs.Prelude.{◌≡◌, ◌≢◌, ℕ, ◌+◌, ◌<◌, Bool, true, false, List, [], ◌∷◌, length, Option, Some, map}
+use Rattle.std.specs.Prelude.{◌≡◌, ◌≢◌, ℕ, ◌+◌, ◌<◌, Bool, true, false, List, [], ◌∷◌, ◌++◌, length, Option, Some, map}
 use Rattle.std.proofs.Common.{zero, suc, refl, sym, ap, ◌∙◌, arith, subst}
 use Rattle.std.specs.List.{AllByRecursion, IsAllAdjacentAnswer, slice_index_or}
 use Rattle.std.specs.List.Sorted.{IsSortedByKey}
@@ -53,6 +53,22 @@ module _ {A : Type 0} (compare : A → A → Option Ordering) (cmp : A → A →
   never_descends_sorted [] false h all = absurd (omega (arith, h.1))
   never_descends_sorted (x ∷ xs) false h all =
       absurd (greater _ _ (h.2 x) _ refl (place_by_neighbours (λ x y. cmp x y ≢ Greater) (x ∷ xs) all h.0 (h.0 + 1) x (omega arith) h.1))
+
+-- each part of what never descends
+module _ {A : Type 0} (cmp : A → A → Ordering) where
+  first_ascends : (part after : List A) → NeverDescends cmp (part ++ after) → NeverDescends cmp part
+  first_ascends [] after h = tt
+  first_ascends (x ∷ []) after h = tt
+  first_ascends (x ∷ y ∷ ys) after h = (h.0, first_ascends (y ∷ ys) after h.1)
+
+  last_ascends : (before part : List A) → NeverDescends cmp (before ++ part) → NeverDescends cmp part
+  last_ascends [] part h = h
+  last_ascends (x ∷ []) [] h = tt
+  last_ascends (x ∷ []) (y ∷ ys) h = h.1
+  last_ascends (x ∷ y ∷ ys) part h = last_ascends (y ∷ ys) part h.1
+
+  pub part_ascends : (before part after : List A) → NeverDescends cmp (before ++ (part ++ after)) → NeverDescends cmp part
+  part_ascends before part after h = first_ascends part after (last_ascends before (part ++ after) h)
 
 -- what sorting by a key leaves never descends by it
 module _ {T K : Type 0} (cmp : K → K → Ordering) (total : IsTotalOrder cmp) (key : T → K) where

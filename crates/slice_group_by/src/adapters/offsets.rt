@@ -1,12 +1,15 @@
 //! Groups with the places at which they begin.
 ghost use Rattle.std.specs.Prelude.{◌≡◌, ℕ, ◌+◌, ◌<◌, ◌^◌, List, length, map, nat_eq, Some, IfSome, if◌then◌else◌};
-ghost use Rattle.std.specs.Iterator.{Yields, UpTo};
+ghost use Rattle.std.specs.Iterator.{Drains, Yields, UpTo};
 ghost use Rattle.std.specs.Iterator.SizeHint.{IsWithinCount};
 ghost use Rattle.std.specs.Borrow.{Bor};
 ghost use Rattle.std.specs.List.{AllByRecursion};
 ghost use Rattle.std.specs.Str.{IsCharBoundary, IsUtf8};
 ghost use Rattle.std.proofs.lemmas.Iterator.{YieldsList};
 ghost use Rattle.sgb_search.specs.Calls.{Place, StandsAt};
+ghost use Rattle.sgb_search.specs.Split.{split};
+ghost use Rattle.slice_group_by.specs.Keyed.{GivesWithKey, groups_within, keyed_at};
+ghost use Rattle.slice_group_by.specs.declared.adapters.keyed.WithKeys.{WithKeys};
 ghost use Rattle.sgb_search.specs.declared.end.End.{End};
 ghost use Rattle.sgb_linear_str_group.specs.Texts.{GivesText, text_groups_of, text_place_of};
 ghost use Rattle.sgb_linear_str_group.specs.declared.text_groups.LinearStrGroups.{LinearStrGroups};
@@ -14,7 +17,7 @@ ghost use Rattle.slice_group_by.specs.declared.adapters.offsets.WithOffsets.{Wit
 ghost use Rattle.sgb_search.specs.declared.end.End.TheVariants.{Front, Back};
 ghost use Rattle.slice_group_by.specs.Offsets.{TakesUnits, GivesWithOffset, groups_under, offsets_to_come, with_offsets};
 
-use crate::adapters::keyed::Keyed;
+use crate::adapters::keyed::{Keyed, WithKeys, sees_keys};
 use crate::laws::queue::{GroupQueue, RemainderLen};
 use sgb_groups::groups::SliceGroups;
 use sgb_groups::way::Way;
@@ -75,6 +78,33 @@ pub fn groups_stand<Q: Offsets>(_groups: &WithOffsets<Q>)
         → YieldsList (GivesWithOffset Q.place Q.left Q.units Q.gives Front) (λ x. (x.0, Q.units x.1)) q
         (with_offsets (Q.place (groups_under q)).offset parts) }
 {}
+
+/// What a loop or an adapter sees of groups with places and keys, of `with_offsets().with_keys()`, from the front: the pieces in
+/// order, each with the key of its first element and the place at which it begins (`pieces`). `whole` says it of a loop at its end.
+///
+/// The groups are of a slice, so that a group is as long as what it shows (`λ _. refl`), and a call of the key function moves no
+/// place: of groups by a key `λ q group k t h. h.2`.
+pub fn sees_keys_at<Q: Offsets + Keyed>(groups: &WithKeys<WithOffsets<Q>>)
+    ensures pieces { (key : Q.Element → Q.Key) (s : WithKeys (WithOffsets Q))
+        → ((group : Q.Item) → length (Q.units group) ≡ length (Q.shows group))
+        → ((q : Q) (group : Q.Item) (k : Q.Key) (t : Q) → Q.calls_key q group k t → Q.place t ≡ Q.place q)
+        → Q.is_keyed (groups_under (groups_within s)) key
+        → YieldsList (GivesWithKey (GivesWithOffset Q.place Q.left Q.units Q.gives)
+        (λ q item k t. Q.calls_key q.groups item.1 k t.groups) Front) (λ x. (x.0, (x.1.0, Q.shows x.1.1))) s
+        (keyed_at key (Q.place (groups_under (groups_within s))).offset
+        (split (λ x y. Q.same_key (key x) (key y)) (Q.remainder (groups_under (groups_within s))))) }
+    ensures whole { (key : Q.Element → Q.Key) (s : WithKeys (WithOffsets Q)) (items : List (Q.Key × (ℕ × Q.Item)))
+        → ((group : Q.Item) → length (Q.units group) ≡ length (Q.shows group))
+        → ((q : Q) (group : Q.Item) (k : Q.Key) (t : Q) → Q.calls_key q group k t → Q.place t ≡ Q.place q)
+        → Q.is_keyed (groups_under (groups_within s)) key
+        → Drains (GivesWithKey (GivesWithOffset Q.place Q.left Q.units Q.gives)
+        (λ q item k t. Q.calls_key q.groups item.1 k t.groups) Front) s items
+        → map (λ x. (x.0, (x.1.0, Q.shows x.1.1))) items
+        ≡ keyed_at key (Q.place (groups_under (groups_within s))).offset
+        (split (λ x y. Q.same_key (key x) (key y)) (Q.remainder (groups_under (groups_within s)))) }
+{
+    sees_keys(groups);
+}
 
 /// The groups of a text begin and end between characters, whatever the judge answers, so that `&text[start..end]` is a text.
 pub fn texts_stand<'a, J: TextJudge>(_groups: &WithOffsets<LinearStrGroups<'a, J>>)

@@ -11,7 +11,7 @@ ghost use Rattle.sgb_search.specs.Judges.{AsksWithin};
 ghost use Rattle.sgb_search.specs.declared.end.End.{End};
 ghost use Rattle.sgb_search.specs.declared.end.End.TheVariants.{Front, Back};
 ghost use Rattle.slice_group_by.specs.Walk.{Partition, IsChain};
-ghost use Rattle.slice_group_by.specs.Queue.{pops, after_pops};
+ghost use Rattle.slice_group_by.specs.Queue.{after_pops, pops, pushed_at};
 
 use crate::laws::queue::GroupQueue;
 
@@ -59,6 +59,9 @@ pub fn calls_may_go_on<Q: GroupQueue>(_queue: &Q)
 /// - `more` adds a call, whatever the judge answers.
 /// - `settled`: the queue is settled after them.
 /// - `turn`: the group that comes is one of the pieces.
+///
+/// Of calls at both ends: what came off the front, the pieces to come, and what came off the back in reverse are the same list
+/// before and after a call (`ends`). So a loop that takes from both ends has all pieces when it ends.
 pub fn sees_pieces<Q: GroupQueue>(_queue: &Q)
     ensures pieces { (p : Q.Element → Q.Element → Bool) (e : End) (q : Q) → Q.is_settled q p
         → YieldsList (Q.gives e) Q.shows q (from e (split p (Q.remainder q))) }
@@ -78,6 +81,11 @@ pub fn sees_pieces<Q: GroupQueue>(_queue: &Q)
     ensures turn { (p : Q.Element → Q.Element → Bool) (e : End) (q s t : Q) (groups : List Q.Item) (group : Q.Item)
         → Q.is_settled q p → Yields (Q.gives e) q groups s → Q.gives e s (Some group) t
         → Contains (split p (Q.remainder q)) (Q.shows group) }
+    ensures ends { (p : Q.Element → Q.Element → Bool) (e : End) (q t : Q) (group : Q.Item)
+        (fronts backs : List (List Q.Element)) → Q.gives e q (Some group) t → Q.is_settled q p
+        → pushed_at Front e fronts (Q.shows group)
+        ++ (split p (Q.remainder t) ++ reverse (pushed_at Back e backs (Q.shows group)))
+        ≡ fronts ++ (split p (Q.remainder q) ++ reverse backs) }
 {}
 
 /// The groups that calls at one end give, joined in their order, are what goes off that end, whatever the judge answers: all of

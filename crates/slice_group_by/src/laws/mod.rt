@@ -33,7 +33,7 @@ pub(crate) mod sorted;
 
 pub use crate::adapters::dedup::sees_counts;
 pub use crate::adapters::keyed::sees_keys;
-pub use crate::adapters::offsets::{groups_stand, texts_stand};
+pub use crate::adapters::offsets::{groups_stand, sees_keys_at, texts_stand};
 pub use crate::join::outer::sees_keys_of_both;
 pub use crate::join::{joins_may_go_on, pairs_count, pairs_match, sees_pairs};
 pub use calls::{calls_may_go_on, calls_take_pieces, groups_join, groups_still_come, sees_pieces};
@@ -44,7 +44,7 @@ pub use counts::{
 pub use families::{chunk_by_agrees, families_agree, groups_end_locally};
 pub use judged::{Judged, Lends, OfText};
 pub use pieces::{
-    equal_pieces_are_copies, pieces_add_up, pieces_begin_as_dedup, pieces_by_key, pieces_share_keys,
+    bests_are_greatest, equal_pieces_are_copies, pieces_add_up, pieces_by_key, pieces_have_keys,
 };
 pub use plans::{Plan, refute, right_plans_ask};
 pub use queue::{GroupQueue, RemainderLen, SliceQueue, SliceQueueMut, walk};

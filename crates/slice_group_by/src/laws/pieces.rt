@@ -1,28 +1,18 @@
 //! Laws of the pieces of a list.
-ghost use Rattle.std.specs.Prelude.{◌≡◌, ℕ, ◌<◌, Bool, true, List, length, flat_map, get_or, map, replicate, sum_by, Some, slice_get};
+ghost use Rattle.std.specs.Prelude.{◌≡◌, ℕ, ◌<◌, Bool, false, true, List, length, flat_map, get_or, map, replicate, sum_by, Some, slice_get};
 ghost use Rattle.std.specs.List.{AllByRecursion, Contains, dedup, filter};
 ghost use Rattle.std.specs.List.Sorted.{IsStrictlySortedBy};
 ghost use Rattle.std.specs.declared.cmp.Ordering.TheVariants.{Less};
+ghost use Rattle.sgb_linear_group.specs.Best.{best_of_each};
 ghost use Rattle.sgb_search.specs.Search.{NeverDescends};
 ghost use Rattle.sgb_search.specs.Split.{first, split};
 ghost use Rattle.slice_group_by.specs.Dedup.{counted};
 ghost use Rattle.slice_group_by.specs.Keyed.{keyed};
 
-/// The elements of a piece by keys have one key, in whatever list.
-///
-/// - `keys`: where equal keys are the same, its keys are that of its first element, so many times.
-/// - `alike`: where each key equals itself, any two of its elements have equal keys.
-pub fn pieces_share_keys<T, K: PartialEq>()
-    ensures keys { ((a b : K) → K.eq a b ≡ true → a ≡ b) → (key : T → K) (d : T) (xs g : List T)
-        → Contains (split (λ a b. K.eq (key a) (key b)) xs) g → map key g ≡ replicate (length g) (key (get_or g 0 d)) }
-    ensures alike { ((a : K) → K.eq a a ≡ true) → (key : T → K) (xs g : List T) (x y : T)
-        → Contains (split (λ a b. K.eq (key a) (key b)) xs) g → Contains g x → Contains g y → K.eq (key x) (key y) ≡ true }
-{}
-
 /// In a list that ascends by a key:
 ///
 /// - `ascend`: the pieces ascend strictly. Each element of a piece has a lesser key than each of a later one, so no key has two pieces.
-/// - `firsts`: so do the keys of their first elements, which `dedup` leaves (`pieces_begin_as_dedup`).
+/// - `firsts`: so do the keys of their first elements, which `dedup` leaves (`pieces_have_keys`).
 /// - `each`: a piece holds all elements of its key. A filter of the list by the key of any of its elements gives the piece.
 /// - `keyed`, `by_first`: the pieces with their keys, as `sees_keys` has them, are the keys in order, each once, and with each all
 ///   elements that have it.
@@ -56,10 +46,13 @@ pub fn equal_pieces_are_copies<T>()
         → AllByRecursion (λ g. (x : T) → first g ≡ Some x → g ≡ replicate (length g) x) (split p xs) }
 {}
 
-/// The first elements of the pieces by keys are what the standard library's `dedup` by these keys leaves; so there are as many
-/// pieces. With the elements themselves as keys these are the pieces by `==`. The keys of what is left are the keys, each once
-/// (`keys`).
-pub fn pieces_begin_as_dedup<T, K: PartialEq>()
+/// The keys of pieces by keys, in whatever list. With the elements themselves as keys these are the pieces by `==`.
+///
+/// - `firsts`, `begin`: their first elements are what the standard library's `dedup` by these keys leaves; so there are as many
+///   pieces (`count`), and the keys of what is left are the keys, each once (`keys`).
+/// - `one`: where equal keys are the same, the keys of a piece are that of its first element, so many times.
+/// - `alike`: where each key equals itself, any two elements of a piece have equal keys.
+pub fn pieces_have_keys<T, K: PartialEq>()
     ensures firsts { (key : T → K) (xs : List T) → map first (split (λ a b. K.eq (key a) (key b)) xs)
         ≡ map Some (dedup (λ a b. K.eq (key a) (key b)) xs) }
     ensures begin { (key : T → K) (d : T) (xs : List T)
@@ -67,10 +60,31 @@ pub fn pieces_begin_as_dedup<T, K: PartialEq>()
     ensures keys { (key : T → K) (xs : List T) → map key (dedup (λ a b. K.eq (key a) (key b)) xs) ≡ dedup K.eq (map key xs) }
     ensures count { (key : T → K) (xs : List T) → length (split (λ a b. K.eq (key a) (key b)) xs)
         ≡ length (dedup (λ a b. K.eq (key a) (key b)) xs) }
+    ensures one { ((a b : K) → K.eq a b ≡ true → a ≡ b) → (key : T → K) (d : T) (xs g : List T)
+        → Contains (split (λ a b. K.eq (key a) (key b)) xs) g → map key g ≡ replicate (length g) (key (get_or g 0 d)) }
+    ensures alike { ((a : K) → K.eq a a ≡ true) → (key : T → K) (xs g : List T) (x y : T)
+        → Contains (split (λ a b. K.eq (key a) (key b)) xs) g → Contains g x → Contains g y → K.eq (key x) (key y) ≡ true }
 {}
 
 /// The pieces of a list have its length together, and a sum over them is the sum over the list.
 pub fn pieces_add_up<T>()
     ensures lengths { (p : T → T → Bool) (xs : List T) → sum_by length (split p xs) ≡ length xs }
     ensures sums { (p : T → T → Bool) (f : T → ℕ) (xs : List T) → sum_by (λ g. sum_by f g) (split p xs) ≡ sum_by f xs }
+{}
+
+/// What `partition_best_by` keeps if `worse` is an order: what is not worse is transitive, and of two elements at most one is worse.
+///
+/// - `each`: each is an element of its group, and none of the group is better.
+/// - `by_key`: where a list ascends by a key, each is an element of the list, and none with its key is better.
+pub fn bests_are_greatest<T, K: Ord>()
+    ensures each { (worse : T → T → Bool) → ((x y : T) → worse x y ≡ true → worse y x ≡ false)
+        → ((x y z : T) → worse x y ≡ false → worse y z ≡ false → worse x z ≡ false) → (groups : List (List T))
+        → AllByRecursion (λ best. (g : List T) × Contains groups g × Contains g best
+        × AllByRecursion (λ y. worse best y ≡ false) g) (best_of_each worse groups) }
+    ensures by_key { (worse : T → T → Bool) → ((x y : T) → worse x y ≡ true → worse y x ≡ false)
+        → ((x y z : T) → worse x y ≡ false → worse y z ≡ false → worse x z ≡ false)
+        → (key : T → K) (xs : List T) → NeverDescends K.cmp (map key xs)
+        → AllByRecursion (λ best. Contains xs best
+        × ((y : T) → Contains xs y → K.eq (key y) (key best) ≡ true → worse best y ≡ false))
+        (best_of_each worse (split (λ a b. K.eq (key a) (key b)) xs)) }
 {}

@@ -1,5 +1,5 @@
 //! Whether a slice is sorted, and so grouped.
-ghost use Rattle.std.specs.Prelude.{◌≡◌, Bool, List, map, true};
+ghost use Rattle.std.specs.Prelude.{◌≡◌, ◌++◌, Bool, List, map, true};
 ghost use Rattle.std.specs.List.{IsAllAdjacentAnswer};
 ghost use Rattle.std.specs.List.Sorted.{IsSorted, IsSortedByKey};
 ghost use Rattle.std.specs.Ordering.{partial_le};
@@ -24,7 +24,8 @@ pub fn is_sorted_for_groups<T: Ord>(slice: &[T]) -> bool
 }
 
 /// What sorting leaves never descends: what `sort` ensures, and, by a key that its function computes, what `sort_by_key` does. And
-/// what never descends, as of a slice of which `is_sorted_for_groups` says yes, is sorted as they leave it.
+/// what never descends, as of a slice of which `is_sorted_for_groups` says yes, is sorted as they leave it, and each part of it never
+/// descends (`part`).
 ///
 /// `is_sorted_by_key` says yes exactly of the slices that never descend by the key, which its function computes (`said_by_key`,
 /// `only_by_key`).
@@ -33,6 +34,7 @@ pub fn sorts_ascend<T, K: Ord>()
     ensures by_key { (key : T → K) (xs : List T) → IsSortedByKey key K.cmp xs → NeverDescends K.cmp (map key xs) }
     ensures sorted { (xs : List K) → NeverDescends K.cmp xs → IsSorted K.cmp xs }
     ensures sorted_by_key { (key : T → K) (xs : List T) → NeverDescends K.cmp (map key xs) → IsSortedByKey key K.cmp xs }
+    ensures part { (before part after : List K) → NeverDescends K.cmp (before ++ (part ++ after)) → NeverDescends K.cmp part }
     ensures said_by_key { (key : T → K) (xs : List T) (sorted : Bool)
         → IsAllAdjacentAnswer (λ x y b. b ≡ partial_le K.partial_cmp (key x) (key y)) xs sorted
         → sorted ≡ true → NeverDescends K.cmp (map key xs) }

@@ -7,4 +7,4 @@ pub returns : goal.returns
 returns c =
     let seen = c.sees_pieces.ensures.pieces nat_eq Front c.new-groups.result (c.new-groups.ensures.settled tt) in
     rw c.new-groups.ensures.remainder at (count_from_yields_List _ _ c.count.ensures.ran seen)
-    ∙ c.pieces_begin_as_dedup.ensures.count (λ x. x) c.args.xs.now
+    ∙ c.pieces_have_keys.ensures.count (λ x. x) c.args.xs.now

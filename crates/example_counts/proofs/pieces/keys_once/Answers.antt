@@ -11,10 +11,10 @@ returns-clause-all c =
     let all = rw c.new-groups.ensures.remainder at (c.sees_pieces.ensures.whole same_key Front _ _ settled
     (_, (_, rw c.into_iter-group-iterator.ensures.into_iter_gives at c.loop-group.yielded_by, c.in-None.ensures.steps))) in
     c.loop-group.invariant ∙ ap (λ gs. map key (map (λ g. get_or g 0 (0, 0)) gs)) all
-    ∙ ap (map key) (c.pieces_begin_as_dedup.ensures.begin key (0, 0) c.args.rows.now)
-    ∙ c.pieces_begin_as_dedup.ensures.keys key c.args.rows.now
+    ∙ ap (map key) (c.pieces_have_keys.ensures.begin key (0, 0) c.args.rows.now)
+    ∙ c.pieces_have_keys.ensures.keys key c.args.rows.now
 
 pub returns-clause-once : goal.returns-clause-once
 returns-clause-once c =
-    rw (returns-clause-all c, sym (c.pieces_begin_as_dedup.ensures.keys key c.args.rows.now))
+    rw (returns-clause-all c, sym (c.pieces_have_keys.ensures.keys key c.args.rows.now))
     (c.pieces_by_key.ensures.firsts key c.args.rows.now c.requires)

@@ -17,7 +17,7 @@ loop-group-preserved g c =
     let s = c.loop-group.groups in
     let group = c.in-Some.group.now in
     let whole = laws.whole same_tens Front s c.next.new.self c.in-Some.group steps i.settled in
-    let keys = c.pieces_share_keys.ensures.keys eqb-true tens 0 s.remainder group (rw whole (0, omega arith, refl)) in
+    let keys = c.pieces_have_keys.ensures.one eqb-true tens 0 s.remainder group (rw whole (0, omega arith, refl)) in
     let filled : c.of.result.value ≡ replicate (length group) c.key_of-key.result = search rules in
     record {
       settled =

@@ -83,7 +83,7 @@ pub struct WithKeys<Q> {
 }
 
 /// What a loop or an adapter sees of groups with keys, if the key function computes a key: the pieces of the split in
-/// order, from the back in reverse, each with the key of its first element. `pieces_share_keys` says that the keys of all
+/// order, from the back in reverse, each with the key of its first element. `pieces_have_keys` says that the keys of all
 /// its elements equal it.
 ///
 /// Groups of a slice are `is_keyed` if the function, as it is now, computes the key (`ComputesKey`) and what remains fits,

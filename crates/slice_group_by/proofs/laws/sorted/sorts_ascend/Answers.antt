@@ -1,4 +1,4 @@
-use Rattle.slice_group_by.proofs.Pieces.Adjacent.{sort_ascends, keys_of_neighbours, ascends_sorted, neighbours_of_keys, sorted_by_key, sorted_by_key_only}
+use Rattle.slice_group_by.proofs.Pieces.Adjacent.{sort_ascends, keys_of_neighbours, ascends_sorted, neighbours_of_keys, part_ascends, sorted_by_key, sorted_by_key_only}
 use Rattle.slice_group_by.proofs.laws.sorted.sorts_ascend.Goals as goal
 
 pub returns-clause-by_itself : goal.returns-clause-by_itself
@@ -22,3 +22,6 @@ returns-clause-said_by_key g c =
 pub returns-clause-only_by_key : goal.returns-clause-only_by_key
 returns-clause-only_by_key g c =
     sorted_by_key_only g.K.PartialOrd.partial_cmp g.K.Ord.cmp g.met.K.Ord.total g.met.K.Ord.matches_partial_cmp
+
+pub returns-clause-part : goal.returns-clause-part
+returns-clause-part g c = part_ascends g.K.Ord.cmp
