@@ -1,252 +1,117 @@
 //! The Rust crate's tests of groups of equal elements, under their names, for each family.
-use crate::calls::Group;
 use slice_group_by::{BinaryGroup, ExponentialGroup, LinearGroup};
 
-// A name; a slice; calls, `F` at the front, `B` at the back and `L` of `last` on new groups; and what they answer.
-type Case = (&'static str, &'static [i32], &'static str, &'static [Group]);
+// A name; a word, whose letters are the elements; calls, `F` at the front, `B` at the back and `L` of `last` on new groups; and
+// what they answer, `-` for `None`.
+type Case = (&'static str, &'static str, &'static str, &'static str);
 
 const CASES: &[Case] = &[
-    (
-        "one_big_group",
-        &[1, 1, 1, 1],
-        "FF",
-        &[Some(&[1, 1, 1, 1]), None],
-    ),
-    (
-        "two_equal_groups",
-        &[1, 1, 1, 1, 2, 2, 2, 2],
-        "FFF",
-        &[Some(&[1, 1, 1, 1]), Some(&[2, 2, 2, 2]), None],
-    ),
-    (
-        "two_little_equal_groups",
-        &[1, 2],
-        "FFF",
-        &[Some(&[1]), Some(&[2]), None],
-    ),
-    ("last_of_nothing", &[], "L", &[None]),
-    ("back_empty_slice", &[], "B", &[None]),
-    (
-        "back_one_little_group",
-        &[1],
-        "BBF",
-        &[Some(&[1]), None, None],
-    ),
-    (
-        "fused_iterator",
-        &[1, 2, 3],
-        "FFFFF",
-        &[Some(&[1]), Some(&[2]), Some(&[3]), None, None],
-    ),
-    (
-        "back_fused_iterator",
-        &[1, 2, 3],
-        "BBBBB",
-        &[Some(&[3]), Some(&[2]), Some(&[1]), None, None],
-    ),
+    ("one_big_group", "1111", "FF", "1111 -"),
+    ("two_equal_groups", "11112222", "FFF", "1111 2222 -"),
+    ("two_little_equal_groups", "12", "FFF", "1 2 -"),
+    ("last_of_nothing", "", "L", "-"),
+    ("back_empty_slice", "", "B", "-"),
+    ("back_one_little_group", "1", "BBF", "1 - -"),
+    ("fused_iterator", "123", "FFFFF", "1 2 3 - -"),
+    ("back_fused_iterator", "123", "BBBBB", "3 2 1 - -"),
 ];
 
 // The others are of linear groups over slices that are not sorted, and of the other families over sorted ones.
 const NOT_SORTED: &[Case] = &[
-    ("three_groups", THREE, "FFFF", &[ONES, THREES, TWOS, None]),
-    (
-        "three_little_groups",
-        LITTLE,
-        "FFFF",
-        &[Some(&[1]), Some(&[3]), Some(&[2]), None],
-    ),
-    ("last_three_little_groups", LITTLE, "L", &[Some(&[2])]),
-    ("last_three_groups", THREE, "L", &[TWOS]),
-    (
-        "back_three_little_groups",
-        LITTLE,
-        "BBBB",
-        &[Some(&[2]), Some(&[3]), Some(&[1]), None],
-    ),
-    (
-        "back_three_groups",
-        THREE,
-        "BBBB",
-        &[TWOS, THREES, ONES, None],
-    ),
+    ("three_groups", "11133222", "FFFF", "111 33 222 -"),
+    ("three_little_groups", "132", "FFFF", "1 3 2 -"),
+    ("last_three_little_groups", "132", "L", "2"),
+    ("last_three_groups", "11133222", "L", "222"),
+    ("back_three_little_groups", "132", "BBBB", "2 3 1 -"),
+    ("back_three_groups", "11133222", "BBBB", "222 33 111 -"),
     (
         "double_ended_dont_cross",
-        THREE,
+        "11133222",
         "FBFBF",
-        &[ONES, TWOS, THREES, None, None],
+        "111 222 33 - -",
     ),
 ];
-
-const THREE: &[i32] = &[1, 1, 1, 3, 3, 2, 2, 2];
-
-const LITTLE: &[i32] = &[1, 3, 2];
 
 const SORTED: &[Case] = &[
-    (
-        "three_groups",
-        SORTED_THREE,
-        "FFFF",
-        &[ONES, TWOS, THREES, None],
-    ),
-    (
-        "three_little_groups",
-        SORTED_LITTLE,
-        "FFFF",
-        &[Some(&[1]), Some(&[2]), Some(&[3]), None],
-    ),
-    (
-        "last_three_little_groups",
-        SORTED_LITTLE,
-        "L",
-        &[Some(&[3])],
-    ),
-    ("last_three_groups", SORTED_THREE, "L", &[THREES]),
-    (
-        "back_three_little_groups",
-        SORTED_LITTLE,
-        "BBBB",
-        &[Some(&[3]), Some(&[2]), Some(&[1]), None],
-    ),
-    (
-        "back_three_groups",
-        SORTED_THREE,
-        "BBBB",
-        &[THREES, TWOS, ONES, None],
-    ),
+    ("three_groups", "11122233", "FFFF", "111 222 33 -"),
+    ("three_little_groups", "123", "FFFF", "1 2 3 -"),
+    ("last_three_little_groups", "123", "L", "3"),
+    ("last_three_groups", "11122233", "L", "33"),
+    ("back_three_little_groups", "123", "BBBB", "3 2 1 -"),
+    ("back_three_groups", "11122233", "BBBB", "33 222 111 -"),
     (
         "double_ended_dont_cross",
-        SORTED_THREE,
+        "11122233",
         "FBFBF",
-        &[ONES, THREES, TWOS, None, None],
+        "111 33 222 - -",
     ),
 ];
 
-const SORTED_THREE: &[i32] = &[1, 1, 1, 2, 2, 2, 3, 3];
-
-const SORTED_LITTLE: &[i32] = &[1, 2, 3];
-
-const ONES: Group = Some(&[1, 1, 1]);
-
-const TWOS: Group = Some(&[2, 2, 2]);
-
-const THREES: Group = Some(&[3, 3]);
-
-/// A family of groups of equal numbers.
-trait Family {
-    type Groups: Drop;
-
-    fn over(slice: &'static [i32]) -> Self::Groups;
-
-    fn next(groups: &mut Self::Groups) -> Group;
-
-    fn next_back(groups: &mut Self::Groups) -> Group;
-
-    fn last(groups: Self::Groups) -> Group;
-}
-
-struct Linear;
-
-impl Family for Linear {
-    type Groups = LinearGroup<'static, i32>;
-
-    fn over(slice: &'static [i32]) -> LinearGroup<'static, i32> {
-        LinearGroup::new(slice)
-    }
-
-    fn next(groups: &mut LinearGroup<'static, i32>) -> Group {
-        groups.next()
-    }
-
-    fn next_back(groups: &mut LinearGroup<'static, i32>) -> Group {
-        groups.next_back()
-    }
-
-    fn last(groups: LinearGroup<'static, i32>) -> Group {
-        groups.last()
+fn is_group(group: Option<&[u8]>, wanted: &str) -> bool {
+    match group {
+        Some(group) => group == wanted.as_bytes(),
+        None => wanted == "-",
     }
 }
 
-struct Binary;
-
-impl Family for Binary {
-    type Groups = BinaryGroup<'static, i32>;
-
-    fn over(slice: &'static [i32]) -> BinaryGroup<'static, i32> {
-        BinaryGroup::new(slice)
-    }
-
-    fn next(groups: &mut BinaryGroup<'static, i32>) -> Group {
-        groups.next()
-    }
-
-    fn next_back(groups: &mut BinaryGroup<'static, i32>) -> Group {
-        groups.next_back()
-    }
-
-    fn last(groups: BinaryGroup<'static, i32>) -> Group {
-        groups.last()
-    }
-}
-
-struct Exponential;
-
-impl Family for Exponential {
-    type Groups = ExponentialGroup<'static, i32>;
-
-    fn over(slice: &'static [i32]) -> ExponentialGroup<'static, i32> {
-        ExponentialGroup::new(slice)
-    }
-
-    fn next(groups: &mut ExponentialGroup<'static, i32>) -> Group {
-        groups.next()
-    }
-
-    fn next_back(groups: &mut ExponentialGroup<'static, i32>) -> Group {
-        groups.next_back()
-    }
-
-    fn last(groups: ExponentialGroup<'static, i32>) -> Group {
-        groups.last()
-    }
-}
-
-fn answers<F: Family>(slice: &'static [i32], calls: &str, wanted: &[Group]) -> bool {
-    let mut groups = F::over(slice);
-    for (call, wanted) in calls.bytes().zip(wanted) {
-        let group = match call {
-            b'F' => F::next(&mut groups),
-            b'B' => F::next_back(&mut groups),
-            _ => F::last(F::over(slice)),
-        };
-        if group != *wanted {
-            return false;
+// Whether the calls on groups of this type answer so.
+macro_rules! answers {
+    ($groups:ident, $word:expr, $calls:expr, $answers:expr) => {{
+        let mut groups = $groups::new($word.as_bytes());
+        for (call, wanted) in $calls.bytes().zip($answers.split(' ')) {
+            let group = match call {
+                b'F' => groups.next(),
+                b'B' => groups.next_back(),
+                _ => $groups::new($word.as_bytes()).last(),
+            };
+            if !is_group(group, wanted) {
+                return false;
+            }
         }
-    }
-    calls.len() == wanted.len()
+        $calls.len() == $answers.split(' ').count()
+    }};
 }
 
-// The name of the first case that the family answers otherwise.
-fn first_failure<F: Family>(cases: &[Case]) -> Option<&'static str> {
-    for (name, slice, calls, wanted) in cases {
-        if !answers::<F>(slice, calls, wanted) {
-            return Some(name);
+fn linear(word: &str, calls: &str, answers: &str) -> bool {
+    answers!(LinearGroup, word, calls, answers)
+}
+
+fn binary(word: &str, calls: &str, answers: &str) -> bool {
+    answers!(BinaryGroup, word, calls, answers)
+}
+
+fn exponential(word: &str, calls: &str, answers: &str) -> bool {
+    answers!(ExponentialGroup, word, calls, answers)
+}
+
+// The name of the first case that is answered otherwise.
+macro_rules! first_failure {
+    ($family:ident, $cases:expr) => {{
+        for (name, word, calls, answers) in $cases {
+            if !$family(word, calls, answers) {
+                return Some(name);
+            }
         }
-    }
-    None
+        None
+    }};
 }
 
-fn failures() -> [Option<&'static str>; 6] {
-    [
-        first_failure::<Linear>(CASES),
-        first_failure::<Linear>(NOT_SORTED),
-        first_failure::<Binary>(CASES),
-        first_failure::<Binary>(SORTED),
-        first_failure::<Exponential>(CASES),
-        first_failure::<Exponential>(SORTED),
-    ]
+fn of_linear(cases: &[Case]) -> Option<&'static str> {
+    first_failure!(linear, cases)
+}
+
+fn of_binary(cases: &[Case]) -> Option<&'static str> {
+    first_failure!(binary, cases)
+}
+
+fn of_exponential(cases: &[Case]) -> Option<&'static str> {
+    first_failure!(exponential, cases)
 }
 
 #[test]
 fn each_family_answers(rt: HostRuntime) {
-    assert_eq!(rt; failures(), [None; 6]);
+    let linear = [of_linear(CASES), of_linear(NOT_SORTED)];
+    let binary = [of_binary(CASES), of_binary(SORTED)];
+    let exponential = [of_exponential(CASES), of_exponential(SORTED)];
+    assert_eq!(rt; [linear, binary, exponential], [[None; 2]; 3]);
 }
