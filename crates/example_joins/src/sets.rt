@@ -66,6 +66,18 @@ pub fn symmetric_difference(
     union(alloc, &left_alone, &right_alone)
 }
 
+/// The numbers of a set that is within another, found as those that both have.
+pub fn subset(alloc: Global, left: &[u32], right: &[u32]) -> Result<Vec<u32>, AllocError>
+    requires left { AlwaysAscends nat_cmp left.now }
+    requires right { AlwaysAscends nat_cmp right.now }
+    requires within { (x : ℕ) → Contains left.now x → Contains right.now x }
+    ensures { IfOk result (λ v. v.items ≡ left.now) }
+{
+    unions_ascend::<u32>();
+    partners_are_equal::<u32, u32, u32>();
+    intersection(alloc, left, right)
+}
+
 /// The numbers that stand in one of three slices at least.
 pub fn union_of_three(
     alloc: Global,

@@ -1,29 +1,12 @@
 -- The best of each list, by an order: it is in its list, and none of the list is better.
-use Rattle.std.proofs.Common.{◌≡◌, ℕ, ◌+◌, ◌<◌, ◌++◌, Bool, true, false, cond, List, [], ◌∷◌, length, take, drop, get_or}
-use Rattle.std.proofs.Common.{refl, sym, ap, subst, ◌∙◌, inl, inr}
+use Rattle.std.proofs.Common.{◌≡◌, Bool, true, false, cond, List, [], ◌∷◌}
+use Rattle.std.proofs.Common.{refl, sym, subst, inl, inr}
 use Rattle.std.specs.Prelude.{◌⊎◌}
 use Rattle.std.specs.List.{AllByRecursion, Contains, filter}
-use Rattle.std.proofs.lemmas.List.{take-append-drop}
-use Rattle.std.proofs.lemmas.List.Elements.{All-contains, All-contains_itself, All-filter, filter-append, filter_more}
-use Rattle.std.proofs.lemmas.List.Elements.{Contains-append_left, Contains-push}
 use Rattle.sgb_search.proofs.Lists.AllByRecursion.{all_contains, all_each}
 use Rattle.sgb_search.proofs.Lists.Contained.{contains_cases, contains_head, contains_tail}
+use Rattle.sgb_merge_join.proofs.Joins.Sets.{filter_contains}
 use Rattle.sgb_linear_group.specs.Best.{best_from, best_of_each}
-
--- what a filter has
-module _ {X : Type 0} (test : X → Bool) (xs : List X) (x : X) where
-  of_filtered : Contains (filter test xs) x → Contains xs x
-  of_filtered c = All-contains (Contains xs) (filter test xs) x (All-filter test (Contains xs) xs (All-contains_itself xs)) c
-
-  filtered : Contains xs x → test x ≡ true → Contains (filter test xs) x
-  filtered h passes = kept h.0 h.1 h.2
-    where
-      kept : (k : ℕ) → k < length xs → get_or xs k x ≡ x → Contains (filter test xs) x
-      kept k l e =
-          let so_far : filter test (take (k + 1) xs) ≡ filter test (take k xs) ++ x ∷ [] = rw (filter_more test xs k x l, e, passes) refl in
-          subst (λ l. Contains l x)
-          (sym (filter-append test (take (k + 1) xs) (drop (k + 1) xs)) ∙ ap (filter test) (take-append-drop (k + 1) xs))
-          (Contains-append_left _ _ x (subst (λ l. Contains l x) (sym so_far) (Contains-push (filter test (take k xs)) x)))
 
 module _ {T : Type 0} (worse : T → T → Bool) (asymmetric : (x y : T) → worse x y ≡ true → worse y x ≡ false)
     (transitive : (x y z : T) → worse x y ≡ false → worse y z ≡ false → worse x z ≡ false) where
@@ -78,6 +61,6 @@ module _ {T : Type 0} (worse : T → T → Bool) (asymmetric : (x y : T) → wor
       all_each _ _
       (λ best h.
       let is = filters h.0 best h.1 h.2 in (
-        of_filtered (λ y. same y best) xs best (subst (λ l. Contains l best) is h.2),
-        λ y at one. all_contains _ h.0 y h.3 (subst (λ l. Contains l y) (sym is) (filtered (λ y. same y best) xs y at one)),
+        ((filter_contains (λ y. same y best) xs best).0 (subst (λ l. Contains l best) is h.2)).0,
+        λ y at one. all_contains _ h.0 y h.3 (subst (λ l. Contains l y) (sym is) ((filter_contains (λ y. same y best) xs y).1 (at, one))),
       )) _ (bests_of groups)

@@ -1,12 +1,11 @@
 use Rattle.std.proofs.Math.Logic.{⊎_map}
 use Rattle.std.proofs.lemmas.Map.Lookups.{exact_unsigned}
 use Rattle.std.proofs.lemmas.Result.{IfOk-weaker}
-use Rattle.example_joins.proofs.Differences.{difference_contains}
 use Rattle.example_joins.proofs.sets.symmetric_difference.Goals as goal
 
 pub returns-clause-all : goal.returns-clause-all
 returns-clause-all c =
-    let alone = difference_contains (c.unions_ascend.ensures.members exact_unsigned) in
+    let alone = c.unions_ascend.ensures.without exact_unsigned in
     IfOk-weaker c.union.result _ _
     (λ v all x.
     let either = rw (c.deref.ensures.value, c.deref-2.ensures.value, c.in_ok-left_alone.ensures, c.in_ok-right_alone.ensures) at (all x) in
