@@ -11,4 +11,5 @@ enough n l answer asked right above (inr most) = omega (arith, above, pow_mono m
 pub returns : goal.returns
 returns c =
     let given = c.refute.ensures in
-    enough c.args.n c.refute.result _ _ (c.requires.right _ given.first given.last) (c.right_plans_ask.ensures.above (c.args.n - 1)) given.refuted
+    enough c.args.n c.refute.result _ _ (c.requires.right _ given.first given.last)
+    (c.right_plans_ask.ensures.above (c.args.n - 1)) given.refuted

@@ -15,7 +15,8 @@ all : (g : given.Over) (c : goal.After-drop-sides-2 g) → (ps : List (EitherOrB
     × (flat_map (λ p. lefts p ++ rights p) ps ≡ c.loop-part.merged.items)
 all g c =
     let m = c.one_merge.ensures.sorted g.T.Ord.cmp c.args.left.now c.args.right.now
-    (c.one_merge.ensures.keys (λ x. x) (λ y. y) c.args.left.now c.args.right.now (rw map-id c.requires.left) (rw map-id c.requires.right)) in
+    (c.one_merge.ensures.keys (λ x. x) (λ y. y) c.args.left.now c.args.right.now (rw map-id c.requires.left)
+    (rw map-id c.requires.right)) in
     let items = c.in_ok-sides.sides.items in
     let seen = take_all c.loop-part.part-index c.deref-part-items.result.now c.loop-part-test.false ∙ c.deref-part-items.ensures.value in (
       m.0,

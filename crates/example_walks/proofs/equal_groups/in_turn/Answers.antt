@@ -18,7 +18,8 @@ loop-front-preserved-in-Continue-branch-2 g c =
       settled = c.calls_take_pieces.ensures.settled eq Back mid c.next_back.new.self (Some c.in-Some-next_back.back) back settled;
       pieces =
           rw (c.in_ok-push.ensures.items, c.in_ok-push-2.ensures.items, map-append, map-append)
-          (c.sees_pieces.ensures.ends eq Back mid c.next_back.new.self c.in-Some-next_back.back (fronts ++ c.in-Some.front.now ∷ []) backs back settled
+          (c.sees_pieces.ensures.ends eq Back mid c.next_back.new.self c.in-Some-next_back.back
+          (fronts ++ c.in-Some.front.now ∷ []) backs back settled
           ∙ c.sees_pieces.ensures.ends eq Front s mid c.in-Some.front fronts backs front i.settled ∙ i.pieces);
     }
 

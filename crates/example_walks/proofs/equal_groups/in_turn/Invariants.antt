@@ -8,7 +8,8 @@ use Rattle.example_walks.proofs.equal_groups.in_turn.Given as goal
 abbrev pub invariant-loop-front : goal.invariant-loop-front
 invariant-loop-front g l = record {
   settled : IsSettled (by_equality g.T.PartialEq.eq) (groups_of l.groups) g.T.PartialEq.eq;
-  pieces : map (λ g. g.now) l.fronts.items ++ (split g.T.PartialEq.eq (groups_of l.groups).remainder ++ reverse (map (λ g. g.now) l.backs.items))
+  pieces : map (λ g. g.now) l.fronts.items
+      ++ (split g.T.PartialEq.eq (groups_of l.groups).remainder ++ reverse (map (λ g. g.now) l.backs.items))
       ≡ split g.T.PartialEq.eq l.xs;
 }
 

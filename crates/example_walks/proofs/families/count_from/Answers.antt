@@ -10,7 +10,8 @@ returns g c =
     let xs = c.args.slice.now in
     let start = c.args.start in
     let whole = ap (λ l. take start xs ++ l) (append-nil (drop start xs)) ∙ take-append-drop start xs in
-    let part = c.sorts_ascend.ensures.part (take start xs) (drop start xs) [] (subst (NeverDescends g.T.Ord.cmp) (sym whole) c.requires.sorted) in
+    let part = c.sorts_ascend.ensures.part (take start xs) (drop start xs) []
+    (subst (NeverDescends g.T.Ord.cmp) (sym whole) c.requires.sorted) in
     let grouped = c.ascending_is_grouped.ensures.by_itself _ part in
     let settled = c.new-groups.ensures.settled (rw c.split_at.ensures.back grouped) in
     rw (c.new-groups.ensures.remainder, c.split_at.ensures.back) at

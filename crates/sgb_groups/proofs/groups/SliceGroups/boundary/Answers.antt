@@ -18,4 +18,5 @@ returns-clause-first g c p settled n behind =
     n (omega arith)
 
 pub returns-clause-questions : goal.returns-clause-questions
-returns-clause-questions g c some inside = (c.next_from.new.self.judge, rw (add-sub_cancel_left (c.args.index - 1) _) c.next_from.ensures.call.asked)
+returns-clause-questions g c some inside =
+    (c.next_from.new.self.judge, rw (add-sub_cancel_left (c.args.index - 1) _) c.next_from.ensures.call.asked)

@@ -1,4 +1,5 @@
-use Rattle.slice_group_by.proofs.Pieces.Adjacent.{sort_ascends, keys_of_neighbours, ascends_sorted, neighbours_of_keys, part_ascends, sorted_by_key, sorted_by_key_only}
+use Rattle.slice_group_by.proofs.Pieces.Adjacent.{ascends_sorted, keys_of_neighbours, neighbours_of_keys, part_ascends}
+use Rattle.slice_group_by.proofs.Pieces.Adjacent.{sort_ascends, sorted_by_key, sorted_by_key_only}
 use Rattle.slice_group_by.proofs.laws.sorted.sorts_ascend.Goals as goal
 
 pub returns-clause-by_itself : goal.returns-clause-by_itself
