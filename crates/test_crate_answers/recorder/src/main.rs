@@ -8,41 +8,18 @@ use slice_group_by::{GroupBy, GroupByMut, StrGroupBy, StrGroupByMut};
 use std::cell::Cell;
 use std::io::BufRead;
 
-/// The text of a group. One for writing is crossed out.
-trait Group {
-    fn text(self) -> String;
+fn read(group: impl AsRef<[u8]>) -> String {
+    String::from_utf8_lossy(group.as_ref()).into_owned()
 }
 
-impl Group for &[u8] {
-    fn text(self) -> String {
-        String::from_utf8_lossy(self).into_owned()
-    }
+// A group for writing is crossed out.
+fn write(group: &mut [u8]) -> String {
+    let text = read(&group);
+    group.fill(b'#');
+    text
 }
 
-impl Group for &mut [u8] {
-    fn text(self) -> String {
-        let text = (&*self).text();
-        self.fill(b'#');
-        text
-    }
-}
-
-impl Group for &str {
-    fn text(self) -> String {
-        self.to_owned()
-    }
-}
-
-impl Group for &mut str {
-    fn text(self) -> String {
-        let text = self.to_owned();
-        // Each byte becomes an ASCII character.
-        unsafe { self.as_bytes_mut() }.fill(b'#');
-        text
-    }
-}
-
-fn walk<G: Group, I: DoubleEndedIterator<Item = G>>(mut groups: I, calls: &str) -> String {
+fn walk<I: DoubleEndedIterator>(mut groups: I, calls: &str, text: fn(I::Item) -> String) -> String {
     let mut answers = Vec::new();
     for call in calls.chars() {
         let group = match call {
@@ -55,9 +32,7 @@ fn walk<G: Group, I: DoubleEndedIterator<Item = G>>(mut groups: I, calls: &str) 
         };
         answers.push(group);
     }
-    let texts = answers
-        .into_iter()
-        .map(|group| group.map_or("-".to_owned(), G::text));
+    let texts = answers.into_iter().map(|group| group.map_or("-".to_owned(), text));
     texts.collect::<Vec<_>>().join(",")
 }
 
@@ -72,113 +47,58 @@ fn accepts(judge: &str, left: u32, right: u32, question: u64) -> bool {
 
 // The answers of these three methods, and how many questions the closure was asked.
 macro_rules! answers {
-    ($judge:expr, $calls:expr, $word:expr, $code:path; $equality:ident, $predicate:ident, $key:ident) => {{
+    ($fields:expr, $word:expr, $code:expr, $text:expr; $equality:ident, $predicate:ident, $key:ident) => {{
         let asked = Cell::new(0);
-        let ask = || {
-            asked.set(asked.get() + 1);
-            asked.get()
-        };
-        let answers = match $judge {
-            "equality" => walk($word.$equality(), $calls),
-            "key" => walk($word.$key(|letter| (ask(), $code(letter) / 2).1), $calls),
-            judge => walk(
-                $word.$predicate(|a, b| accepts(judge, $code(a), $code(b), ask())),
-                $calls,
-            ),
+        let ask = || asked.replace(asked.get() + 1) + 1;
+        let answers = match $fields[2] {
+            "equality" => walk($word.$equality(), $fields[3], $text),
+            "key" => walk($word.$key(|x| (ask(), $code(x) / 2).1), $fields[3], $text),
+            judge => walk($word.$predicate(|a, b| accepts(judge, $code(a), $code(b), ask())), $fields[3], $text),
         };
         (answers, asked.get())
     }};
 }
 
-// Characters come by value, and bytes by reference.
-trait Code {
-    fn code(self) -> u32;
-}
-
-impl Code for &u8 {
-    fn code(self) -> u32 {
-        u32::from(*self)
-    }
-}
-
-impl Code for char {
-    fn code(self) -> u32 {
-        u32::from(self)
-    }
-}
-
-fn groups(fields: &[&str]) -> String {
-    let (kind, access, judge, calls, word) =
-        (fields[0], fields[1], fields[2], fields[3], fields[4]);
-    let mut text = word.to_owned();
-    let mut bytes = word.as_bytes().to_vec();
-    let (answers, asked) = match (kind, access) {
-        ("linear", "reading") => {
-            answers!(judge, calls, bytes, Code::code; linear_group, linear_group_by, linear_group_by_key)
-        }
-        ("binary", "reading") => {
-            answers!(judge, calls, bytes, Code::code; binary_group, binary_group_by, binary_group_by_key)
-        }
-        ("exponential", "reading") => {
-            answers!(judge, calls, bytes, Code::code; exponential_group, exponential_group_by, exponential_group_by_key)
-        }
-        ("text", "reading") => {
-            answers!(judge, calls, text, Code::code; linear_group, linear_group_by, linear_group_by_key)
-        }
-        ("linear", _) => {
-            answers!(judge, calls, bytes, Code::code; linear_group_mut, linear_group_by_mut, linear_group_by_key_mut)
-        }
-        ("binary", _) => {
-            answers!(judge, calls, bytes, Code::code; binary_group_mut, binary_group_by_mut, binary_group_by_key_mut)
-        }
-        ("exponential", _) => {
-            answers!(judge, calls, bytes, Code::code; exponential_group_mut, exponential_group_by_mut, exponential_group_by_key_mut)
-        }
-        _ => {
-            answers!(judge, calls, text, Code::code; linear_group_mut, linear_group_by_mut, linear_group_by_key_mut)
-        }
+fn groups(line: &[&str]) -> String {
+    let (mut text, mut bytes) = (line[4].to_owned(), line[4].as_bytes().to_vec());
+    let code = |byte: &u8| u32::from(*byte);
+    let cross: fn(&mut str) -> String = |group| write(unsafe { group.as_bytes_mut() });
+    let (answers, asked) = match (line[0], line[1]) {
+        ("linear", "reading") => answers!(line, bytes, code, read; linear_group, linear_group_by, linear_group_by_key),
+        ("linear", _) => answers!(line, bytes, code, write; linear_group_mut, linear_group_by_mut, linear_group_by_key_mut),
+        ("binary", "reading") => answers!(line, bytes, code, read; binary_group, binary_group_by, binary_group_by_key),
+        ("binary", _) => answers!(line, bytes, code, write; binary_group_mut, binary_group_by_mut, binary_group_by_key_mut),
+        ("exponential", "reading") => answers!(line, bytes, code, read; exponential_group, exponential_group_by, exponential_group_by_key),
+        ("exponential", _) => answers!(line, bytes, code, write; exponential_group_mut, exponential_group_by_mut, exponential_group_by_key_mut),
+        (_, "reading") => answers!(line, text, u32::from, read; linear_group, linear_group_by, linear_group_by_key),
+        _ => answers!(line, text, u32::from, cross; linear_group_mut, linear_group_by_mut, linear_group_by_key_mut),
     };
-    let afterwards = if kind == "text" {
-        text.as_str()
-    } else {
-        std::str::from_utf8(&bytes).unwrap()
-    };
-    let questions = if fields.last() == Some(&"-") {
-        "-".to_owned()
-    } else {
-        asked.to_string()
-    };
-    match access {
-        "reading" => format!("{kind} {access} {judge} {calls} {word} {answers} {questions}"),
-        _ => format!("{kind} {access} {judge} {calls} {word} {afterwards} {answers} {questions}"),
+    let mut fields: Vec<String> = line[..5].iter().map(|field| field.to_string()).collect();
+    if line[1] == "writing" {
+        fields.push(if line[0] == "text" { text } else { read(bytes) });
     }
+    fields.push(answers);
+    fields.push(if line.last() == Some(&"-") { "-".to_owned() } else { asked.to_string() });
+    fields.join(" ")
 }
 
-fn search(fields: &[&str]) -> String {
-    let (by, target, word) = (fields[1], fields[2].as_bytes()[0], fields[3].as_bytes());
-    let answer = match by {
+fn search(line: &[&str]) -> String {
+    let (target, word) = (line[2].as_bytes()[0], line[3].as_bytes());
+    let answer = match line[1] {
         "element" => exponential_search(word, &target),
         "comparator" => exponential_search_by(word, |letter| letter.cmp(&target)),
         _ => exponential_search_by_key(word, &target.to_ascii_lowercase(), u8::to_ascii_lowercase),
     };
-    let (outcome, place) = match answer {
-        Ok(place) => ("found", place),
-        Err(place) => ("absent", place),
-    };
-    format!("search {by} {} {} {outcome} {place}", fields[2], fields[3])
+    match answer {
+        Ok(place) => format!("{} found {place}", line[..4].join(" ")),
+        Err(place) => format!("{} absent {place}", line[..4].join(" ")),
+    }
 }
 
 fn main() {
     for line in std::io::stdin().lock().lines() {
         let line = line.unwrap();
         let fields: Vec<&str> = line.split(' ').collect();
-        println!(
-            "{}",
-            if fields[0] == "search" {
-                search(&fields)
-            } else {
-                groups(&fields)
-            }
-        );
+        println!("{}", if fields[0] == "search" { search(&fields) } else { groups(&fields) });
     }
 }
