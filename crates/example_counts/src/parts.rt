@@ -1,8 +1,10 @@
 //! Groups of a slice that is grouped in parts: the parts may be counted apart, and are joined at their seam.
-ghost use Rattle.std.specs.Prelude.{◌≡◌, ◌+◌, ◌<◌, ◌≤◌, ◌^◌, length, map, nat_eq, sum, IfOk, OnOk};
+ghost use Rattle.std.specs.Prelude.{◌≡◌, ◌+◌, ◌-◌, ◌<◌, ◌≤◌, ◌^◌, length, map, min, nat_eq, sum, sum_by, IfOk, OnOk};
+ghost use Rattle.std.specs.List.{fold};
 ghost use Rattle.std.specs.Option.{option_copied};
 ghost use Rattle.slice_group_by.specs.Split.{split};
 ghost use Rattle.slice_group_by.specs.Seams.{are_accepted, lens_joined};
+ghost use Rattle.example_counts.specs.Longest.{longer};
 
 use slice_group_by::LinearGroup;
 use slice_group_by::laws::{
@@ -63,6 +65,56 @@ pub fn count_in_shards(slice: &[u32], count: usize) -> usize
     sees_shards(&shards);
     one_split::<u32>();
     shards.map(|shard| count_groups(shard)).sum()
+}
+
+/// The sum of the numbers, shard by shard, at most the greatest number of 64 bits.
+pub fn sum_in_shards(slice: &[u32], count: usize) -> u64
+    ensures { result ≡ min (sum_by (λ x. x) slice.now) (2 ^ 64 - 1) }
+{
+    let shards = LinearGroup::new(slice).shards(count);
+    sees_shards(&shards);
+    let mut sum = 0u64;
+    for shard in shards {
+        sum = sum_from(sum, shard);
+    }
+    sum
+}
+
+// The sum with the numbers of a part more.
+fn sum_from(start: u64, part: &[u32]) -> u64
+    ensures { result ≡ min (start + sum_by (λ x. x) part.now) (2 ^ 64 - 1) }
+{
+    let mut sum = start;
+    for x in part {
+        sum = sum.saturating_add(u64::from(*x));
+    }
+    sum
+}
+
+/// How long the longest group of equal elements is, shard by shard.
+pub fn longest_in_shards(slice: &[u32], count: usize) -> usize
+    ensures { result ≡ fold longer 0 (split nat_eq slice.now) }
+{
+    let shards = LinearGroup::new(slice).shards(count);
+    sees_shards(&shards);
+    let mut most = 0usize;
+    for shard in shards {
+        most = longest_from(most, shard);
+    }
+    most
+}
+
+// The greater of a length and the longest group of a part.
+fn longest_from(start: usize, part: &[u32]) -> usize
+    ensures { result ≡ fold longer start (split nat_eq part.now) }
+{
+    let groups = LinearGroup::new(part);
+    sees_pieces(&groups);
+    let mut most = start;
+    for group in groups {
+        most = most.max(group.len());
+    }
+    most
 }
 
 // So many elements are grouped in one walk.

@@ -38,6 +38,7 @@ pub fn rows_between(rows: &[Entry], low: u32, high: u32) -> &[Entry]
     ensures { result.now ≡ filter (λ row. is_eq (between nat_cmp low high (key row))) rows.now }
 {
     ascending_is_searchable::<Entry, u32>();
+    range_places::<Entry>();
     let compare = |row: &Entry| {
         if row.0 < low {
             Ordering::Less

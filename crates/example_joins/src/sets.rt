@@ -1,5 +1,5 @@
 //! Sets of numbers, as slices that ascend strictly.
-ghost use Rattle.std.specs.Prelude.{◌≡◌, ◌↔◌, ℕ, nat_eq, not, ◌⊎◌, IfOk};
+ghost use Rattle.std.specs.Prelude.{◌≡◌, ◌↔◌, ℕ, ◌+◌, length, nat_eq, not, ◌⊎◌, IfOk};
 ghost use Rattle.std.specs.List.{Contains, filter, list_any};
 ghost use Rattle.std.specs.Ordering.{nat_cmp};
 ghost use Rattle.slice_group_by.specs.JoinKinds.{AlwaysAscends, has_partner};
@@ -14,6 +14,8 @@ pub fn union(alloc: Global, left: &[u32], right: &[u32]) -> Result<Vec<u32>, All
     requires right { AlwaysAscends nat_cmp right.now }
     ensures ascends { IfOk result (λ v. AlwaysAscends nat_cmp v.items) }
     ensures all { IfOk result (λ v. (x : ℕ) → Contains v.items x ↔ (Contains left.now x ⊎ Contains right.now x)) }
+    ensures size { IfOk result (λ v. length v.items + length (filter (has_partner nat_cmp left.now) right.now)
+        ≡ length left.now + length right.now) }
 {
     unions_ascend::<u32>();
     let join = MergeJoinBy::new(left, right, |x: &u32, y: &u32| x.cmp(y));

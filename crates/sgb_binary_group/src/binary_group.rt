@@ -2,7 +2,7 @@
 use sgb_groups::debug::{DebugNames, Names};
 use sgb_groups::searching::{GroupSearch, SearchGroups, SearchGroupsMut};
 use sgb_search::gallop::{Places, halve};
-use sgb_search::judge::{EqualityJudge, KeyJudge, PredicateJudge};
+use sgb_split::judge::{EqualityJudge, KeyJudge, PredicateJudge};
 
 /// An iterator over the groups of equal elements of a slice, which should be grouped: a call asks at most `digits(n - 1)`
 /// questions, where n elements remain.

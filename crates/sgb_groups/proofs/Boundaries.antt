@@ -8,21 +8,17 @@ use Rattle.std.proofs.lemmas.List.{append-nil, length-append, take-append-drop, 
 use Rattle.std.proofs.Math.Seq.{take-add}
 use Rattle.std.proofs.Math.ListN.{drop_of_length-le}
 use Rattle.std.specs.List.{AllByRecursion}
-use Rattle.sgb_search.specs.Split.{IsAccepted, IsRefusedAcross, IsSplit, concat, first, neighbours, put_before, split}
-use Rattle.sgb_search.specs.Seams.{is_accepted_across}
-use Rattle.sgb_search.proofs.Splits.Joined.{joined_count}
-use Rattle.sgb_search.proofs.Splits.Split.{split_alone, split_begins, split_is, split_only}
-use Rattle.sgb_search.specs.Calls.{Groups, IsGroupAt}
-use Rattle.sgb_search.specs.declared.end.End.TheVariants.{Front}
-use Rattle.sgb_search.specs.declared.judge.Judge
+use Rattle.sgb_split.specs.Split.{IsAccepted, IsRefusedAcross, IsSplit, concat, first, neighbours, put_before, split}
+use Rattle.sgb_split.specs.Seams.{is_accepted_across}
+use Rattle.sgb_split.proofs.Splits.Joined.{joined_count, piece_alone}
+use Rattle.sgb_split.proofs.Splits.Split.{refused_after, split_begins, split_is, split_only}
+use Rattle.sgb_split.specs.Calls.{Groups, IsGroupAt}
+use Rattle.sgb_split.specs.declared.end.End.TheVariants.{Front}
+use Rattle.sgb_split.specs.declared.judge.Judge
 use Rattle.sgb_groups.specs.declared.way.Way
 use Rattle.sgb_groups.specs.Boundaries.{PartsAt}
 
 module _ {A : Type 0} (p : A → A → Bool) where
-  piece_alone : (g : List A) → g ≢ [] → IsAccepted p g → split p g ≡ g ∷ []
-  piece_alone [] n a = absurd (n refl)
-  piece_alone (x ∷ xs) n a = split_alone p x xs a
-
   -- the first piece, and the others
   pub after_piece : (xs g rest : List A) → split p xs ≡ g ∷ split p rest → IsAccepted p (take (length g) xs) × PartsAt p xs (length g)
   after_piece xs g rest e =
@@ -31,7 +27,7 @@ module _ {A : Type 0} (p : A → A → Bool) where
       let at : take (length g) xs ≡ g = ap (take (length g)) is ∙ take_at g rest (length g) refl in
       let on : drop (length g) xs ≡ rest = ap (drop (length g)) is ∙ drop_at g rest (length g) refl in (
         subst (IsAccepted p) (sym at) s.accepted.0,
-        rw (at, on) (e ∙ ap (λ gs. gs ++ split p rest) (sym (piece_alone g s.nonempty.0 s.accepted.0))),
+        rw (at, on) (e ∙ ap (λ gs. gs ++ split p rest) (sym (piece_alone p g s.nonempty.0 s.accepted.0))),
       )
 
   put_before_parts : (b : Bool) (x : A) (g : List A) (gs hs : List (List A))
@@ -114,11 +110,6 @@ module _ {A : Type 0} (p : A → A → Bool) where
       let all = ap (λ l. length (split p l)) (take-append-drop n xs) ∙ ap length parts ∙ length-append (split p (take n xs)) (split p (drop n xs)) in
       omega (arith, one, all, joined_count p (take n xs) (drop n xs))
 
-  refused_behind : (g : List A) (gs : List (List A)) → AllByRecursion (IsRefusedAcross p) (neighbours (g ∷ gs))
-      → AllByRecursion (IsRefusedAcross p) (neighbours gs)
-  refused_behind g [] all = tt
-  refused_behind g (h ∷ hs) all = all.1
-
   -- the first piece, and what the others are the split of
   record HasFirst (xs : List A) : Type 0 where
     piece : List A
@@ -136,7 +127,7 @@ module _ {A : Type 0} (p : A → A → Bool) where
         covers = refl;
         nonempty = w.nonempty.1;
         accepted = w.accepted.1;
-        refused = refused_behind (x ∷ h.more) h.others w.refused;
+        refused = refused_after p (x ∷ h.more) h.others w.refused;
       } in
       record {
         piece = x ∷ h.more;

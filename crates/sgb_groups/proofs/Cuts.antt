@@ -6,11 +6,11 @@ use Rattle.std.proofs.lemmas.Bool.Decides.{nat_tests}
 use Rattle.std.proofs.lemmas.List.{drop_at, drop_min}
 use Rattle.std.specs.Prelude.{option_copied, slice_range}
 use Rattle.std.specs.Borrow.{Bor}
-use Rattle.sgb_search.specs.declared.end.End.{End}
-use Rattle.sgb_search.specs.declared.end.End.TheVariants.{Front, Back}
-use Rattle.sgb_search.specs.Calls.{CallAt, IsGroupAt, Place, between, place_after}
-use Rattle.sgb_search.proofs.Lists.Between.{between_places}
-use Rattle.sgb_search.proofs.Lists.Ranges.{length-range}
+use Rattle.sgb_split.specs.declared.end.End.{End}
+use Rattle.sgb_split.specs.declared.end.End.TheVariants.{Front, Back}
+use Rattle.sgb_split.specs.Calls.{CallAt, IsGroupAt, Place, between, place_after}
+use Rattle.sgb_split.proofs.Lists.Between.{between_places}
+use Rattle.sgb_split.proofs.Lists.Ranges.{length-range}
 use Rattle.sgb_groups.specs.declared.groups.SliceGroups.{SliceGroups}
 use Rattle.sgb_groups.specs.Gives.{groups_of, Gives, lies_within}
 use Rattle.sgb_groups.proofs.Parts.{range_split}

@@ -6,16 +6,17 @@ use Rattle.std.specs.declared.cmp.Ordering.{Ordering}
 use Rattle.std.specs.declared.cmp.Ordering.TheVariants.{Less}
 use Rattle.std.proofs.lemmas.List.{length-reverse, length-map, reverse-append}
 use Rattle.std.proofs.lemmas.Option.{slice_get-get_or, slice_get-map}
-use Rattle.sgb_search.specs.declared.end.End.{End}
-use Rattle.sgb_search.specs.declared.end.End.TheVariants.{Front, Back}
-use Rattle.sgb_search.specs.declared.judge.Judge.{Ghosts}
-use Rattle.sgb_search.specs.Split.{from, AreApart}
-use Rattle.sgb_search.specs.Judges.{IsCallable, IsRun}
+use Rattle.sgb_split.specs.declared.end.End.{End}
+use Rattle.sgb_split.specs.declared.end.End.TheVariants.{Front, Back}
+use Rattle.sgb_split.specs.declared.judge.Judge.{Ghosts}
+use Rattle.sgb_split.specs.Split.{from, AreApart}
+use Rattle.sgb_split.specs.Judges.{IsCallable, IsRun}
 use Rattle.sgb_search.specs.Searching.{SearchCost, IsBetween, IsWithin, IsPlaceSearch, MayAskAt, AnsweredAt, WasAnswered, Contradicts, IsLowEnd, IsHighEnd, TellsBoundary, beside, outward, as_ordering, answer_place, SearchQuestions}
-use Rattle.sgb_search.proofs.Lists.AllByRecursion.{all_contains, all_each, all_map, all_of_map, all_when}
-use Rattle.sgb_search.proofs.Lists.Apart.{get_reverse, outward_apart, outward_len}
-use Rattle.sgb_search.proofs.Lists.Ranges.{length-range, get_or-range}
-use Rattle.sgb_search.proofs.Questions.AtPlaces.{may_places}
+use Rattle.sgb_split.proofs.Lists.AllByRecursion.{all_contains, all_each, all_map, all_of_map, all_when}
+use Rattle.sgb_split.proofs.Lists.Apart.{get_reverse}
+use Rattle.sgb_search.proofs.Searches.Outward.{outward_apart, outward_len}
+use Rattle.sgb_split.proofs.Lists.Ranges.{length-range, get_or-range}
+use Rattle.sgb_search.proofs.Searches.AtPlaces.{may_places}
 use Rattle.sgb_search.proofs.Searches.Boundaries.{ends_at, never_equal, tells_more}
 use Rattle.sgb_groups.proofs.Parts.{range_split}
 

@@ -1,17 +1,19 @@
 -- Shards: a cut by one call, and what all of them are.
 use Rattle.std.proofs.Common.{◌≡◌, ℕ, zero, suc, ◌+◌, ◌-◌, ◌/◌, ◌<◌, ◌≤◌, Bool, true, false, List, []}
-use Rattle.std.proofs.Common.{◌∷◌, ◌++◌, length, take, drop, max}
+use Rattle.std.proofs.Common.{◌∷◌, ◌++◌, length, take, drop, max, flat_map, sum_by}
+use Rattle.std.specs.List.{fold}
+use Rattle.std.proofs.lemmas.List.Sums.{fold-append, sum_by-cons}
 use Rattle.std.proofs.Common.{append_assoc, refl, sym, ap, subst, ◌∙◌, arith}
 use lib.Dec.{T, leb, leb→le}
 use Rattle.std.specs.Iterator.{AlwaysYields}
 use Rattle.std.proofs.lemmas.Bool.{leb-false}
 use Rattle.std.proofs.lemmas.List.{take-append-drop, length-append, length-take-le, length-drop, take_at, drop_at}
 use Rattle.std.proofs.Math.Nat.{div-le_self, div-one}
-use Rattle.sgb_search.specs.Calls.{Groups, IsGroupAt}
-use Rattle.sgb_search.specs.Split.{split}
-use Rattle.sgb_search.specs.declared.end.End.{End}
-use Rattle.sgb_search.specs.declared.judge.Judge
-use Rattle.sgb_search.specs.declared.end.End.TheVariants.{Front}
+use Rattle.sgb_split.specs.Calls.{Groups, IsGroupAt}
+use Rattle.sgb_split.specs.Split.{concat, split}
+use Rattle.sgb_split.specs.declared.end.End.{End}
+use Rattle.sgb_split.specs.declared.judge.Judge
+use Rattle.sgb_split.specs.declared.end.End.TheVariants.{Front}
 use Rattle.sgb_groups.specs.declared.way.Way
 use Rattle.sgb_groups.proofs.Boundaries.{ends_at, ends_group, group_end}
 use Rattle.sgb_groups.specs.Shards.{AreShards, CutsShard, GivesShard, groups_to_cut, share_end, shards_left}
@@ -80,6 +82,20 @@ module _ {A : Type 0} (p : A → A → Bool) where
         few =
             few_in _ count _ refl (λ last. ap length (none_in rest most (count - 1) (all_taken count n x xs last at.behind))) next.few;
       }
+
+-- what adds up over lists adds up over the parts of one
+pub sum_over : {A : Type 0} (f : List A → ℕ) (adds : (xs ys : List A) → f (xs ++ ys) ≡ f xs + f ys) (parts : List (List A))
+    → sum_by f parts ≡ f (concat parts)
+sum_over f adds [] = omega (arith, adds [] [])
+sum_over f adds (part ∷ parts) =
+    omega (arith, sum_by-cons f part parts, sum_over f adds parts, adds part (concat parts))
+
+-- a fold over the groups of each part is one over the groups of all
+pub fold_over : {A V : Type 0} (p : A → A → Bool) (op : V → List A → V) (v : V) (parts : List (List A))
+    → fold (λ v part. fold op v (split p part)) v parts ≡ fold op v (flat_map (split p) parts)
+fold_over p op v [] = refl
+fold_over p op v (part ∷ parts) =
+    fold_over p op (fold op v (split p part)) parts ∙ sym (fold-append op v (split p part) (flat_map (split p) parts))
 
 -- of groups that are settled
 module _ {T J W : Type 0} (w : Way.Ghosts W) (j : Judge.Ghosts J T) (p : T → T → Bool) where

@@ -2,8 +2,8 @@
 use Rattle.std.specs.Prelude.{◌≡◌, ℕ, Bool, List, [], length, Option, MatchOption, nat_le, min}
 use Rattle.std.specs.Option.{option_copied_mut}
 use Rattle.std.specs.Borrow.{Bor, MutBor}
-use Rattle.sgb_search.specs.Calls.{Groups, Place, place_after, between, CallAt, IsGroupAt}
-use Rattle.sgb_search.specs.declared.end.End.{End}
+use Rattle.sgb_split.specs.Calls.{Groups, Place, place_after, between, CallAt, IsGroupAt}
+use Rattle.sgb_split.specs.declared.end.End.{End}
 use Rattle.sgb_loans.specs.Loans.{GroupsMut, HandsOut}
 use Rattle.sgb_groups.specs.declared.groups.SliceGroups.{SliceGroups}
 

@@ -4,10 +4,10 @@
 use Rattle.std.specs.Prelude.{◌≡◌, ◌≢◌, ℕ, ◌-◌, ◌/◌, ◌≤◌, Bool, List, [], ◌++◌, length, drop, flat_map, max, Option, MatchOption}
 use Rattle.std.specs.List.{AllByRecursion}
 use Rattle.std.specs.Borrow.{Bor}
-use Rattle.sgb_search.specs.Calls.{Groups, IsGroupAt}
-use Rattle.sgb_search.specs.Split.{concat, split}
-use Rattle.sgb_search.specs.declared.end.End.{End}
-use Rattle.sgb_search.specs.declared.end.End.TheVariants.{Front}
+use Rattle.sgb_split.specs.Calls.{Groups, IsGroupAt}
+use Rattle.sgb_split.specs.Split.{concat, split}
+use Rattle.sgb_split.specs.declared.end.End.{End}
+use Rattle.sgb_split.specs.declared.end.End.TheVariants.{Front}
 use Rattle.sgb_groups.specs.Gives.{groups_of}
 use Rattle.sgb_groups.specs.declared.shards.Shards.{Shards}
 

@@ -1,15 +1,15 @@
 //! A place between two groups, to cut a slice at.
 ghost use Rattle.std.specs.Prelude.{◌≡◌, ◌<◌, ◌≤◌, ◌+◌, ◌-◌, ℕ, Bool, length, drop, min, slice_range};
-ghost use Rattle.sgb_search.specs.Calls.{IsCallableBy, IsGroupAt};
-ghost use Rattle.sgb_search.specs.Split.{IsAccepted};
-ghost use Rattle.sgb_search.specs.declared.end.End.TheVariants.{Front};
+ghost use Rattle.sgb_split.specs.Calls.{IsCallableBy, IsGroupAt};
+ghost use Rattle.sgb_split.specs.Split.{IsAccepted};
+ghost use Rattle.sgb_split.specs.declared.end.End.TheVariants.{Front};
 ghost use Rattle.sgb_groups.specs.Boundaries.{PartsAt};
 ghost use Rattle.sgb_groups.specs.Gives.{groups_of};
 
 use crate::groups::SliceGroups;
 use crate::way::Way;
-use sgb_search::end::End;
-use sgb_search::judge::Judge;
+use sgb_split::end::End;
+use sgb_split::judge::Judge;
 
 impl<'a, T, J: Judge<T>, W: Way> SliceGroups<'a, T, J, W> {
     // The rest of the group of the element at the place, from that element on, by one call. What stands before is left out.
@@ -24,7 +24,7 @@ impl<'a, T, J: Judge<T>, W: Way> SliceGroups<'a, T, J, W> {
         ensures callable { IsCallableBy (W.allowed T) J.Judge (groups_of self.new) }
     {
         self.skip_front(place);
-        match self.next_at(&End::Front) {
+        match self.next_at(End::Front) {
             Some(rest) => rest,
             None => &[],
         }

@@ -1,14 +1,14 @@
 //! Groups by `==` of the elements, for reading and for writing.
 ghost use Rattle.std.specs.Prelude.{◌≡◌, ◌<◌};
-ghost use Rattle.sgb_search.specs.declared.judge.EqualityJudge.{EqualityJudge};
-ghost use Rattle.sgb_search.specs.Calls.{IsCallableBy, ComputesBy, at_start};
-ghost use Rattle.sgb_search.specs.Judges.{by_equality};
+ghost use Rattle.sgb_split.specs.declared.judge.EqualityJudge.{EqualityJudge};
+ghost use Rattle.sgb_split.specs.Calls.{IsCallableBy, ComputesBy, at_start};
+ghost use Rattle.sgb_split.specs.Judges.{by_equality};
 ghost use Rattle.sgb_loans.specs.Loans.{NothingOut};
 
 use crate::groups::SliceGroups;
 use crate::groups_mut::SliceGroupsMut;
 use crate::way::Way;
-use sgb_search::judge::EqualityJudge;
+use sgb_split::judge::EqualityJudge;
 
 impl<'a, T: PartialEq, W: Way> SliceGroups<'a, T, EqualityJudge, W> {
     ghost use Rattle.sgb_groups.specs.Gives.{groups_of, place_of};

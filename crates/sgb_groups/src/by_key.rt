@@ -2,16 +2,16 @@
 ghost use Rattle.std.specs.Prelude.{◌≡◌, ◌<◌, ◌+◌, List};
 ghost use Rattle.std.specs.List.{Contains};
 ghost use Rattle.std.specs.Fn.{CalledAt, ComputesKey, TakesAt};
-ghost use Rattle.sgb_search.specs.declared.judge.KeyJudge.{KeyJudge};
-ghost use Rattle.sgb_search.specs.Calls.{IsCallableBy, ComputesBy, at_start};
-ghost use Rattle.sgb_search.specs.Judges.{by_key, key_judge};
-ghost use Rattle.sgb_search.specs.Search.{IsCallableOn};
+ghost use Rattle.sgb_split.specs.declared.judge.KeyJudge.{KeyJudge};
+ghost use Rattle.sgb_split.specs.Calls.{IsCallableBy, ComputesBy, at_start};
+ghost use Rattle.sgb_split.specs.Judges.{by_key, key_judge};
+ghost use Rattle.sgb_split.specs.Judges.{IsCallableOn};
 ghost use Rattle.sgb_loans.specs.Loans.{NothingOut};
 
 use crate::groups::SliceGroups;
 use crate::groups_mut::SliceGroupsMut;
 use crate::way::Way;
-use sgb_search::judge::KeyJudge;
+use sgb_split::judge::KeyJudge;
 
 type ByKey<'a, T, F, K, W> = SliceGroups<'a, T, KeyJudge<F, K>, W>;
 

@@ -2,7 +2,7 @@
 ghost use Rattle.std.specs.Prelude.{◌≡◌};
 ghost use Rattle.sgb_numbers.specs.declared.number_judge.NumberJudge.{NumberJudge};
 ghost use Rattle.sgb_numbers.specs.Numbers.{by_number};
-ghost use Rattle.sgb_search.specs.Calls.{IsCallableBy, ComputesBy};
+ghost use Rattle.sgb_split.specs.Calls.{IsCallableBy, ComputesBy};
 ghost use Rattle.sgb_loans.specs.Loans.{NothingOut};
 
 use crate::groups_mut::SliceGroupsMut;

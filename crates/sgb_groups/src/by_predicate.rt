@@ -1,15 +1,15 @@
 //! Groups by a predicate, for reading and for writing.
 ghost use Rattle.std.specs.Prelude.{◌≡◌, ◌<◌, Bool};
 ghost use Rattle.std.specs.Fn.{ComputesOnPairs};
-ghost use Rattle.sgb_search.specs.declared.judge.PredicateJudge.{PredicateJudge};
-ghost use Rattle.sgb_search.specs.Calls.{IsCallableBy, ComputesBy, at_start};
-ghost use Rattle.sgb_search.specs.Judges.{by_predicate, predicate_judge};
+ghost use Rattle.sgb_split.specs.declared.judge.PredicateJudge.{PredicateJudge};
+ghost use Rattle.sgb_split.specs.Calls.{IsCallableBy, ComputesBy, at_start};
+ghost use Rattle.sgb_split.specs.Judges.{by_predicate, predicate_judge};
 ghost use Rattle.sgb_loans.specs.Loans.{NothingOut};
 
 use crate::groups::SliceGroups;
 use crate::groups_mut::SliceGroupsMut;
 use crate::way::Way;
-use sgb_search::judge::PredicateJudge;
+use sgb_split::judge::PredicateJudge;
 
 impl<'a, T, P: FnMut(&T, &T) -> bool, W: Way> SliceGroups<'a, T, PredicateJudge<P>, W> {
     ghost use Rattle.sgb_groups.specs.Gives.{groups_of, place_of};

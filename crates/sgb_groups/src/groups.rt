@@ -2,12 +2,12 @@
 ghost use Rattle.std.specs.Prelude.{◌≡◌, ◌<◌, ◌≤◌, ◌+◌, ◌^◌, [], length, drop, Option, MatchOption, nat_eq, IfSome, if◌then◌else◌};
 ghost use Rattle.std.specs.Iterator.{UpTo};
 ghost use Rattle.std.specs.Iterator.SizeHint.{IsWithinCount};
-ghost use Rattle.sgb_search.specs.declared.end.End.TheVariants.{Front, Back};
-ghost use Rattle.sgb_search.specs.Calls.{IsCallableBy, StandsAt, at_start, groups_to_come};
+ghost use Rattle.sgb_split.specs.declared.end.End.TheVariants.{Front, Back};
+ghost use Rattle.sgb_split.specs.Calls.{IsCallableBy, StandsAt, at_start, groups_to_come};
 
 use crate::way::Way;
-use sgb_search::end::End;
-use sgb_search::judge::Judge;
+use sgb_split::end::End;
+use sgb_split::judge::Judge;
 use std::iter::FusedIterator;
 use std::marker::PhantomData;
 
@@ -147,7 +147,7 @@ impl<'a, T, J: Judge<T> + Drop, W: Way> Iterator for SliceGroups<'a, T, J, W> {
     /// - exponential groups: at most `2 * digits(g) + 1`.
     #[inline]
     fn next(&mut self) -> Option<&'a [T]> {
-        self.next_at(&End::Front)
+        self.next_at(End::Front)
     }
 
     /// No groups where nothing remains, and else at least one and at most as many as elements remain.
@@ -175,7 +175,7 @@ impl<'a, T, J: Judge<T> + Drop, W: Way> DoubleEndedIterator for SliceGroups<'a, 
     /// that length.
     #[inline]
     fn next_back(&mut self) -> Option<&'a [T]> {
-        self.next_at(&End::Back)
+        self.next_at(End::Back)
     }
 }
 
@@ -206,9 +206,9 @@ impl<'a, T, J: Judge<T>, W: Way> SliceGroups<'a, T, J, W> {
     /// from the back, by their questions.
     // Public for `GroupQueue`, which asks for no `Drop`. Each caller names its end, and gets a copy for that end alone.
     #[inline(always)]
-    pub fn next_at(&mut self, end: &End) -> Option<&'a [T]>
+    pub fn next_at(&mut self, end: End) -> Option<&'a [T]>
         requires { IsCallableBy (W.allowed T) J.Judge (groups_of self.old) }
-        ensures gives { Gives (W.asks T J J.Judge) end.now self.old result self.new }
+        ensures gives { Gives (W.asks T J J.Judge) end self.old result self.new }
         ensures callable { IsCallableBy (W.allowed T) J.Judge (groups_of self.new) }
     {
         let (low, high) = self.places()?;

@@ -1,15 +1,15 @@
 //! The groups of a slice for writing, over any judge and any way to find where a group ends.
 ghost use Rattle.std.specs.Prelude.{◌∷◌, ◌++◌, drop, ◌≡◌, ◌<◌, ◌+◌, [], length, Option, nat_eq, IfSome, if◌then◌else◌};
-ghost use Rattle.sgb_search.specs.Calls.{IsCallableBy};
+ghost use Rattle.sgb_split.specs.Calls.{IsCallableBy};
 ghost use Rattle.std.specs.Iterator.{UpTo};
 ghost use Rattle.std.specs.Iterator.SizeHint.{IsWithinCount};
-ghost use Rattle.sgb_search.specs.declared.end.End.TheVariants.{Front, Back};
+ghost use Rattle.sgb_split.specs.declared.end.End.TheVariants.{Front, Back};
 ghost use Rattle.sgb_loans.specs.Loans.{NothingOut, groups_mut_to_come};
 
 use crate::way::Way;
 use sgb_loans::loans::{Ended, Last, Loans};
-use sgb_search::end::End;
-use sgb_search::judge::Judge;
+use sgb_split::end::End;
+use sgb_split::judge::Judge;
 use std::iter::FusedIterator;
 use std::marker::{Model, PhantomData};
 use std::mem;
@@ -161,7 +161,7 @@ impl<'a, T, J: Judge<T> + Drop, W: Way> Iterator for SliceGroupsMut<'a, T, J, W>
     /// - exponential groups: at most `2 * digits(g) + 1`.
     #[inline]
     fn next(&mut self) -> Option<&'a mut [T]> {
-        self.next_at(&End::Front)
+        self.next_at(End::Front)
     }
 
     /// No groups where nothing remains, and else at least one and at most as many as elements remain.
@@ -188,7 +188,7 @@ impl<'a, T, J: Judge<T> + Drop, W: Way> DoubleEndedIterator for SliceGroupsMut<'
     /// that length.
     #[inline]
     fn next_back(&mut self) -> Option<&'a mut [T]> {
-        self.next_at(&End::Back)
+        self.next_at(End::Back)
     }
 }
 
@@ -237,9 +237,9 @@ impl<'a, T, J: Judge<T>, W: Way> SliceGroupsMut<'a, T, J, W> {
     /// from the back, by their questions.
     // Public for `GroupQueue`, which asks for no `Drop`. Each caller names its end, and gets a copy for that end alone.
     #[inline(always)]
-    pub fn next_at(&mut self, end: &End) -> Option<&'a mut [T]>
+    pub fn next_at(&mut self, end: End) -> Option<&'a mut [T]>
         requires { IsCallableBy (W.allowed T) J.Judge (groups_of_mut self.old) }
-        ensures gives { GivesMut (W.asks T J J.Judge) end.now self.old result self.new }
+        ensures gives { GivesMut (W.asks T J J.Judge) end self.old result self.new }
         ensures callable { IsCallableBy (W.allowed T) J.Judge (groups_of_mut self.new) }
     {
         if self.slice.len() == 0 {
@@ -247,7 +247,7 @@ impl<'a, T, J: Judge<T>, W: Way> SliceGroupsMut<'a, T, J, W> {
         }
         let all = mem::take(&mut self.slice);
         let len = W::group_len(end, all, 0, all.len(), &mut self.judge);
-        let (group, rest) = self.loans.cut(end, all, len);
+        let (group, rest) = self.loans.cut(&end, all, len);
         self.slice = rest;
         Some(group)
     }

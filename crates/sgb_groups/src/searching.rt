@@ -1,15 +1,15 @@
 //! The binary and the exponential way to find a group: a search among the places beside the outermost element, at either end of a
 //! slice.
 ghost use Rattle.std.specs.Prelude.{◌+◌, ◌-◌, ◌≤◌, length};
-ghost use Rattle.sgb_search.specs.Judges.{IsCallable};
+ghost use Rattle.sgb_split.specs.Judges.{IsCallable};
 ghost use Rattle.sgb_search.specs.Searching.{SearchCost, IsPlaceSearch, MayAskAt, AnsweredAt, beside, as_ordering, IsBetween};
 
 use crate::groups::SliceGroups;
 use crate::groups_mut::SliceGroupsMut;
 use crate::way::Way;
-use sgb_search::end::End;
+use sgb_split::end::End;
 use sgb_search::gallop::{Places, answer_place, before_end};
-use sgb_search::judge::Judge;
+use sgb_split::judge::Judge;
 use std::cmp::Ordering;
 use std::marker::PhantomData;
 
@@ -57,7 +57,7 @@ pub struct Search<S> {
 
 impl<S: GroupSearch> Way for Search<S> {
     ghost use Rattle.std.specs.Prelude.{false};
-    ghost use Rattle.sgb_search.specs.Split.{AreApart, IsGrouped};
+    ghost use Rattle.sgb_split.specs.Split.{AreApart, IsGrouped};
     ghost use Rattle.sgb_search.specs.Searching.{SearchQuestions, IsSettledApart};
     ghost use Rattle.sgb_search.proofs.Searches.SearchQueue as laws;
 
@@ -89,7 +89,7 @@ impl<S: GroupSearch> Way for Search<S> {
 
     #[inline]
     fn group_len<T, J: Judge<T>>(
-        end: &End,
+        end: End,
         slice: &[T],
         low: usize,
         high: usize,

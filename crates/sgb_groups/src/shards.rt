@@ -1,16 +1,18 @@
 //! The shards of a slice: parts that end where groups end, to be walked apart.
-ghost use Rattle.std.specs.Prelude.{◌≡◌, ◌<◌, Bool, List, length, nat_eq, IfSome, if◌then◌else◌};
+ghost use Rattle.std.specs.Prelude.{◌≡◌, ℕ, ◌+◌, ◌<◌, ◌++◌, Bool, List, length, nat_eq, IfSome, if◌then◌else◌};
+ghost use Rattle.std.specs.List.{fold, sum_by};
 ghost use Rattle.std.specs.Iterator.{UpTo, at_most};
 ghost use Rattle.std.specs.Iterator.SizeHint.{IsWithinCount};
 ghost use Rattle.std.proofs.lemmas.Iterator.{YieldsList};
-ghost use Rattle.sgb_search.specs.Calls.{IsCallableBy};
+ghost use Rattle.sgb_split.specs.Calls.{IsCallableBy};
+ghost use Rattle.sgb_split.specs.Split.{split};
 ghost use Rattle.sgb_groups.specs.Gives.{groups_of};
 ghost use Rattle.sgb_groups.specs.Shards.{AreShards, CutsShard, GivesShard, groups_to_cut, shards_left};
 ghost use Rattle.sgb_groups.specs.declared.shards.Shards.{Shards};
 
 use crate::groups::SliceGroups;
 use crate::way::Way;
-use sgb_search::judge::Judge;
+use sgb_split::judge::Judge;
 use std::iter::FusedIterator;
 
 /// An iterator over the shards of a slice: what `shards` of its groups gives.
@@ -100,9 +102,16 @@ impl<'a, T, J: Judge<T> + Drop, W: Way> Iterator for Shards<'a, T, J, W> {
 impl<'a, T, J: Judge<T> + Drop, W: Way> FusedIterator for Shards<'a, T, J, W> {}
 
 /// What a loop or an adapter sees of the shards of groups that are settled for a test: nonempty parts of what remains, `xs`, which
-/// joined are the whole, and whose groups are the groups of the whole. There are no more than were asked for, or one.
+/// joined are the whole, and whose groups are the groups of the whole (`shards`). There are no more than were asked for, or one.
+///
+/// What adds up over elements, as a sum does, adds up over the shards (`sums`). A number that is folded over the groups of each shard,
+/// one shard after another, is folded over the groups of the whole (`fold`).
 pub fn sees_shards<T, J: Judge<T> + Drop, W: Way>(_shards: &Shards<'_, T, J, W>)
-    ensures { (p : T → T → Bool) (s : Shards T J W) (xs : List T) → W.settled T J J.Judge (groups_to_cut s) p
+    ensures shards { (p : T → T → Bool) (s : Shards T J W) (xs : List T) → W.settled T J J.Judge (groups_to_cut s) p
         → (groups_to_cut s).remainder ≡ xs → (shards : List (List T)) × AreShards p (shards_left s) xs shards
         × YieldsList (GivesShard (W.asks T J J.Judge)) (λ x. x.now) s shards }
+    ensures sums { (f : List T → ℕ) → ((xs ys : List T) → f (xs ++ ys) ≡ f xs + f ys) → (p : T → T → Bool) (count : ℕ) (xs : List T)
+        (shards : List (List T)) → AreShards p count xs shards → sum_by f shards ≡ f xs }
+    ensures fold { (op : ℕ → List T → ℕ) (v : ℕ) (p : T → T → Bool) (count : ℕ) (xs : List T) (shards : List (List T))
+        → AreShards p count xs shards → fold (λ v shard. fold op v (split p shard)) v shards ≡ fold op v (split p xs) }
 {}

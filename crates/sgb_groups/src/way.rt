@@ -1,13 +1,13 @@
 //! The way in which a family of groups finds where a group ends.
 ghost use Rattle.std.specs.Prelude.{◌<◌, ◌≤◌, ◌+◌, ◌++◌, ℕ, Bool, List, length, Option, slice_range};
-ghost use Rattle.sgb_search.specs.declared.end.End.{End};
-ghost use Rattle.sgb_search.specs.declared.judge.Judge.{Ghosts};
-ghost use Rattle.sgb_search.specs.Calls.{CallAt, IsCallableBy, ComputesBy, Groups};
-ghost use Rattle.sgb_search.specs.Judges.{IsCallable, IsRunOf, AsksWithin};
-ghost use Rattle.sgb_search.specs.Split.{TakesPiece};
+ghost use Rattle.sgb_split.specs.declared.end.End.{End};
+ghost use Rattle.sgb_split.specs.declared.judge.Judge.{Ghosts};
+ghost use Rattle.sgb_split.specs.Calls.{CallAt, IsCallableBy, ComputesBy, Groups};
+ghost use Rattle.sgb_split.specs.Judges.{IsCallable, IsRunOf, AsksWithin};
+ghost use Rattle.sgb_split.specs.Split.{TakesPiece};
 
-use sgb_search::end::End;
-use sgb_search::judge::Judge;
+use sgb_split::end::End;
+use sgb_split::judge::Judge;
 
 /// How the group at an end of a slice is found: what is asked of the judge for it, for which tests that gives the pieces of the
 /// split, and what a walk may ask.
@@ -65,7 +65,7 @@ pub trait Way {
 
     /// How many elements the group has at the end of the part of the slice from the place `low` up to, not including, `high`.
     fn group_len<T, J: Judge<T>>(
-        end: &End,
+        end: End,
         slice: &[T],
         low: usize,
         high: usize,
@@ -76,5 +76,5 @@ pub trait Way {
         requires callable { IsCallable J.may_ask J.answers (allowed T (slice_range slice.now low high)) judge.old }
         ensures nonempty { 0 < result }
         ensures within { low + result ≤ high }
-        ensures asked { asks T J J.Judge end.now (slice_range slice.now low high) result judge.old judge.new };
+        ensures asked { asks T J J.Judge end (slice_range slice.now low high) result judge.old judge.new };
 }

@@ -10,18 +10,15 @@ use Rattle.std.specs.List.{SwappedAt}
 use Rattle.std.proofs.lemmas.List.{drop-drop, drop-set-lt, get_or-drop, length-drop, length-take-le}
 use Rattle.std.proofs.lemmas.List.{take-append-drop, take-set-le, take_more}
 use Rattle.std.proofs.lemmas.Option.{get_or_from_slice_get, slice_get_within}
-use Rattle.sgb_search.specs.Calls.{Groups, CallAt, IsGroupAt}
-use Rattle.sgb_search.specs.Linear.{IsSettled, LinearQuestions}
-use Rattle.sgb_search.specs.Split.{first, without_first, split}
-use Rattle.sgb_search.specs.declared.end.End.{End}
-use Rattle.sgb_search.specs.declared.end.End.TheVariants.{Front}
-use Rattle.sgb_search.specs.declared.judge.Judge.{Ghosts}
-use Rattle.sgb_search.proofs.Linear.LinearQueue.{piece}
-use Rattle.sgb_search.proofs.Questions.Closures.{computes_next}
+use Rattle.sgb_split.specs.Calls.{Groups, CallAt, IsGroupAt}
+use Rattle.sgb_split.specs.Linear.{IsSettled, LinearQuestions}
+use Rattle.sgb_split.specs.Split.{first, without_first, split}
+use Rattle.sgb_split.specs.declared.end.End.{End}
+use Rattle.sgb_split.specs.declared.end.End.TheVariants.{Front}
+use Rattle.sgb_split.specs.declared.judge.Judge.{Ghosts}
+use Rattle.sgb_split.proofs.Linear.LinearQueue.{piece}
+use Rattle.sgb_split.proofs.Questions.Closures.{computes_next}
 use Rattle.sgb_linear_group.specs.Best.{AreKept, Keeps, KeepsFrom, KeepsOfEach, best_from, best_of_each}
-
-pub same_some : {X : Type 0} {x y : X} → Some x ≡ Some y → x ≡ y
-same_some e = cc e
 
 pub stands_at : {X : Type 0} (xs : List X) (i : ℕ) → i < length xs → (x : X) × (slice_get xs i ≡ Some x)
 stands_at [] i l = absurd (omega (arith, l))
@@ -90,7 +87,7 @@ module _ {T F : Type 0} (g : Mut F (Bor T × (Bor T × Unit {0})) Bool) (b : T �
 -- what begins with a piece
 first_and_others : {X : Type 0} (xs ys : List X) (x : X) → Some x ≡ first xs → ys ≡ without_first xs → xs ≡ x ∷ ys
 first_and_others [] ys x e f = cc e
-first_and_others (y ∷ xs) ys x e f = (λ i. sym (same_some e) i ∷ sym f i)
+first_and_others (y ∷ xs) ys x e f = let same : y ≡ x = cc e in (λ i. same i ∷ sym f i)
 
 module _ {T J : Type 0} (g : Ghosts J T) (p : T → T → Bool) where
   walked_pieces : (s : Groups T J) (groups : List (List T)) (t : Groups T J) → IsSettled g s p

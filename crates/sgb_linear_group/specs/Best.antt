@@ -2,10 +2,10 @@
 use Rattle.std.specs.Prelude.{◌≡◌, Bool, List, [], ◌∷◌, cond}
 use Rattle.std.specs.List.{fold}
 use Rattle.std.specs.Iterator.{Drains}
-use Rattle.sgb_search.specs.declared.end.End.TheVariants.{Front}
-use Rattle.sgb_search.specs.declared.judge.Judge.{Ghosts}
-use Rattle.sgb_search.specs.Calls.{Groups, CallAt}
-use Rattle.sgb_search.specs.Linear.{LinearQuestions}
+use Rattle.sgb_split.specs.declared.end.End.TheVariants.{Front}
+use Rattle.sgb_split.specs.declared.judge.Judge.{Ghosts}
+use Rattle.sgb_split.specs.Calls.{Groups, CallAt}
+use Rattle.sgb_split.specs.Linear.{LinearQuestions}
 
 -- is_worse kept x: the later element x takes the place of the one that was kept
 module _ {T : Type 0} (is_worse : T → T → Bool) where

@@ -2,12 +2,12 @@
 ghost use Rattle.std.specs.Prelude.{◌≡◌, ◌<◌, ◌≤◌, Bool, length, Some, take, slice_get, slice_range};
 ghost use Rattle.std.specs.Fn.{CalledAtTwo, ComputesKey, ComputesOnPairs};
 ghost use Rattle.std.specs.List.Sorted.{IsPermutation};
-ghost use Rattle.sgb_search.specs.Calls.{IsCallableBy};
-ghost use Rattle.sgb_search.specs.Judges.{by_key, by_predicate, key_judge, predicate_judge};
-ghost use Rattle.sgb_search.specs.Split.{AreNeighbours, split};
+ghost use Rattle.sgb_split.specs.Calls.{IsCallableBy};
+ghost use Rattle.sgb_split.specs.Judges.{by_key, by_predicate, key_judge, predicate_judge};
+ghost use Rattle.sgb_split.specs.Split.{AreNeighbours, split};
 ghost use Rattle.sgb_linear_group.specs.Best.{AreKept, Keeps, best_of_each};
 
-use sgb_search::judge::{Judge, KeyJudge, PredicateJudge};
+use sgb_split::judge::{Judge, KeyJudge, PredicateJudge};
 
 /// Moves the best element of each group to the front, in order, and gives how many groups there are. The others stand behind
 /// them, in no order.

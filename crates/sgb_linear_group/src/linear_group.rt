@@ -6,8 +6,8 @@ use sgb_groups::groups::SliceGroups;
 use sgb_groups::groups_mut::SliceGroupsMut;
 use sgb_groups::way::Way;
 use sgb_numbers::number_judge::NumberJudge;
-use sgb_search::end::End;
-use sgb_search::judge::{EqualityJudge, Judge, KeyJudge, PredicateJudge};
+use sgb_split::end::End;
+use sgb_split::judge::{EqualityJudge, Judge, KeyJudge, PredicateJudge};
 
 /// An iterator over the groups of equal elements of a slice, by `==` of neighbours. A call for a group of g elements compares g
 /// pairs, or g - 1 where nothing remains after it.
@@ -112,9 +112,9 @@ pub struct Linear {}
 
 impl Way for Linear {
     ghost use Rattle.std.specs.Prelude.{true, ⊤};
-    ghost use Rattle.sgb_search.specs.Split.{AreNeighbours, neighbours};
-    ghost use Rattle.sgb_search.specs.Linear.{LinearQuestions, IsSettled};
-    ghost use Rattle.sgb_search.proofs.Linear.LinearQueue as laws;
+    ghost use Rattle.sgb_split.specs.Split.{AreNeighbours, neighbours};
+    ghost use Rattle.sgb_split.specs.Linear.{LinearQuestions, IsSettled};
+    ghost use Rattle.sgb_split.proofs.Linear.LinearQueue as laws;
 
     ghost allowed = { λ T. AreNeighbours };
 
@@ -144,7 +144,7 @@ impl Way for Linear {
 
     #[inline]
     fn group_len<T, J: Judge<T>>(
-        end: &End,
+        end: End,
         slice: &[T],
         low: usize,
         high: usize,

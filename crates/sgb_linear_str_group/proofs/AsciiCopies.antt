@@ -12,16 +12,16 @@ use Rattle.std.proofs.lemmas.Str.{IsUtf8-encode, IsCharBoundary-from_take, IsCha
 use Rattle.std.proofs.lemmas.Str.Ascii.{IsAscii-cons, IsAscii-nil}
 use lib.Dec.{eqb}
 use Rattle.sgb_numbers.specs.Alike.{IsFirstLen, IsLastLen}
-use Rattle.sgb_search.specs.Calls.{IsCallableBy}
-use Rattle.sgb_search.specs.declared.end.End.{End}
-use Rattle.sgb_search.specs.declared.end.End.TheVariants.{Front, Back}
-use Rattle.sgb_search.specs.declared.judge.EqualityJudge.{EqualityJudge}
-use Rattle.sgb_search.specs.Judges.{by_equality}
-use Rattle.sgb_search.specs.Split.{put_at, AreNeighbours}
+use Rattle.sgb_split.specs.Calls.{IsCallableBy}
+use Rattle.sgb_split.specs.declared.end.End.{End}
+use Rattle.sgb_split.specs.declared.end.End.TheVariants.{Front, Back}
+use Rattle.sgb_split.specs.declared.judge.EqualityJudge.{EqualityJudge}
+use Rattle.sgb_split.specs.Judges.{by_equality}
+use Rattle.sgb_split.specs.Split.{put_at, AreNeighbours}
 use Rattle.sgb_linear_str_group.specs.Texts.{IsTextAt}
 use Rattle.sgb_linear_str_group.specs.Copies.{outermost_byte, IsCutAtCopies}
 use Rattle.sgb_linear_str_group.proofs.LastCharacter.{ends, both}
-use Rattle.sgb_search.proofs.Lists.Ends.{length-put_at}
+use Rattle.sgb_split.proofs.Lists.Ends.{length-put_at}
 use Rattle.sgb_linear_str_group.proofs.Scanned.{as_they_stand, put_at_assoc, put_at_none, utf8-put_at, utf8_part}
 use Rattle.sgb_linear_str_group.proofs.Scanned.{Scanned, one_scanned, one_more, found_all, refused}
 use Rattle.sgb_linear_str_group.proofs.Cuts.{cut_alike}

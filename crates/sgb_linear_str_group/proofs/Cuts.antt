@@ -1,13 +1,13 @@
 -- A text that is cut in two between characters, and the remainder of an iterator that is cut so.
 use Rattle.std.proofs.Common.{◌≡◌, ℕ, ◌+◌, ◌-◌, ◌<◌, List, ◌++◌, length, take, drop, sym, ap, ◌∙◌, subst, arith, length-append}
-use Rattle.sgb_search.specs.Calls.{IsCallableBy, Place, place_after}
+use Rattle.sgb_split.specs.Calls.{IsCallableBy, Place, place_after}
 use Rattle.std.specs.Str.{chars, IsUtf8, IsCharBoundary}
 use Rattle.std.proofs.lemmas.Str.{IsCharBoundary-at_seam}
 use Rattle.std.proofs.Math.Seq.{take-append_seam, drop-append_seam}
-use Rattle.sgb_search.specs.declared.judge.Judge.{Ghosts}
-use Rattle.sgb_search.specs.declared.end.End.{End}
-use Rattle.sgb_search.specs.Split.{put_at, AreNeighbours}
-use Rattle.sgb_search.specs.declared.end.End.TheVariants.{Front, Back}
+use Rattle.sgb_split.specs.declared.judge.Judge.{Ghosts}
+use Rattle.sgb_split.specs.declared.end.End.{End}
+use Rattle.sgb_split.specs.Split.{put_at, AreNeighbours}
+use Rattle.sgb_split.specs.declared.end.End.TheVariants.{Front, Back}
 use Rattle.sgb_linear_str_group.specs.Texts.{TextGroups, place_or_end, text_between, IsTextAt, in_characters}
 use Rattle.sgb_linear_str_group.proofs.Places.{place_or_end_is_place, boundary_test, middle, places, text_after, text_before}
 

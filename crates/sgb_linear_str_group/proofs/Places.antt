@@ -9,8 +9,8 @@ use Rattle.std.proofs.lemmas.Bool.Decides.{nat_tests}
 use Rattle.std.proofs.lemmas.List.{get_or_past, get_or-drop, get_or-take, length-drop, length-take-le}
 use Rattle.std.proofs.lemmas.Str.{IsCharBoundary-start, IsCharBoundary-end, IsCharBoundary-from_rest, IsCharBoundary-from_take}
 use Rattle.std.proofs.lemmas.Str.{IsUtf8-drop}
-use Rattle.sgb_search.specs.Calls.{StandsAt}
-use Rattle.sgb_search.proofs.Lists.Between.{ArePlaces, between_ends, are_places, is_range, ends_at, part_before, part_after}
+use Rattle.sgb_split.specs.Calls.{StandsAt}
+use Rattle.sgb_split.proofs.Lists.Between.{ArePlaces, between_ends, are_places, is_range, ends_at, part_before, part_after}
 use Rattle.sgb_linear_str_group.specs.Texts.{place_or_end, lies_between_characters, text_between}
 
 pub boundary_test : (text : List ℕ) (place : ℕ) → Decides (lies_between_characters text place) (IsCharBoundary text place)

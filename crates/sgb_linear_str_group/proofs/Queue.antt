@@ -4,14 +4,14 @@ use Rattle.std.specs.Prelude.{option_map, option_copied, IfSome}
 use Rattle.std.specs.Borrow.{Bor}
 use Rattle.std.specs.Str.{chars, IsUtf8}
 use Rattle.std.proofs.lemmas.Str.{chars-nil}
-use Rattle.sgb_search.specs.declared.end.End.{End}
-use Rattle.sgb_search.specs.declared.judge.Judge.{Ghosts}
-use Rattle.sgb_search.specs.Judges.{IsRunOf, AsksWithin}
-use Rattle.sgb_search.specs.Split.{neighbours, TakesPart, TakesPiece, AreNeighbours}
-use Rattle.sgb_search.specs.Calls.{CallAt, IsCallableBy}
-use Rattle.sgb_search.specs.Linear.{LinearQuestions}
-use Rattle.sgb_search.proofs.Questions.Calls as calls
-use Rattle.sgb_search.proofs.Linear.LinearQueue as list
+use Rattle.sgb_split.specs.declared.end.End.{End}
+use Rattle.sgb_split.specs.declared.judge.Judge.{Ghosts}
+use Rattle.sgb_split.specs.Judges.{IsRunOf, AsksWithin}
+use Rattle.sgb_split.specs.Split.{neighbours, TakesPart, TakesPiece, AreNeighbours}
+use Rattle.sgb_split.specs.Calls.{CallAt, IsCallableBy}
+use Rattle.sgb_split.specs.Linear.{LinearQuestions}
+use Rattle.sgb_split.proofs.Questions.Calls as calls
+use Rattle.sgb_split.proofs.Linear.LinearQueue as list
 use Rattle.sgb_linear_str_group.specs.declared.text_groups.LinearStrGroups.{LinearStrGroups}
 use Rattle.sgb_linear_str_group.specs.Texts.{TextGroups, text_groups_of, in_characters, IsSettledText, TextCallAt, GivesText}
 

@@ -1,23 +1,23 @@
 -- A scan of a text's characters from an end, question by question.
 use Rattle.std.proofs.Common.{◌≡◌, ℕ, ◌+◌, ◌<◌, true, false, List, [], ◌∷◌, ◌++◌, length}
 use Rattle.std.proofs.Common.{take, drop, refl, sym, ap, ◌∙◌, subst, arith, append_assoc, length-append}
-use Rattle.sgb_search.specs.Calls.{IsCallableBy}
+use Rattle.sgb_split.specs.Calls.{IsCallableBy}
 use Rattle.std.specs.Str.{chars, IsUtf8}
 use Rattle.std.specs.Char.{encode_utf8}
 use Rattle.std.proofs.lemmas.Str.{chars-nil, chars-append, chars_past_char, IsUtf8-append}
 use Rattle.std.proofs.lemmas.Str.{IsUtf8-take, IsUtf8-drop, IsCharBoundary-at_seam, IsCharBoundary-from_take}
 use Rattle.std.proofs.Math.Seq.{take-append_seam, drop-append_seam}
 use Rattle.std.proofs.lemmas.List.{append-nil}
-use Rattle.sgb_search.specs.declared.end.End.{End}
-use Rattle.sgb_search.specs.declared.end.End.TheVariants.{Front, Back}
-use Rattle.sgb_search.specs.declared.judge.Judge.{Ghosts}
-use Rattle.sgb_search.specs.Judges.{IsRun}
-use Rattle.sgb_search.specs.Split.{from, put_at, neighbours, AreNeighbours}
-use Rattle.sgb_search.specs.Linear.{questions}
-use Rattle.sgb_search.proofs.Lists.Ends.{length-from, length-put_at}
-use Rattle.sgb_search.proofs.Questions.Runs.{may_now, may_next}
-use Rattle.sgb_search.proofs.Lists.Pairs.{PairAt, pair_between, at_reverse, one_of_at, length-neighbours}
-use Rattle.sgb_search.proofs.Linear.Scanning.{Accepted, accepted_none, accepted_more, refused_next, accepted_all}
+use Rattle.sgb_split.specs.declared.end.End.{End}
+use Rattle.sgb_split.specs.declared.end.End.TheVariants.{Front, Back}
+use Rattle.sgb_split.specs.declared.judge.Judge.{Ghosts}
+use Rattle.sgb_split.specs.Judges.{IsRun}
+use Rattle.sgb_split.specs.Split.{from, put_at, neighbours, AreNeighbours}
+use Rattle.sgb_split.specs.Linear.{questions}
+use Rattle.sgb_split.proofs.Lists.Ends.{length-from, length-put_at}
+use Rattle.sgb_split.proofs.Questions.Runs.{may_now, may_next}
+use Rattle.sgb_split.proofs.Lists.Pairs.{PairAt, pair_between, at_reverse, one_of_at, length-neighbours}
+use Rattle.sgb_split.proofs.Linear.Scanning.{Accepted, accepted_none, accepted_more, refused_next, accepted_all}
 use Rattle.sgb_linear_str_group.specs.Texts.{IsTextAt}
 
 module _ {X : Type 0} where

@@ -1,8 +1,8 @@
 -- A text whose outermost characters are copies of one of ASCII.
 use Rattle.std.specs.Prelude.{◌≡◌, ℕ, ◌-◌, ◌<◌, List, length, replicate, slice_index}
-use Rattle.sgb_search.specs.Split.{put_at}
-use Rattle.sgb_search.specs.declared.end.End.{End}
-use Rattle.sgb_search.specs.declared.end.End.TheVariants.{Front, Back}
+use Rattle.sgb_split.specs.Split.{put_at}
+use Rattle.sgb_split.specs.declared.end.End.{End}
+use Rattle.sgb_split.specs.declared.end.End.TheVariants.{Front, Back}
 
 -- the first byte of a text, and the last one
 abbrev pub outermost_byte : End → List ℕ → ℕ

@@ -4,11 +4,11 @@ use Rattle.std.specs.Prelude.{Option, MatchOption, if◌then◌else◌}
 use Rattle.std.specs.Borrow.{Bor}
 use Rattle.std.specs.Iterator.{Count, at_most}
 use Rattle.std.specs.Str.{chars, IsUtf8}
-use Rattle.sgb_search.specs.declared.judge.Judge.{Ghosts}
-use Rattle.sgb_search.specs.declared.end.End.{End}
-use Rattle.sgb_search.specs.Split.{put_at}
-use Rattle.sgb_search.specs.Calls.{IsGroupAt, Groups, Place, place_after, between}
-use Rattle.sgb_search.specs.Linear.{IsSettled, LinearQuestions}
+use Rattle.sgb_split.specs.declared.judge.Judge.{Ghosts}
+use Rattle.sgb_split.specs.declared.end.End.{End}
+use Rattle.sgb_split.specs.Split.{put_at}
+use Rattle.sgb_split.specs.Calls.{IsGroupAt, Groups, Place, place_after, between}
+use Rattle.sgb_split.specs.Linear.{IsSettled, LinearQuestions}
 use Rattle.sgb_linear_str_group.specs.declared.text_groups.LinearStrGroups.{LinearStrGroups}
 
 -- the bytes that it has not handed out yet, and its judge

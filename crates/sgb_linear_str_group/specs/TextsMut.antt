@@ -3,10 +3,10 @@ use Rattle.std.specs.Prelude.{◌≡◌, ℕ, List, Option, MatchOption}
 use Rattle.std.specs.Option.{option_copied_mut}
 use Rattle.std.specs.Borrow.{MutBor}
 use Rattle.std.specs.Iterator.{Count}
-use Rattle.sgb_search.specs.declared.judge.Judge.{Ghosts}
+use Rattle.sgb_split.specs.declared.judge.Judge.{Ghosts}
 use Rattle.sgb_loans.specs.declared.loans.Loans.{Loans}
 use Rattle.sgb_loans.specs.Loans.{HandsOut}
-use Rattle.sgb_search.specs.declared.end.End.{End}
+use Rattle.sgb_split.specs.declared.end.End.{End}
 use Rattle.sgb_linear_str_group.specs.Texts.{TextGroups, text_groups_to_come, TextCallAt}
 
 -- the bytes that it has not handed out yet, its judge, and the parts of the input that are out

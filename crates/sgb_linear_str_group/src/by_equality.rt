@@ -1,16 +1,16 @@
 //! Linear groups of equal characters of a text: for reading and, as bytes, for writing.
 ghost use Rattle.std.specs.Prelude.{◌≡◌, nat_eq};
-ghost use Rattle.sgb_search.specs.Calls.{IsCallableBy, at_start};
-ghost use Rattle.sgb_search.specs.Split.{AreNeighbours};
+ghost use Rattle.sgb_split.specs.Calls.{IsCallableBy, at_start};
+ghost use Rattle.sgb_split.specs.Split.{AreNeighbours};
 ghost use Rattle.std.specs.Str.{IsUtf8};
-ghost use Rattle.sgb_search.specs.Judges.{by_equality};
+ghost use Rattle.sgb_split.specs.Judges.{by_equality};
 ghost use Rattle.sgb_linear_str_group.specs.Texts.{text_groups_of, text_place_of, IsSettledText, in_characters};
 ghost use Rattle.sgb_linear_str_group.specs.TextsMut.{text_groups_of_mut};
 ghost use Rattle.sgb_loans.specs.Loans.{NothingOut};
 
 use crate::text_groups::LinearStrGroups;
 use crate::text_groups_mut::LinearStrGroupsMut;
-use sgb_search::judge::EqualityJudge;
+use sgb_split::judge::EqualityJudge;
 
 /// An iterator over the groups of equal characters of a text, by `==` of neighbours. Those of ASCII are found by their bytes, up to
 /// sixteen at a time; each still counts as one question.

@@ -1,17 +1,17 @@
 //! Linear groups of a text by a key: for reading and, as bytes, for writing.
 ghost use Rattle.std.specs.Prelude.{◌≡◌, ℕ, ◌<◌, Some, length, slice_get};
 ghost use Rattle.std.specs.Fn.{Takes};
-ghost use Rattle.sgb_search.specs.Calls.{IsCallableBy, at_start};
-ghost use Rattle.sgb_search.specs.Split.{AreNeighbours};
+ghost use Rattle.sgb_split.specs.Calls.{IsCallableBy, at_start};
+ghost use Rattle.sgb_split.specs.Split.{AreNeighbours};
 ghost use Rattle.std.specs.Str.{IsUtf8, chars};
-ghost use Rattle.sgb_search.specs.Judges.{by_char_key, char_key_judge, CalledAtChar, ComputesCharKey};
+ghost use Rattle.sgb_split.specs.Judges.{by_char_key, char_key_judge, CalledAtChar, ComputesCharKey};
 ghost use Rattle.sgb_linear_str_group.specs.Texts.{text_groups_of, text_place_of, IsSettledText, in_characters};
 ghost use Rattle.sgb_linear_str_group.specs.TextsMut.{text_groups_of_mut};
 ghost use Rattle.sgb_loans.specs.Loans.{NothingOut};
 
 use crate::text_groups::LinearStrGroups;
 use crate::text_groups_mut::{LinearStrGroupsMut, text_of};
-use sgb_search::judge::CharKeyJudge;
+use sgb_split::judge::CharKeyJudge;
 
 /// An iterator over the groups of a text by a key: a question is a call of the key function on the left character, then one
 /// on the right, then `==` of the keys.

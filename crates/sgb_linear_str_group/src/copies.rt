@@ -5,14 +5,14 @@ ghost use Rattle.sgb_linear_str_group.specs.Copies.{IsCutAtCopies, outermost_byt
 use crate::scan::split_by_characters;
 use crate::text_judge::TextJudge;
 use sgb_numbers::scans::{first_like, last_like};
-use sgb_search::end::End;
-use sgb_search::judge::EqualityJudge;
+use sgb_split::end::End;
+use sgb_split::judge::EqualityJudge;
 
 /// Where the character at the end is one of ASCII, and so one byte, its neighbours are equal to it as long as their bytes are. Each
 /// such byte answers one question.
 impl TextJudge for EqualityJudge {
     #[inline(always)]
-    fn split_group<'a>(&mut self, end: &End, text: &'a str) -> Option<(&'a str, &'a str)> {
+    fn split_group<'a>(&mut self, end: End, text: &'a str) -> Option<(&'a str, &'a str)> {
         if !outermost(end, text.as_bytes())?.is_ascii() {
             return split_by_characters(end, text, self);
         }
@@ -29,8 +29,8 @@ impl TextJudge for EqualityJudge {
 
 /// The byte at the end, if there is one.
 #[inline(always)]
-fn outermost(end: &End, bytes: &[u8]) -> Option<u8>
-    ensures { MatchOption result (bytes.now ≡ []) (λ byte. (bytes.now ≢ []) × (byte ≡ outermost_byte end.now bytes.now)) }
+fn outermost(end: End, bytes: &[u8]) -> Option<u8>
+    ensures { MatchOption result (bytes.now ≡ []) (λ byte. (bytes.now ≢ []) × (byte ≡ outermost_byte end bytes.now)) }
 {
     match end {
         End::Front => bytes.first().copied(),
@@ -40,10 +40,10 @@ fn outermost(end: &End, bytes: &[u8]) -> Option<u8>
 
 /// The copies of a byte of ASCII at the end of a text, and the rest of the text.
 #[inline(always)]
-fn split_copies<'a>(end: &End, text: &'a str) -> (&'a str, &'a str)
+fn split_copies<'a>(end: End, text: &'a str) -> (&'a str, &'a str)
     requires nonempty { text.now ≢ [] }
-    requires ascii { outermost_byte end.now text.now < 128 }
-    ensures { IsCutAtCopies end.now text.now result.0.now result.1.now }
+    requires ascii { outermost_byte end text.now < 128 }
+    ensures { IsCutAtCopies end text.now result.0.now result.1.now }
 {
     let bytes = text.as_bytes();
     let len = bytes.len();

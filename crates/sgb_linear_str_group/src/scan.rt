@@ -1,26 +1,26 @@
 //! The scan that finds a group of characters, over any judge.
 ghost use Rattle.std.specs.Prelude.{◌≡◌, ◌<◌, [], ◌++◌, length, take, MatchOption};
-ghost use Rattle.sgb_search.specs.Calls.{IsCallableBy};
+ghost use Rattle.sgb_split.specs.Calls.{IsCallableBy};
 ghost use Rattle.std.specs.Str.{chars, IsUtf8, IsCharBoundary};
 ghost use Rattle.std.specs.Str.Iter.{chars_rest};
 ghost use Rattle.std.specs.Char.{encode_utf8, IsScalar};
-ghost use Rattle.sgb_search.specs.Split.{put_at, AreNeighbours};
+ghost use Rattle.sgb_split.specs.Split.{put_at, AreNeighbours};
 ghost use Rattle.sgb_linear_str_group.specs.Texts.{IsTextAt};
 
-use sgb_search::end::End;
-use sgb_search::judge::Judge;
+use sgb_split::end::End;
+use sgb_split::judge::Judge;
 use std::str::Chars;
 
 /// The group at the end of a text and the rest of the text, or `None` where the text is empty: one question after another.
 #[inline(always)]
 pub(crate) fn split_by_characters<'a, J: Judge<char>>(
-    end: &End,
+    end: End,
     text: &'a str,
     judge: &mut J,
 ) -> Option<(&'a str, &'a str)>
     requires { IsCallableBy AreNeighbours J.Judge (record { remainder = chars text.now; judge = judge.old }) }
     ensures { MatchOption result ((text.now ≡ []) × (judge.new ≡ judge.old))
-        (λ x. IsTextAt J.Judge end.now (record { text = text.now; judge = judge.old }) x.0.now
+        (λ x. IsTextAt J.Judge end (record { text = text.now; judge = judge.old }) x.0.now
         (record { text = x.1.now; judge = judge.new })) }
 {
     let mut characters = text.chars();
@@ -48,10 +48,10 @@ pub(crate) fn split_by_characters<'a, J: Judge<char>>(
 
 /// Takes off the next character at the end, or gives `None` where none is left.
 #[inline(always)]
-fn next_character(end: &End, characters: &mut Chars<'_>) -> Option<char>
+fn next_character(end: End, characters: &mut Chars<'_>) -> Option<char>
     requires { IsUtf8 (chars_rest characters.old) }
     ensures { MatchOption result (chars_rest characters.old ≡ [])
-        (λ c. (chars_rest characters.old ≡ put_at end.now (encode_utf8 c) (chars_rest characters.new))
+        (λ c. (chars_rest characters.old ≡ put_at end (encode_utf8 c) (chars_rest characters.new))
         × IsUtf8 (chars_rest characters.new)) }
 {
     match end {

@@ -1,16 +1,16 @@
 //! Linear groups of a text for reading, over any judge of characters.
 ghost use Rattle.std.specs.Prelude.{◌≡◌, ◌<◌, ◌+◌, ◌^◌, length, nat_eq, IfSome, IsTrue, ◌↔◌};
-ghost use Rattle.sgb_search.specs.Calls.{IsCallableBy, StandsAt, at_start};
-ghost use Rattle.sgb_search.specs.Split.{AreNeighbours};
+ghost use Rattle.sgb_split.specs.Calls.{IsCallableBy, StandsAt, at_start};
+ghost use Rattle.sgb_split.specs.Split.{AreNeighbours};
 ghost use Rattle.std.specs.Str.{IsCharBoundary};
 ghost use Rattle.std.specs.Iterator.{UpTo};
 ghost use Rattle.std.specs.Iterator.SizeHint.{IsWithinCount};
-ghost use Rattle.sgb_search.specs.declared.end.End.TheVariants.{Front, Back};
+ghost use Rattle.sgb_split.specs.declared.end.End.TheVariants.{Front, Back};
 ghost use Rattle.sgb_linear_str_group.specs.Texts.{in_characters, text_groups_of, text_groups_to_come};
 ghost use Rattle.sgb_linear_str_group.specs.Texts.{place_or_end, text_between, text_place_of};
 
 use crate::text_judge::TextJudge;
-use sgb_search::end::End;
+use sgb_split::end::End;
 use std::iter::FusedIterator;
 
 /// An iterator over the groups of a text, from both ends, that asks its judge about neighbouring characters.
@@ -34,7 +34,7 @@ pub struct LinearStrGroups<'a, J> {
 // The part of a text between two places, and the empty text where they do not lie between characters in order. The end says only
 // what is asked first.
 #[inline(always)]
-fn part<'a>(end: &End, string: &'a str, low: usize, high: usize) -> &'a str
+fn part<'a>(end: End, string: &'a str, low: usize, high: usize) -> &'a str
     ensures value { result.now ≡ text_between string.now low high }
     ensures fits { low + length result.now < 2 ^ 64 }
 {
@@ -50,7 +50,7 @@ fn part<'a>(end: &End, string: &'a str, low: usize, high: usize) -> &'a str
 // Whether the lower place lies between characters, as `is_char_boundary` says. A walk from the back leaves it at 0, where no byte
 // is looked at; from the front that would be one more test at each call.
 #[inline(always)]
-fn is_boundary(end: &End, text: &str, place: usize) -> bool
+fn is_boundary(end: End, text: &str, place: usize) -> bool
     ensures { IsTrue result ↔ IsCharBoundary text.now place }
 {
     match end {
@@ -92,7 +92,7 @@ impl<'a, J> LinearStrGroups<'a, J> {
     pub fn as_str(&self) -> &'a str
         ensures { result.now ≡ (text_groups_of self.now).text }
     {
-        part(&End::Front, self.string, self.low, self.high)
+        part(End::Front, self.string, self.low, self.high)
     }
 
     /// The byte at which the remainder begins in the text: how many bytes calls at the front have handed out. The next group at
@@ -145,7 +145,7 @@ impl<'a, J: TextJudge + Drop> Iterator for LinearStrGroups<'a, J> {
     /// g - 1 where nothing remains after it.
     #[inline(always)]
     fn next(&mut self) -> Option<&'a str> {
-        self.next_at(&End::Front)
+        self.next_at(End::Front)
     }
 
     /// `(0, None)`, as in the Rust crate: it says nothing about how many groups remain.
@@ -170,7 +170,7 @@ impl<'a, J: TextJudge + Drop> DoubleEndedIterator for LinearStrGroups<'a, J> {
     /// g - 1 where nothing remains before it.
     #[inline(always)]
     fn next_back(&mut self) -> Option<&'a str> {
-        self.next_at(&End::Back)
+        self.next_at(End::Back)
     }
 }
 
@@ -199,9 +199,9 @@ impl<'a, J: TextJudge> LinearStrGroups<'a, J> {
     /// from the back, by their questions.
     // Public for `GroupQueue`, which asks for no `Drop`. Each caller names its end, and gets a copy for that end alone.
     #[inline(always)]
-    pub fn next_at(&mut self, end: &End) -> Option<&'a str>
+    pub fn next_at(&mut self, end: End) -> Option<&'a str>
         requires { IsCallableBy AreNeighbours J.Judge (in_characters (text_groups_of self.old)) }
-        ensures gives { GivesText J.Judge end.now self.old result self.new }
+        ensures gives { GivesText J.Judge end self.old result self.new }
         ensures callable { IsCallableBy AreNeighbours J.Judge (in_characters (text_groups_of self.new)) }
     {
         let rest = part(end, self.string, self.low, self.high);

@@ -1,18 +1,18 @@
 //! Linear groups of a text's bytes for writing, over any judge of characters.
 ghost use Rattle.std.specs.Prelude.{◌≡◌, ◌<◌, [], ◌∷◌, ◌++◌, drop, length, nat_eq, IfSome};
-ghost use Rattle.sgb_search.specs.Calls.{IsCallableBy};
+ghost use Rattle.sgb_split.specs.Calls.{IsCallableBy};
 ghost use Rattle.std.specs.Iterator.{UpTo};
 ghost use Rattle.std.specs.Iterator.SizeHint.{IsWithinCount};
 ghost use Rattle.std.specs.Str.{IsUtf8};
-ghost use Rattle.sgb_search.specs.declared.end.End.TheVariants.{Front, Back};
-ghost use Rattle.sgb_search.specs.Split.{AreNeighbours};
+ghost use Rattle.sgb_split.specs.declared.end.End.TheVariants.{Front, Back};
+ghost use Rattle.sgb_split.specs.Split.{AreNeighbours};
 ghost use Rattle.sgb_loans.specs.Loans.{NothingOut};
 ghost use Rattle.sgb_linear_str_group.specs.Texts.{in_characters};
 ghost use Rattle.sgb_linear_str_group.specs.TextsMut.{TextGroupsMut, text_groups_mut_to_come};
 
 use crate::text_judge::TextJudge;
 use sgb_loans::loans::{Ended, Last, Loans};
-use sgb_search::end::End;
+use sgb_split::end::End;
 use std::iter::FusedIterator;
 use std::marker::Model;
 use std::mem;
@@ -154,7 +154,7 @@ impl<'a, J: TextJudge + Drop> Iterator for LinearStrGroupsMut<'a, J> {
     /// questions, or g - 1 where nothing remains after it.
     #[inline]
     fn next(&mut self) -> Option<&'a mut [u8]> {
-        self.next_at(&End::Front)
+        self.next_at(End::Front)
     }
 
     /// `(0, None)`, as in the Rust crate: it says nothing about how many groups remain.
@@ -179,7 +179,7 @@ impl<'a, J: TextJudge + Drop> DoubleEndedIterator for LinearStrGroupsMut<'a, J> 
     /// questions, or g - 1 where nothing remains before it.
     #[inline]
     fn next_back(&mut self) -> Option<&'a mut [u8]> {
-        self.next_at(&End::Back)
+        self.next_at(End::Back)
     }
 }
 
@@ -228,9 +228,9 @@ impl<'a, J: TextJudge> LinearStrGroupsMut<'a, J> {
     /// from the back, by their questions.
     // Public for `GroupQueue`, which asks for no `Drop`. Each caller names its end, and gets a copy for that end alone.
     #[inline(always)]
-    pub fn next_at(&mut self, end: &End) -> Option<&'a mut [u8]>
+    pub fn next_at(&mut self, end: End) -> Option<&'a mut [u8]>
         requires { IsCallableBy AreNeighbours J.Judge (in_characters (text_groups_of_mut self.old)) }
-        ensures gives { GivesTextMut J.Judge end.now self.old result self.new }
+        ensures gives { GivesTextMut J.Judge end self.old result self.new }
         ensures callable { IsCallableBy AreNeighbours J.Judge (in_characters (text_groups_of_mut self.new)) }
     {
         if self.bytes.len() == 0 {
@@ -239,7 +239,7 @@ impl<'a, J: TextJudge> LinearStrGroupsMut<'a, J> {
         let all = mem::take(&mut self.bytes);
         let (group, _) = self.judge.split_group(end, text_of(all)).unwrap();
         let len = group.len();
-        let (group, rest) = self.loans.cut(end, all, len);
+        let (group, rest) = self.loans.cut(&end, all, len);
         self.bytes = rest;
         Some(group)
     }

@@ -1,13 +1,13 @@
 //! How a judge of characters finds a group of a text.
 ghost use Rattle.std.specs.Prelude.{◌≡◌, [], MatchOption};
 ghost use Rattle.std.specs.Str.{chars};
-ghost use Rattle.sgb_search.specs.Calls.{IsCallableBy};
-ghost use Rattle.sgb_search.specs.Split.{AreNeighbours};
+ghost use Rattle.sgb_split.specs.Calls.{IsCallableBy};
+ghost use Rattle.sgb_split.specs.Split.{AreNeighbours};
 ghost use Rattle.sgb_linear_str_group.specs.Texts.{IsTextAt};
 
 use crate::scan::split_by_characters;
-use sgb_search::end::End;
-use sgb_search::judge::{CharKeyJudge, CharPredicateJudge, Judge};
+use sgb_split::end::End;
+use sgb_split::judge::{CharKeyJudge, CharPredicateJudge, Judge};
 
 /// A judge of characters that finds groups of a text.
 ///
@@ -17,10 +17,10 @@ pub trait TextJudge: Judge<char> {
     /// The group at the end of a text and the rest of the text, or `None` if the text is empty. It asks about neighbouring
     /// characters from that end on, up to the first pair that is refused. The left character comes first, from both ends.
     #[inline(always)]
-    fn split_group<'a>(&mut self, end: &End, text: &'a str) -> Option<(&'a str, &'a str)>
+    fn split_group<'a>(&mut self, end: End, text: &'a str) -> Option<(&'a str, &'a str)>
         requires { IsCallableBy AreNeighbours Self.Judge (record { remainder = chars text.now; judge = self.old }) }
         ensures { MatchOption result ((text.now ≡ []) × (self.new ≡ self.old))
-            (λ x. IsTextAt Self.Judge end.now (record { text = text.now; judge = self.old }) x.0.now
+            (λ x. IsTextAt Self.Judge end (record { text = text.now; judge = self.old }) x.0.now
             (record { text = x.1.now; judge = self.new })) }
     {
         split_by_characters(end, text, self)

@@ -1,6 +1,6 @@
 -- The machine value of the tokens, and what giving up a slice reference leaves. Assumes `Logic`.
-use Rattle.sgb_search.specs.declared.end.End.{End}
-use Rattle.sgb_search.specs.declared.end.End.TheVariants.{Front, Back}
+use Rattle.sgb_split.specs.declared.end.End.{End}
+use Rattle.sgb_split.specs.declared.end.End.TheVariants.{Front, Back}
 use Rattle.std.proofs.Common.{◌≡◌, List, [], ◌∷◌, ◌++◌, refl}
 use seplogic.Ra.Ura.{Ura}
 use mir.Syntax.{Lifetime}
@@ -24,7 +24,7 @@ use base.Fml.{GName, fall, fwand}
 use types.Kit.{◌⊛◌, raw, move, split, join, use1, use2, assume, each}
 use denote.Array.{Array}
 use denote.Follow.{follows_both, both_by}
-use Rattle.sgb_search.specs.Split.{put_at}
+use Rattle.sgb_split.specs.Split.{put_at}
 use Rattle.sgb_loans.specs.Loans.{ended_as, before_with, after_with, cut_link, loan_owns, part_at, rest_at}
 use Rattle.sgb_loans.specs.Loans.{LastPart, IsLastOf, input_ends, rest_ends, input_ends_after}
 use Rattle.sgb_loans.specs.declared.loans.Loans.{Loans}

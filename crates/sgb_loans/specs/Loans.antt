@@ -2,9 +2,9 @@
 use Rattle.std.specs.Prelude.{◌≡◌, List, [], ◌∷◌, ◌++◌, ◌-◌, length, take, drop, Option, None, Some}
 use Rattle.std.specs.Borrow.{MutBor, GName, Fml, RattleType, Array, follows_both}
 use Rattle.std.specs.Iterator.{Count, at_most}
-use Rattle.sgb_search.specs.declared.end.End.{End}
-use Rattle.sgb_search.specs.declared.end.End.TheVariants.{Front, Back}
-use Rattle.sgb_search.specs.Split.{put_at}
+use Rattle.sgb_split.specs.declared.end.End.{End}
+use Rattle.sgb_split.specs.declared.end.End.TheVariants.{Front, Back}
+use Rattle.sgb_split.specs.Split.{put_at}
 use Rattle.sgb_loans.specs.declared.loans.Loans.{Loans}
 use base.Fml.{fres, fall, fwand}
 

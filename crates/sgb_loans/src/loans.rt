@@ -2,10 +2,10 @@
 ghost use Rattle.std.specs.Prelude.{◌≡◌, ℕ, List, ◌++◌, ◌≤◌, [], ◌∷◌, length, drop};
 ghost use Rattle.std.specs.Coded.{coded_list};
 ghost use Rattle.std.specs.Borrow.{sem, LendsBoth, Array};
-ghost use Rattle.sgb_search.specs.declared.end.End.{End};
-ghost use Rattle.sgb_search.specs.Split.{put_at};
+ghost use Rattle.sgb_split.specs.declared.end.End.{End};
+ghost use Rattle.sgb_split.specs.Split.{put_at};
 
-use sgb_search::end::End;
+use sgb_split::end::End;
 use std::marker::{Model, PhantomData};
 
 /// A slice that was given up for good, and what it was then: the slice named `name` ended as `value`.

@@ -9,7 +9,7 @@ use Rattle.std.proofs.lemmas.List.Sums.{sum_by-cons}
 use Rattle.std.proofs.lemmas.Nat.{and_block, and_le_l, and_le_r}
 use Rattle.std.proofs.lemmas.Simd.{ones-mask_l_cons}
 use Rattle.std.proofs.Math.Seq.{take-add, take-length}
-use Rattle.sgb_search.specs.Split.{split, put_before}
+use Rattle.sgb_split.specs.Split.{split, put_before}
 use Rattle.sgb_masks.specs.AsciiBytes.{ascii_class, is_class}
 use Rattle.sgb_numbers.specs.Neighbours.{boundaries}
 use Rattle.sgb_masks.specs.declared.ascii_classes.AsciiClass.{AsciiClass}

@@ -2,10 +2,10 @@
 use Rattle.std.proofs.Common.{List, Option, None, Some, ap}
 use Rattle.std.specs.Prelude.{option_copied}
 use Rattle.std.specs.Borrow.{Bor}
-use Rattle.sgb_search.specs.declared.end.End.{End}
-use Rattle.sgb_search.specs.declared.judge.Judge.{Ghosts}
-use Rattle.sgb_search.specs.Calls.{CallAt}
-use Rattle.sgb_search.specs.Linear.{LinearQuestions}
+use Rattle.sgb_split.specs.declared.end.End.{End}
+use Rattle.sgb_split.specs.declared.judge.Judge.{Ghosts}
+use Rattle.sgb_split.specs.Calls.{CallAt}
+use Rattle.sgb_split.specs.Linear.{LinearQuestions}
 use Rattle.sgb_numbers.specs.declared.masks.Masks as masks
 use Rattle.sgb_masks.specs.declared.mask_groups.MaskGroups.{MaskGroups}
 use Rattle.sgb_masks.specs.Gives.{groups_of, Gives}

@@ -3,12 +3,12 @@ use Rattle.std.proofs.Common.{◌≡◌, ℕ, ◌+◌, ◌-◌, ◌≤◌, Bool,
 use Rattle.std.specs.Prelude.{slice_range}
 use Rattle.std.proofs.lemmas.List.{drop-drop}
 use Rattle.std.proofs.Math.Seq.{take-add}
-use Rattle.sgb_search.specs.declared.end.End.TheVariants.{Front, Back}
-use Rattle.sgb_search.specs.declared.judge.Judge.{Ghosts}
-use Rattle.sgb_search.specs.Calls.{IsGroupAt, Place, place_after}
-use Rattle.sgb_search.specs.Linear.{LinearQuestions}
-use Rattle.sgb_search.specs.Questions.{IsRun, questions}
-use Rattle.sgb_search.proofs.Lists.Ranges.{length-range}
+use Rattle.sgb_split.specs.declared.end.End.TheVariants.{Front, Back}
+use Rattle.sgb_split.specs.declared.judge.Judge.{Ghosts}
+use Rattle.sgb_split.specs.Calls.{IsGroupAt, Place, place_after}
+use Rattle.sgb_split.specs.Linear.{LinearQuestions}
+use Rattle.sgb_split.specs.Questions.{IsRun, questions}
+use Rattle.sgb_split.proofs.Lists.Ranges.{length-range}
 use Rattle.sgb_numbers.specs.Neighbours.{IsFirstEnd, IsLastStart}
 use Rattle.sgb_numbers.proofs.Asked.{asked_front, asked_back}
 

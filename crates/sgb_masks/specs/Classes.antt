@@ -1,7 +1,7 @@
 -- What the judge of bytes of one class answers.
 use Rattle.std.specs.Prelude.{◌≡◌, ℕ, Bool}
 use Rattle.std.specs.Ordering.{on}
-use Rattle.sgb_search.specs.declared.judge.Judge.{Ghosts}
+use Rattle.sgb_split.specs.declared.judge.Judge.{Ghosts}
 use Rattle.sgb_masks.specs.declared.byte_classes.ClassJudge.{ClassJudge}
 
 -- by class: the answer is what eq says of the classes of two bytes

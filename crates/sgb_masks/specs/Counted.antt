@@ -1,7 +1,7 @@
 -- How many groups of each class some bytes have.
 use Rattle.std.specs.Prelude.{ℕ, Bool, List, [], ◌∷◌, cond, count_by, Option, None, Some}
 use Rattle.std.specs.Ordering.{on}
-use Rattle.sgb_search.specs.Split.{split}
+use Rattle.sgb_split.specs.Split.{split}
 use Rattle.sgb_masks.specs.AsciiBytes.{ascii_class, is_class}
 use Rattle.sgb_masks.specs.declared.ascii_classes.AsciiClass.{AsciiClass}
 use Rattle.sgb_masks.specs.declared.ascii_classes.AsciiClass.TheVariants.{Letter, Digit, Space, Other}

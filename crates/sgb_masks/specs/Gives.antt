@@ -1,10 +1,10 @@
 -- What the calls of an iterator over groups by masks give.
 use Rattle.std.specs.Prelude.{◌≡◌, List, [], length, Option, MatchOption, slice_range}
 use Rattle.std.specs.Borrow.{Bor}
-use Rattle.sgb_search.specs.Calls.{Groups, Place, place_after, IsGroupAt}
-use Rattle.sgb_search.specs.Linear.{LinearQuestions}
-use Rattle.sgb_search.specs.declared.end.End.{End}
-use Rattle.sgb_search.specs.declared.judge.Judge.{Ghosts}
+use Rattle.sgb_split.specs.Calls.{Groups, Place, place_after, IsGroupAt}
+use Rattle.sgb_split.specs.Linear.{LinearQuestions}
+use Rattle.sgb_split.specs.declared.end.End.{End}
+use Rattle.sgb_split.specs.declared.judge.Judge.{Ghosts}
 use Rattle.sgb_numbers.specs.declared.masks.Masks as masks
 use Rattle.sgb_masks.specs.declared.mask_groups.MaskGroups.{MaskGroups}
 

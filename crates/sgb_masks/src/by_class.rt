@@ -2,9 +2,9 @@
 ghost use Rattle.std.specs.Prelude.{◌≡◌};
 ghost use Rattle.std.specs.Ordering.{on};
 ghost use Rattle.sgb_masks.specs.Classes.{by_class};
-ghost use Rattle.sgb_search.specs.Calls.{IsCallableBy, at_start};
-ghost use Rattle.sgb_search.specs.Linear.{IsSettled};
-ghost use Rattle.sgb_search.specs.Split.{AreNeighbours};
+ghost use Rattle.sgb_split.specs.Calls.{IsCallableBy, at_start};
+ghost use Rattle.sgb_split.specs.Linear.{IsSettled};
+ghost use Rattle.sgb_split.specs.Split.{AreNeighbours};
 
 use crate::byte_classes::{ByteClasses, ClassJudge};
 use crate::mask_groups::MaskGroups;

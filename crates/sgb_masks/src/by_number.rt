@@ -1,9 +1,9 @@
 //! The groups of equal numbers.
 ghost use Rattle.std.specs.Prelude.{◌≡◌};
 ghost use Rattle.sgb_numbers.specs.Numbers.{by_number};
-ghost use Rattle.sgb_search.specs.Calls.{IsCallableBy, at_start};
-ghost use Rattle.sgb_search.specs.Linear.{IsSettled};
-ghost use Rattle.sgb_search.specs.Split.{AreNeighbours};
+ghost use Rattle.sgb_split.specs.Calls.{IsCallableBy, at_start};
+ghost use Rattle.sgb_split.specs.Linear.{IsSettled};
+ghost use Rattle.sgb_split.specs.Split.{AreNeighbours};
 
 use crate::mask_groups::MaskGroups;
 use sgb_numbers::lanes::Lanes;

@@ -6,7 +6,7 @@ ghost use Rattle.sgb_numbers.specs.Neighbours.{boundaries};
 ghost use Rattle.sgb_masks.specs.Classes.{by_class};
 
 use sgb_numbers::masks::{MaskJudge, Masks};
-use sgb_search::judge::Judge;
+use sgb_split::judge::Judge;
 use std::marker::PhantomData;
 
 /// Classes of bytes, for `LinearClassGroup`. Implement `class`, and say in `class_of` what it answers. The other methods

@@ -2,8 +2,8 @@
 ghost use Rattle.std.specs.Prelude.{◌≡◌, ◌<◌, ◌≤◌, ◌+◌, ◌^◌, length, nat_eq, IfSome, if◌then◌else◌};
 ghost use Rattle.std.specs.Iterator.{UpTo};
 ghost use Rattle.std.specs.Iterator.SizeHint.{IsWithinCount};
-ghost use Rattle.sgb_search.specs.declared.end.End.TheVariants.{Front, Back};
-ghost use Rattle.sgb_search.specs.Calls.{groups_to_come};
+ghost use Rattle.sgb_split.specs.declared.end.End.TheVariants.{Front, Back};
+ghost use Rattle.sgb_split.specs.Calls.{groups_to_come};
 ghost use Rattle.sgb_masks.specs.Masks.{FrontMask, BackMask};
 
 use crate::fills::{far_back, far_front, first_end, last_start};
@@ -38,9 +38,9 @@ pub struct MaskGroups<'a, T, J: Masks<T>> {
 }
 
 impl<'a, T, J: MaskJudge<T> + Drop> MaskGroups<'a, T, J> {
-    ghost use Rattle.sgb_search.specs.Calls.{IsCallableBy, StandsAt, at_start};
-    ghost use Rattle.sgb_search.specs.Linear.{IsSettled};
-    ghost use Rattle.sgb_search.specs.Split.{AreNeighbours};
+    ghost use Rattle.sgb_split.specs.Calls.{IsCallableBy, StandsAt, at_start};
+    ghost use Rattle.sgb_split.specs.Linear.{IsSettled};
+    ghost use Rattle.sgb_split.specs.Split.{AreNeighbours};
     ghost use Rattle.sgb_masks.specs.Gives.{groups_of, place_of};
 
     // All groups of the slice are still to come.

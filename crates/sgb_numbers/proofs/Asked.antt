@@ -4,12 +4,12 @@ use Rattle.std.proofs.Common.{map, take, drop, get_or, refl, sym, ap, ◌∙◌,
 use Rattle.std.specs.Prelude.{reverse, slice_range}
 use Rattle.std.proofs.lemmas.Bool.{not-true, not-false}
 use Rattle.std.proofs.lemmas.List.{length-map, length-reverse, reverse-append, map-append, get_or-reverse, get_or-take, get_or-drop}
-use Rattle.sgb_search.specs.declared.end.End.TheVariants.{Front, Back}
-use Rattle.sgb_search.specs.declared.judge.Judge.{Ghosts}
-use Rattle.sgb_search.specs.Split.{neighbours, on_pairs}
-use Rattle.sgb_search.specs.Questions.{IsRun, all_answered, questions}
-use Rattle.sgb_search.proofs.Lists.Ranges.{length-range}
-use Rattle.sgb_search.proofs.Lists.Pairs.{length-neighbours}
+use Rattle.sgb_split.specs.declared.end.End.TheVariants.{Front, Back}
+use Rattle.sgb_split.specs.declared.judge.Judge.{Ghosts}
+use Rattle.sgb_split.specs.Split.{neighbours, on_pairs}
+use Rattle.sgb_split.specs.Questions.{IsRun, all_answered, questions}
+use Rattle.sgb_split.proofs.Lists.Ranges.{length-range}
+use Rattle.sgb_split.proofs.Lists.Pairs.{length-neighbours}
 use Rattle.sgb_numbers.specs.Neighbours.{boundaries, differs, IsFirstEnd, IsLastStart}
 
 module _ {T : Type 0} (eq : T → T → Bool) where

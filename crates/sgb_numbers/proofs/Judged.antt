@@ -1,8 +1,8 @@
 -- The judge of equal numbers may always be asked, and answers what equality says.
 use Rattle.std.specs.Prelude.{Bool, ⊤}
-use Rattle.sgb_search.specs.Questions.{Computes}
-use Rattle.sgb_search.specs.Split.{on_pairs}
-use Rattle.sgb_search.proofs.Questions.Runs.{answers_by}
+use Rattle.sgb_split.specs.Questions.{Computes}
+use Rattle.sgb_split.specs.Split.{on_pairs}
+use Rattle.sgb_split.proofs.Questions.Runs.{answers_by}
 use Rattle.sgb_numbers.specs.Numbers.{by_number}
 use Rattle.sgb_numbers.specs.declared.number_judge.NumberJudge.{NumberJudge}
 

@@ -1,8 +1,8 @@
 -- Whether two neighbours differ, by their elements.
 use Rattle.std.proofs.Common.{◌≡◌, ℕ, suc, ◌+◌, ◌-◌, ◌<◌, not, Bool, false, List, length, get_or, ap, ◌∙◌, arith}
 use Rattle.std.proofs.lemmas.List.{length-map, get_or-map, get_or_default}
-use Rattle.sgb_search.specs.Split.{neighbours, on_pairs}
-use Rattle.sgb_search.proofs.Lists.Pairs.{neighbours_at, length-neighbours}
+use Rattle.sgb_split.specs.Split.{neighbours, on_pairs}
+use Rattle.sgb_split.proofs.Lists.Pairs.{neighbours_at, length-neighbours}
 use Rattle.sgb_numbers.specs.Neighbours.{boundaries, differs}
 
 module _ {T : Type 0} (eq : T → T → Bool) (xs : List T) where

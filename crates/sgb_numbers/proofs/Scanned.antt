@@ -5,9 +5,9 @@ use Rattle.std.proofs.lemmas.Bool.{cases_lt, false_from_ne_true, false≢true}
 use Rattle.std.proofs.lemmas.List.{get_or_default, length-reverse}
 use Rattle.std.specs.Cmp.{IsPartialEquivalence}
 use Rattle.std.specs.Prelude.{reverse, slice_range}
-use Rattle.sgb_search.specs.declared.end.End.TheVariants.{Front, Back}
-use Rattle.sgb_search.specs.declared.judge.Judge.{Ghosts}
-use Rattle.sgb_search.specs.Questions.{IsRun, questions}
+use Rattle.sgb_split.specs.declared.end.End.TheVariants.{Front, Back}
+use Rattle.sgb_split.specs.declared.judge.Judge.{Ghosts}
+use Rattle.sgb_split.specs.Questions.{IsRun, questions}
 use Rattle.sgb_numbers.specs.Alike.{AreLike, IsFirstLen, IsLastLen}
 use Rattle.sgb_numbers.specs.Neighbours.{differs, AreSame, IsFirstEnd, IsLastStart}
 use Rattle.sgb_numbers.proofs.Pairs.{differs_or}

@@ -1,6 +1,6 @@
 -- Where neighbouring elements of a list differ.
 use Rattle.std.specs.Prelude.{◌≡◌, ℕ, ◌-◌, ◌<◌, ◌≤◌, Bool, true, false, not, List, map, slice_index_or}
-use Rattle.sgb_search.specs.Split.{neighbours, on_pairs}
+use Rattle.sgb_split.specs.Split.{neighbours, on_pairs}
 
 module _ {T : Type 0} (eq : T → T → Bool) where
   -- of each neighbouring pair, in order, whether its elements differ

@@ -1,6 +1,6 @@
 -- What the judge of equal numbers answers.
 use Rattle.std.specs.Prelude.{◌≡◌, Bool}
-use Rattle.sgb_search.specs.declared.judge.Judge.{Ghosts}
+use Rattle.sgb_split.specs.declared.judge.Judge.{Ghosts}
 use Rattle.sgb_numbers.specs.declared.number_judge.NumberJudge.{NumberJudge}
 
 -- by number: the answer is what eq says

@@ -4,7 +4,7 @@ ghost use Rattle.std.specs.Cmp.{IsPartialEquivalence};
 ghost use Rattle.std.specs.Simd.Lanes.{mask_l, chunk};
 ghost use Rattle.sgb_numbers.specs.Neighbours.{boundaries};
 
-use sgb_search::judge::Judge;
+use sgb_split::judge::Judge;
 
 /// Tells which elements of a slice are the same: of two, or of sixteen at a time, as a mask.
 pub trait Masks<T> {

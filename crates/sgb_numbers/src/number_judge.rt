@@ -4,7 +4,7 @@ ghost use Rattle.std.specs.Prelude.{refl};
 use crate::lanes::Lanes;
 use crate::masks::{MaskJudge, Masks};
 use crate::scans::{first_like, last_like};
-use sgb_search::judge::Judge;
+use sgb_split::judge::Judge;
 
 /// Asks `==` of numbers, and answers for many neighbouring pairs at once. It may always be asked.
 ///

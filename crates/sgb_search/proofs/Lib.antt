@@ -1,5 +1,1 @@
-pub mod Lists
-pub mod Splits
-pub mod Questions
-pub mod Linear
 pub mod Searches

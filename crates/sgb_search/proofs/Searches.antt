@@ -1,5 +1,7 @@
 -- Searches among places, and binary and exponential calls.
 pub mod Digits
+pub mod Outward
+pub mod AtPlaces
 pub mod Boundaries
 pub mod Halving
 pub mod Galloping
@@ -9,3 +11,4 @@ pub mod RangePlaces
 pub mod SearchQueue
 pub mod PartitionPoint
 pub mod Ascending
+pub mod AscendingGroups

@@ -3,7 +3,7 @@
 --     FindsIn ord xs r           on a list whose answers are Less, then Equal, then Greater
 --     IsSearch g xs reads f r t  the questions, whatever is answered
 use Rattle.std.specs.Prelude.{◌≡◌, ℕ, List, length, cond, ◌≢◌, Result, Ok, Err, Some, count_by}
-use Rattle.std.specs.List.{AllByRecursion, Contains, slice_get}
+use Rattle.std.specs.List.{AllByRecursion, slice_get}
 use Rattle.std.specs.List.Sorted.{IsNonDecreasingBy, IsPartitionPoint}
 use Rattle.std.specs.Fn.{Mut, TakesAt, CalledAt}
 use Rattle.std.specs.Borrow.{Bor}
@@ -11,8 +11,7 @@ use Rattle.std.specs.Ordering.{ordering_index, is_lt, is_gt}
 use Rattle.std.specs.declared.cmp.Ordering.{Ordering}
 use Rattle.std.specs.declared.cmp.Ordering.TheVariants.{Less, Equal, Greater}
 use Rattle.sgb_search.specs.Searching.{exponential, IsLowEnd, IsHighEnd, Searches}
-use Rattle.sgb_search.specs.Split.{neighbours}
-use Rattle.sgb_search.specs.Judges.{IsCallable, Computes}
+use Rattle.sgb_split.specs.Split.{neighbours}
 
 module _ {T : Type 0} (ord : T → Ordering) (xs : List T) where
   -- the element at place i is answered o
@@ -51,16 +50,6 @@ NeverDescends cmp xs = AllByRecursion (λ q. cmp q.0 q.1 ≢ Greater) (neighbour
 abbrev pub between : {K : Type 0} → (K → K → Ordering) → K → K → K → Ordering
 between cmp low high k = cond (is_lt (cmp k low)) Less (cond (is_gt (cmp k high)) Greater Equal)
 
--- a function of elements: a comparator, or a key function
-module _ {F T K : Type 0} (g : Mut F (Bor T × Unit {0}) K) (xs : List T) where
-  -- in every state that its answers can lead to, f may be called on each element
-  abbrev pub IsCallableOn : F → Type 0
-  IsCallableOn f = IsCallable (TakesAt g) (CalledAt g) (Contains xs) f
-
-  -- and there it answers what h gives
-  abbrev pub ComputesOn : (T → K) → F → Type 0
-  ComputesOn h f = Computes (TakesAt g) (CalledAt g) (Contains xs) h f
-
-  -- a search by its answers, read as orderings, that leads from the state f to t and gives r
-  abbrev pub IsSearch : (K → Ordering) → F → Result ℕ ℕ → F → Type 0
-  IsSearch reads f r t = Searches (TakesAt g) (CalledAt g) xs reads exponential 0 f r t
+-- a search of the elements by a comparator or a key function, by its answers read as orderings: it leads from the state f to t and gives r
+abbrev pub IsSearch : {F T K : Type 0} → Mut F (Bor T × Unit {0}) K → List T → (K → Ordering) → F → Result ℕ ℕ → F → Type 0
+IsSearch g xs reads f r t = Searches (TakesAt g) (CalledAt g) xs reads exponential 0 f r t

@@ -5,11 +5,11 @@ use Rattle.std.proofs.Common.{zero, suc}
 use Rattle.std.specs.List.{AllByRecursion, Contains}
 use Rattle.std.specs.declared.cmp.Ordering.{Ordering}
 use Rattle.std.specs.declared.cmp.Ordering.TheVariants.{Less, Equal, Greater}
-use Rattle.sgb_search.specs.declared.end.End.{End}
-use Rattle.sgb_search.specs.declared.judge.Judge.{Ghosts}
-use Rattle.sgb_search.specs.Judges.{IsRun}
-use Rattle.sgb_search.specs.Split.{from, AreApart, IsGrouped}
-use Rattle.sgb_search.specs.Calls.{Groups, ComputesBy}
+use Rattle.sgb_split.specs.declared.end.End.{End}
+use Rattle.sgb_split.specs.declared.judge.Judge.{Ghosts}
+use Rattle.sgb_split.specs.Judges.{IsRun}
+use Rattle.sgb_split.specs.Split.{from, AreApart, IsGrouped}
+use Rattle.sgb_split.specs.Calls.{Groups, ComputesBy}
 
 -- the number of binary digits of an m that has at most `most` of them: none for 0, and else one more than those of m / 2
 abbrev pub digits_within : ℕ → ℕ → ℕ

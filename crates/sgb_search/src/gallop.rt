@@ -1,6 +1,6 @@
 //! Halving and galloping over places, in either direction.
 ghost use Rattle.std.specs.Prelude.{◌≡◌, ℕ, ◌≤◌};
-ghost use Rattle.sgb_search.specs.Judges.{IsCallable};
+ghost use Rattle.sgb_split.specs.Judges.{IsCallable};
 ghost use Rattle.std.specs.declared.cmp.Ordering.{Ordering};
 ghost use Rattle.sgb_search.specs.Searching.{as_ordering, binary, exponential, answer_place, IsPlaceSearch, IsBracket, IsBetween};
 

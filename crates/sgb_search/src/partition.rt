@@ -5,7 +5,8 @@ ghost use Rattle.std.specs.List.Sorted.{IsPartitionedBy, IsPartitionPoint};
 ghost use Rattle.std.specs.Ordering.{is_lt, is_eq};
 ghost use Rattle.std.specs.Fn.{TakesAt, CalledAt};
 ghost use Rattle.sgb_search.specs.Searching.{as_ordering, MayAskAt, AnsweredAt};
-ghost use Rattle.sgb_search.specs.Search.{IsCallableOn, ComputesOn, IsLocalBoundary};
+ghost use Rattle.sgb_search.specs.Search.{IsLocalBoundary};
+ghost use Rattle.sgb_split.specs.Judges.{IsCallableOn, ComputesOn};
 ghost use Rattle.sgb_search.specs.Ranges.{AsksPartition};
 
 use crate::gallop::{Places, answer_place, before_end, gallop};

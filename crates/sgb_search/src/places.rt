@@ -1,9 +1,9 @@
 //! The places between which the elements stand that are equal to what is sought, found by galloping from the first element.
-ghost use Rattle.std.specs.Prelude.{◌≡◌, ◌≤◌, length, slice_range, map};
-ghost use Rattle.std.specs.List.{filter, count_by};
+ghost use Rattle.std.specs.Prelude.{◌≤◌, length, map};
 ghost use Rattle.std.specs.Ordering.{is_lt, is_eq};
 ghost use Rattle.std.specs.declared.cmp.Ordering.{Ordering};
-ghost use Rattle.sgb_search.specs.Search.{IsCallableOn, ComputesOn, IsLessEqualGreater, NeverDescends};
+ghost use Rattle.sgb_search.specs.Search.{IsLessEqualGreater, NeverDescends};
+ghost use Rattle.sgb_split.specs.Judges.{IsCallableOn, ComputesOn};
 ghost use Rattle.sgb_search.specs.Ranges.{IsRangeAt, IsLocalRangeAt, AsksRangeAt};
 
 use crate::partition::{Equal, EqualKey, Less, LessKey, Test, count_before};
@@ -66,10 +66,6 @@ where
         → IsLocalRangeAt slice.now result.start result.end (λ x. is_lt (ord x)) (λ x. is_eq (ord x)) }
     ensures range { (ord : T → Ordering) → ComputesOn F.FnMut slice.now ord f → IsLessEqualGreater ord slice.now
         → IsRangeAt slice.now result.start result.end ord }
-    ensures start { (ord : T → Ordering) → ComputesOn F.FnMut slice.now ord f → IsLessEqualGreater ord slice.now
-        → result.start ≡ count_by (λ x. is_lt (ord x)) slice.now }
-    ensures filter { (ord : T → Ordering) → ComputesOn F.FnMut slice.now ord f → IsLessEqualGreater ord slice.now
-        → slice_range slice.now result.start result.end ≡ filter (λ x. is_eq (ord x)) slice.now }
 {
     exponential_equal_places_by_ref(slice, &mut f)
 }
@@ -96,10 +92,6 @@ where
         → IsLocalRangeAt slice.now result.start result.end (λ x. is_lt (ord x)) (λ x. is_eq (ord x)) }
     ensures range { (ord : T → Ordering) → ComputesOn F.FnMut slice.now ord f.old → IsLessEqualGreater ord slice.now
         → IsRangeAt slice.now result.start result.end ord }
-    ensures start { (ord : T → Ordering) → ComputesOn F.FnMut slice.now ord f.old → IsLessEqualGreater ord slice.now
-        → result.start ≡ count_by (λ x. is_lt (ord x)) slice.now }
-    ensures filter { (ord : T → Ordering) → ComputesOn F.FnMut slice.now ord f.old → IsLessEqualGreater ord slice.now
-        → slice_range slice.now result.start result.end ≡ filter (λ x. is_eq (ord x)) slice.now }
     ensures callable { IsCallableOn F.FnMut slice.now f.new }
     ensures computes { (ord : T → Ordering) → ComputesOn F.FnMut slice.now ord f.old → ComputesOn F.FnMut slice.now ord f.new }
 {
@@ -124,9 +116,6 @@ pub fn exponential_equal_places<T: Ord>(slice: &[T], elem: &T) -> Range<usize>
     ensures range { IsLessEqualGreater (λ x. T.cmp x elem.now) slice.now
         → IsRangeAt slice.now result.start result.end (λ x. T.cmp x elem.now) }
     ensures sorted { NeverDescends T.cmp slice.now → IsRangeAt slice.now result.start result.end (λ x. T.cmp x elem.now) }
-    ensures start { NeverDescends T.cmp slice.now → result.start ≡ count_by (λ x. is_lt (T.cmp x elem.now)) slice.now }
-    ensures filter { NeverDescends T.cmp slice.now
-        → slice_range slice.now result.start result.end ≡ filter (λ x. is_eq (T.cmp x elem.now)) slice.now }
 {
     exponential_equal_places_by(slice, |x| x.cmp(elem))
 }
@@ -157,10 +146,6 @@ where
         → IsRangeAt slice.now result.start result.end (λ x. B.cmp (key x) b.now) }
     ensures sorted { (key : T → B) → ComputesOn F.FnMut slice.now key f → NeverDescends B.cmp (map key slice.now)
         → IsRangeAt slice.now result.start result.end (λ x. B.cmp (key x) b.now) }
-    ensures start { (key : T → B) → ComputesOn F.FnMut slice.now key f → NeverDescends B.cmp (map key slice.now)
-        → result.start ≡ count_by (λ x. is_lt (B.cmp (key x) b.now)) slice.now }
-    ensures filter { (key : T → B) → ComputesOn F.FnMut slice.now key f → NeverDescends B.cmp (map key slice.now)
-        → slice_range slice.now result.start result.end ≡ filter (λ x. is_eq (B.cmp (key x) b.now)) slice.now }
 {
     places(slice, &LessKey { key: b }, &EqualKey { key: b }, &mut f)
 }

@@ -4,7 +4,8 @@ ghost use Rattle.std.specs.List.Sorted.{IsSearchInRange};
 ghost use Rattle.std.specs.Fn.{TakesAt, CalledAt};
 ghost use Rattle.std.specs.declared.cmp.Ordering.{Ordering};
 ghost use Rattle.sgb_search.specs.Searching.{MayAskAt, AnsweredAt};
-ghost use Rattle.sgb_search.specs.Search.{IsCallableOn, ComputesOn, IsSearch, IsLocalAnswer, IsLessEqualGreater, FindsIn, NeverDescends};
+ghost use Rattle.sgb_search.specs.Search.{IsSearch, IsLocalAnswer, IsLessEqualGreater, FindsIn, NeverDescends};
+ghost use Rattle.sgb_split.specs.Judges.{IsCallableOn, ComputesOn};
 
 use crate::gallop::{Places, gallop};
 use std::cmp::Ordering;

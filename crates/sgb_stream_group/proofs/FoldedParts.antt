@@ -1,10 +1,12 @@
 -- A fold over parts is a fold over the groups that they make.
-use Rattle.std.proofs.Common.{◌≡◌, ◌≢◌, ℕ, zero, suc, ◌+◌, length, get_or, Bool, true, false, cond, ◌&&◌, List, [], ◌∷◌, ◌++◌, map, refl, sym, ap, ◌∙◌, arith}
+use Rattle.std.proofs.Common.{◌≡◌, ◌≢◌, ℕ, zero, suc, ◌+◌, length, get_or, Bool, true, false, cond, ◌&&◌, List, [], ◌∷◌, ◌++◌, flat_map, map, refl, sym, ap, ◌∙◌, arith}
 use Rattle.std.specs.List.{AllByRecursion, count_by, fold}
 use Rattle.std.proofs.Math.ListN.{set}
-use Rattle.std.proofs.lemmas.List.{map-append}
+use Rattle.std.proofs.lemmas.Grind.{flat_map-append}
+use Rattle.std.proofs.lemmas.List.{append-nil}
+use Rattle.std.proofs.lemmas.List.Concat.{flat_map_single}
 use Rattle.std.proofs.lemmas.List.Sums.{sum_by-append}
-use Rattle.sgb_stream_group.specs.Streams.{add_part, change_last, with_part, with_parts}
+use Rattle.sgb_stream_group.specs.Streams.{add_part, add_values, change_last, of_nonempty, with_part, with_parts}
 
 module _ {A : Type 0} where
   abbrev pub AllSome : List (List A) → Type 0
@@ -21,21 +23,52 @@ module _ {A : Type 0} where
   still_some (g ∷ []) false part h n = (longer_some g part h.0, tt)
   still_some (g ∷ k ∷ ks) false part h n = (h.0, still_some (k ∷ ks) false part h.1 n)
 
-module _ {A V : Type 0} (f : List A → V) (more : V → List A → V)
-    (adds : (g part : List A) → g ≢ [] → part ≢ [] → more (f g) part ≡ f (g ++ part)) where
-  one_added : (gs : List (List A)) (b : Bool) (part : List A) → AllSome gs → part ≢ []
-      → add_part f more (map f gs) (b, part) ≡ map f (with_part gs (b, part))
-  one_added gs true part h n = sym (map-append f gs (part ∷ []))
-  one_added [] false part h n = refl
-  one_added (g ∷ []) false part h n = ap (λ v. v ∷ []) (adds g part h.0 n)
-  one_added (g ∷ k ∷ ks) false part h n = ap (λ l. f g ∷ l) (one_added (k ∷ ks) false part h.1 n)
+-- each group has one value
+module _ {A V : Type 0} (f : List A → List V) (more : V → List A → V) (one : (g : List A) → g ≢ [] → (v : V) × (f g ≡ v ∷ []))
+    (adds : (g part : List A) → g ≢ [] → part ≢ [] → change_last (λ v. more v part) (f g) ≡ f (g ++ part)) where
+  last_changed : (gs : List (List A)) (part : List A) → AllSome gs → part ≢ []
+      → change_last (λ v. more v part) (flat_map f gs) ≡ flat_map f (with_part gs (false, part))
+  last_changed [] part h n = refl
+  last_changed (g ∷ []) part h n = rw (append-nil (f g), append-nil (f (g ++ part))) (adds g part h.0 n)
+  last_changed (g ∷ k ∷ ks) part h n =
+      let first = one g h.0 in
+      let next = one k h.1.0 in
+      rw (first.1, next.1) (ap (λ l. first.0 ∷ l) (rw next.1 at (last_changed (k ∷ ks) part h.1 n)))
 
-  pub folded : (gs : List (List A)) (parts : List (Bool × List A)) → AllSome gs → AllSome (map (λ x. x.1) parts)
-      → fold (add_part f more) (map f gs) parts ≡ map f (with_parts gs parts)
-  folded gs [] h n = refl
-  folded gs (x ∷ xs) h n =
-      ap (λ vs. fold (add_part f more) vs xs) (one_added gs x.0 x.1 h n.0)
-      ∙ folded (with_part gs x) xs (still_some gs x.0 x.1 h n.0) n.1
+  one_added : (gs : List (List A)) (b : Bool) (part : List A) → AllSome gs → part ≢ []
+      → add_values f more (flat_map f gs) (b, part) ≡ flat_map f (with_part gs (b, part))
+  one_added gs true part h n = sym (flat_map-append f gs (part ∷ []) ∙ ap (λ l. flat_map f gs ++ l) (append-nil (f part)))
+  one_added gs false part h n = last_changed gs part h n
+
+  pub all_added : (gs : List (List A)) (parts : List (Bool × List A)) → AllSome gs → AllSome (map (λ x. x.1) parts)
+      → fold (add_values f more) (flat_map f gs) parts ≡ flat_map f (with_parts gs parts)
+  all_added gs [] h n = refl
+  all_added gs (x ∷ xs) h n =
+      ap (λ vs. fold (add_values f more) vs xs) (one_added gs x.0 x.1 h n.0)
+      ∙ all_added (with_part gs x) xs (still_some gs x.0 x.1 h n.0) n.1
+
+pub folded : {A V : Type 0} (f : List A → V) (more : V → List A → V)
+    → ((g part : List A) → g ≢ [] → part ≢ [] → more (f g) part ≡ f (g ++ part)) → (gs : List (List A)) (parts : List (Bool × List A))
+    → AllSome gs → AllSome (map (λ x. x.1) parts) → fold (add_part f more) (map f gs) parts ≡ map f (with_parts gs parts)
+folded f more adds gs parts h n =
+    ap (λ vs. fold (add_part f more) vs parts) (sym (flat_map_single f gs))
+    ∙ all_added (λ g. f g ∷ []) more (λ g k. (f g, refl)) (λ g part h n. ap (λ v. v ∷ []) (adds g part h n)) gs parts h n
+    ∙ flat_map_single f (with_parts gs parts)
+
+pub folded_nonempty : {A V : Type 0} (first : A → List A → V) (more : V → List A → V)
+    → ((x : A) (others part : List A) → part ≢ [] → more (first x others) part ≡ first x (others ++ part))
+    → (gs : List (List A)) (parts : List (Bool × List A)) → AllSome gs → AllSome (map (λ x. x.1) parts)
+    → fold (add_values (of_nonempty first) more) (flat_map (of_nonempty first) gs) parts
+    ≡ flat_map (of_nonempty first) (with_parts gs parts)
+folded_nonempty {A} {V} first more adds = all_added (of_nonempty first) more one grown
+  where
+    one : (g : List A) → g ≢ [] → (v : V) × (of_nonempty first g ≡ v ∷ [])
+    one [] n = absurd (n refl)
+    one (x ∷ xs) n = (first x xs, refl)
+
+    grown : (g part : List A) → g ≢ [] → part ≢ [] → change_last (λ v. more v part) (of_nonempty first g) ≡ of_nonempty first (g ++ part)
+    grown [] part n k = absurd (n refl)
+    grown (x ∷ xs) part n k = ap (λ v. v ∷ []) (adds x xs part k)
 
 module _ {A : Type 0} (q : List A → Bool) (stays : (g part : List A) → g ≢ [] → q (g ++ part) ≡ q g) where
   count_first : (g : List A) (gs : List (List A)) → count_by q (g ∷ gs) ≡ cond (q g) 1 0 + count_by q gs

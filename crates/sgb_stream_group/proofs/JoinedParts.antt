@@ -3,10 +3,10 @@ use Rattle.std.proofs.Common.{◌≡◌, Bool, true, false, not, cond, List, [],
 use Rattle.std.proofs.Common.{refl, sym, ap, ◌∙◌, append_assoc, append-nil}
 use Rattle.std.specs.Prelude.{option_map}
 use Rattle.std.specs.Iterator.{Yields}
-use Rattle.sgb_search.specs.Seams.{is_accepted_across, are_accepted, seam}
-use Rattle.sgb_search.specs.Split.{first, last, put_before, split}
-use Rattle.sgb_search.proofs.Splits.Joined.{split_joins}
-use Rattle.sgb_search.proofs.Splits.Split.{split_begins}
+use Rattle.sgb_split.specs.Seams.{is_accepted_across, are_accepted, seam}
+use Rattle.sgb_split.specs.Split.{first, last, put_before, split}
+use Rattle.sgb_split.proofs.Splits.Joined.{split_joins}
+use Rattle.sgb_split.proofs.Splits.Split.{split_begins}
 use Rattle.sgb_stream_group.specs.declared.parts.Parts.{Parts}
 use Rattle.sgb_stream_group.specs.Streams.{across, as_parts, begins_at, both, last_after, or_before}
 use Rattle.sgb_stream_group.specs.Streams.{GivesPart, with_part, with_parts}

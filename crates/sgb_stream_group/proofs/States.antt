@@ -3,11 +3,11 @@ use Rattle.std.proofs.Common.{◌≡◌, Bool, [], ◌∷◌, refl, ap, ◌∙�
 use Rattle.std.proofs.Common.{not, Some}
 use Rattle.std.specs.Borrow.{Bor}
 use Rattle.std.specs.Prelude.{⊤}
-use Rattle.std.specs.Fn.{CalledAt, CalledAtTwo, ComputesKey, ComputesOnPairs, Mut}
+use Rattle.std.specs.Fn.{CalledAt, CalledAtTwo, ComputesKey, Mut}
 use denote.Param.Always.{always_mut}
-use Rattle.sgb_search.specs.Judges.{by_predicate, predicate_judge}
-use Rattle.sgb_search.proofs.Questions.Closures.{predicate_callable}
-use Rattle.sgb_search.proofs.Questions.Runs.{may_now}
+use Rattle.sgb_split.specs.Judges.{by_predicate, predicate_judge}
+use Rattle.sgb_split.proofs.Questions.Closures.{predicate_callable}
+use Rattle.sgb_split.proofs.Questions.Runs.{may_now}
 use Rattle.sgb_stream_group.specs.Streams.{AsksAcross}
 use Rattle.sgb_stream_group.proofs.Ends.{not_not}
 
@@ -16,15 +16,6 @@ module _ {F T K : Type 0} (g : Mut F (Bor T × Unit {0}) K) (k : T → K) where
   pub key_after : (f : F) (x : T) (r : K) (f' : F) → ComputesKey g k f → CalledAt g f x r f' → (r ≡ k x) × ComputesKey g k f'
   key_after f x r f' h c =
       ((h.at ((c.shown, tt) ∷ []) r f' c.called).0 ∙ ap k c.shows, record { at = λ xs. (h.at ((c.shown, tt) ∷ xs) r f' c.called).1 })
-
--- of a predicate
-module _ {P T : Type 0} (g : Mut P (Bor T × (Bor T × Unit {0})) Bool) (p : T → T → Bool) where
-  pub test_after : (f : P) (x y : T) (b : Bool) (f' : P) → ComputesOnPairs g p f → CalledAtTwo g f x y b f'
-      → (b ≡ p x y) × ComputesOnPairs g p f'
-  test_after f x y b f' h c = (
-    (h.at ((c.first, (c.second, tt)) ∷ []) b f' c.called).0 ∙ rw (c.shows.0, c.shows.1) refl,
-    record { at = λ xs. (h.at ((c.first, (c.second, tt)) ∷ xs) b f' c.called).1 },
-  )
 
 module _ {P T : Type 0} (g : Mut P (Bor T × (Bor T × Unit {0})) Bool) where
   -- one call about the pair across

@@ -3,8 +3,8 @@ use Rattle.std.specs.Prelude.{◌≡◌, Bool, true, not, cond, List, [], ◌∷
 use Rattle.std.specs.Borrow.{Bor}
 use Rattle.std.specs.Fn.{CalledAt, Mut}
 use Rattle.std.specs.List.{fold}
-use Rattle.sgb_search.specs.Judges.{IsRun, by_predicate, predicate_judge}
-use Rattle.sgb_search.specs.Split.{first, last}
+use Rattle.sgb_split.specs.Judges.{IsRun, by_predicate, predicate_judge}
+use Rattle.sgb_split.specs.Split.{first, last}
 use Rattle.sgb_stream_group.specs.declared.parts.Parts.{Parts}
 use Rattle.sgb_stream_group.specs.declared.stream.StreamGroups.{StreamGroups}
 
@@ -14,9 +14,18 @@ change_last change [] = []
 change_last change (v ∷ []) = change v ∷ []
 change_last change (v ∷ w ∷ vs) = v ∷ change_last change (w ∷ vs)
 
+-- the values that `values` gives of a part that begins a group are added, and another part changes the last value by `more`
+abbrev pub add_values : {A V : Type 0} → (values : List A → List V) (more : V → List A → V) → List V → Bool × List A → List V
+add_values values more vs part = cond part.0 (vs ++ values part.1) (change_last (λ v. more v part.1) vs)
+
 -- of each group a value: a part that begins one adds the value that `first` gives of it, and another changes the last value by `more`
 abbrev pub add_part : {A V : Type 0} → (first : List A → V) (more : V → List A → V) → List V → Bool × List A → List V
-add_part first more vs part = cond part.0 (vs ++ first part.1 ∷ []) (change_last (λ v. more v part.1) vs)
+add_part first more = add_values (λ part. first part ∷ []) more
+
+-- the value that `first` gives of the first element and the others, if there is a first
+abbrev pub of_nonempty : {A V : Type 0} → (A → List A → V) → List A → List V
+of_nonempty first [] = []
+of_nonempty first (x ∷ xs) = first x xs ∷ []
 
 module _ {A : Type 0} where
   -- groups, and a part more: one that begins a group is a group, and another goes on with the last

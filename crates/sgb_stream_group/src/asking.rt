@@ -1,14 +1,14 @@
 //! The ends of a block, and the closures of a caller: what is asked as the block comes, and the groups in it.
 ghost use Rattle.std.specs.Prelude.{◌≡◌, Bool, [], MatchOption};
 ghost use Rattle.std.specs.Fn.{CalledAt, CalledAtTwo, ComputesKey, ComputesOnPairs};
-ghost use Rattle.sgb_search.specs.Calls.{ComputesBy, IsCallableBy};
-ghost use Rattle.sgb_search.specs.Judges.{by_key, by_predicate};
-ghost use Rattle.sgb_search.specs.Split.{AreNeighbours, first, last};
+ghost use Rattle.sgb_split.specs.Calls.{ComputesBy, IsCallableBy};
+ghost use Rattle.sgb_split.specs.Judges.{by_key, by_predicate};
+ghost use Rattle.sgb_split.specs.Split.{AreNeighbours, first, last};
 ghost use Rattle.sgb_stream_group.specs.Streams.{AsksAcross, begins_at};
 ghost use Rattle.sgb_groups.specs.Gives.{groups_of};
 
 use sgb_linear_group::linear_group::{LinearGroupBy, LinearGroupByKey};
-use sgb_search::laws::{always_callable, always_callable_key};
+use sgb_split::laws::{always_callable, always_callable_key};
 
 /// The first element and the last.
 #[inline]

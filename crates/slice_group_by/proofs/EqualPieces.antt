@@ -1,14 +1,14 @@
 -- Which piece a call at the front of linear groups of equal elements, or of equal characters of a text, gives: a lemma that a caller's
 -- proof search can be told to use.
 use Rattle.std.proofs.Common.{◌≡◌, Bool, List, ◌∷◌, Some}
-use Rattle.sgb_search.specs.declared.end.End.TheVariants.{Front}
-use Rattle.sgb_search.specs.Split.{AreNeighbours, split}
-use Rattle.sgb_search.specs.declared.judge.EqualityJudge.{EqualityJudge}
-use Rattle.sgb_search.specs.Calls.{IsGroupAt}
-use Rattle.sgb_search.specs.Judges.{by_equality}
-use Rattle.sgb_search.proofs.Questions.Equality.{equality_settled}
-use Rattle.sgb_search.specs.Linear.{LinearQuestions}
-use Rattle.sgb_search.proofs.Linear.LinearQueue.{piece}
+use Rattle.sgb_split.specs.declared.end.End.TheVariants.{Front}
+use Rattle.sgb_split.specs.Split.{AreNeighbours, split}
+use Rattle.sgb_split.specs.declared.judge.EqualityJudge.{EqualityJudge}
+use Rattle.sgb_split.specs.Calls.{IsGroupAt}
+use Rattle.sgb_split.specs.Judges.{by_equality}
+use Rattle.sgb_split.proofs.Questions.Equality.{equality_settled}
+use Rattle.sgb_split.specs.Linear.{LinearQuestions}
+use Rattle.sgb_split.proofs.Linear.LinearQueue.{piece}
 use Rattle.slice_group_by.proofs.Queues.Chains.{piece_and_others}
 
 module _ {T : Type 0} (eq : T → T → Bool) (xs x ys : List T) (j k : EqualityJudge) where

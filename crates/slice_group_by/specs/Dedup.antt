@@ -2,7 +2,7 @@
 use Rattle.std.specs.Prelude.{◌≡◌, ℕ, List, [], ◌∷◌, length, Option, None, Some, MatchOption, slice_get}
 use Rattle.std.specs.Borrow.{Bor}
 use Rattle.std.specs.Iterator.{Count, at_most}
-use Rattle.sgb_search.specs.declared.end.End.{End}
+use Rattle.sgb_split.specs.declared.end.End.{End}
 use Rattle.slice_group_by.specs.declared.adapters.dedup.DedupWithCount.{DedupWithCount}
 
 -- the length and the first element of each list that is not empty

@@ -1,7 +1,7 @@
 -- Groups by a key, each with its key: that of its first element.
 use Rattle.std.specs.Prelude.{◌≡◌, ℕ, ◌+◌, List, [], ◌∷◌, length, Option, None, Some, MatchOption, slice_get}
 use Rattle.std.specs.Iterator.{Count, at_most}
-use Rattle.sgb_search.specs.declared.end.End.{End}
+use Rattle.sgb_split.specs.declared.end.End.{End}
 use Rattle.slice_group_by.specs.declared.adapters.keyed.WithKeys.{WithKeys}
 
 -- each list that is not empty, with the key of its first element

@@ -10,14 +10,14 @@ pub mod NumberGives
 pub mod Offsets
 pub mod Keyed
 pub mod Dedup
-pub use Rattle.sgb_search.specs.Split
-pub use Rattle.sgb_search.specs.Judges
-pub use Rattle.sgb_search.specs.Calls
-pub use Rattle.sgb_search.specs.Linear
+pub use Rattle.sgb_split.specs.Split
+pub use Rattle.sgb_split.specs.Judges
+pub use Rattle.sgb_split.specs.Calls
+pub use Rattle.sgb_split.specs.Linear
 pub use Rattle.sgb_search.specs.Searching
 pub use Rattle.sgb_search.specs.Search
 pub use Rattle.sgb_search.specs.Ranges
-pub use Rattle.sgb_search.specs.Seams
+pub use Rattle.sgb_split.specs.Seams
 pub use Rattle.sgb_numbers.specs.Numbers
 pub use Rattle.sgb_masks.specs.Classes
 pub use Rattle.sgb_masks.specs.AsciiBytes
@@ -37,6 +37,6 @@ pub use Rattle.sgb_stream_group.specs.Streams
 pub use Rattle.sgb_linear_str_group.specs.Texts
 pub use Rattle.sgb_linear_str_group.specs.TextsMut
 pub use Rattle.sgb_loans.specs.Loans
-pub use Rattle.sgb_search.specs.declared.end.End
+pub use Rattle.sgb_split.specs.declared.end.End
 pub use Rattle.sgb_masks.specs.declared.ascii_classes.AsciiClass
 pub use Rattle.sgb_merge_join.specs.declared.either_or_both.EitherOrBoth

@@ -1,10 +1,10 @@
 -- Groups with the offsets at which they begin in the input: elements of a slice, bytes of a text.
 use Rattle.std.specs.Prelude.{◌≡◌, ℕ, ◌+◌, ◌<◌, ◌^◌, List, [], ◌∷◌, length, Option, option_map, IfSome}
 use Rattle.std.specs.Iterator.{Count, at_most}
-use Rattle.sgb_search.specs.Calls.{Place, StandsAt, place_after}
-use Rattle.sgb_search.specs.Split.{put_at}
-use Rattle.sgb_search.specs.declared.end.End.{End}
-use Rattle.sgb_search.specs.declared.end.End.TheVariants.{Front, Back}
+use Rattle.sgb_split.specs.Calls.{Place, StandsAt, place_after}
+use Rattle.sgb_split.specs.Split.{put_at}
+use Rattle.sgb_split.specs.declared.end.End.{End}
+use Rattle.sgb_split.specs.declared.end.End.TheVariants.{Front, Back}
 use Rattle.slice_group_by.specs.declared.adapters.offsets.WithOffsets.{WithOffsets}
 
 -- each part with the sum of the lengths of those before it, and n

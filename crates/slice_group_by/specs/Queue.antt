@@ -1,8 +1,8 @@
 -- A two-ended queue: what a list of calls answers, and what it leaves, as of Rust's double-ended and fused iterators.
 use Rattle.std.specs.Prelude.{List, [], ◌∷◌, ◌++◌, Option}
-use Rattle.sgb_search.specs.Split.{item_at, without}
-use Rattle.sgb_search.specs.declared.end.End.{End}
-use Rattle.sgb_search.specs.declared.end.End.TheVariants.{Front, Back}
+use Rattle.sgb_split.specs.Split.{item_at, without}
+use Rattle.sgb_split.specs.declared.end.End.{End}
+use Rattle.sgb_split.specs.declared.end.End.TheVariants.{Front, Back}
 
 module _ {X : Type 0} where
   -- what the calls at the ends answer, one after another

@@ -1,6 +1,6 @@
 -- The ranks of the places of a list: how many groups end before that of each.
 use Rattle.std.specs.Prelude.{ℕ, Bool, List, [], ◌∷◌, map}
-use Rattle.sgb_search.specs.Split.{refused_pairs}
+use Rattle.sgb_split.specs.Split.{refused_pairs}
 
 -- the nonempty beginnings of the list, the shortest first: one for each place, and it ends there
 abbrev pub beginnings : {A : Type 0} → List A → List (List A)

@@ -1,9 +1,9 @@
 -- What one call of a queue of groups does, and what a list of calls does.
 use Rattle.std.specs.Prelude.{◌≡◌, Bool, List, [], ◌∷◌, ◌++◌, Option, Some, reverse}
-use Rattle.sgb_search.specs.Split.{concat, IsSplit}
+use Rattle.sgb_split.specs.Split.{concat, IsSplit}
 use Rattle.slice_group_by.specs.Queue.{pops, after_pops}
-use Rattle.sgb_search.specs.declared.end.End.{End}
-use Rattle.sgb_search.specs.declared.end.End.TheVariants.{Front, Back}
+use Rattle.sgb_split.specs.declared.end.End.{End}
+use Rattle.sgb_split.specs.declared.end.End.TheVariants.{Front, Back}
 
 -- calls at the ends lead from q to r and give these answers: there is a queue between every two calls
 abbrev pub IsChain : {Q I : Type 0} → (End → Q → Option I → Q → Type 0) → Q → List End → List (Option I) → Q → Type 0

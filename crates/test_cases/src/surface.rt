@@ -1,7 +1,7 @@
 //! What the methods are called on, a caller's own holder too, and how much an iterator takes.
 ghost use Rattle.std.specs.Vec.{with_items};
 
-use sgb_search::judge::EqualityJudge;
+use sgb_split::judge::EqualityJudge;
 use slice_group_by::{
     AsMutSlice, BinaryGroupByKeyMut, Elements, ExponentialGroupByKey, GroupBy, GroupByMut,
     LinearGroup, LinearGroupMut, LinearStrGroup, LinearStrGroupMut, StrGroupBy, StrGroupByMut,

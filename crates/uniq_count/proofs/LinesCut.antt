@@ -10,7 +10,7 @@ use Rattle.std.specs.List.{position, position_or_len, onto_first}
 use Rattle.std.specs.Io.BufRead.{take_through, drop_through, ends_with_byte, DropsThrough}
 use Rattle.std.proofs.lemmas.Bool.{eqb-true}
 use Rattle.program_parts.proofs.Fed.{feed_last}
-use Rattle.uniq_count.specs.Counting.{lines, GivesLines}
+use Rattle.uniq_count.specs.Counting.{lines, CutsLines}
 
 abbrev is_feed : ℕ → Bool
 is_feed x = eqb x 10
@@ -99,7 +99,7 @@ through_feed (x ∷ xs) some = feed_after x xs (is_feed x) refl (through_feed xs
 
 -- a text that a reader gave, up to the end of a line
 pub line_read : (a b c : Option (List ℕ)) (text new : List ℕ) → Consumes a b text
-    → IfSome b (λ xs. new ≡ text ++ take_through 10 xs) → DropsThrough b c 10 → GivesLines a c (lines new)
+    → IfSome b (λ xs. new ≡ text ++ take_through 10 xs) → DropsThrough b c 10 → CutsLines a c (lines new)
 line_read None b c text new read grown left = tt
 line_read (Some all) None c text new read grown left = absurd read
 line_read (Some all) (Some xs) c text new read grown left = rw left (by (drop_through 10 xs) refl)
@@ -149,27 +149,27 @@ lines_push f found new line rest after next all n some at front back others grow
     rw (one, tail, at) (append_assoc (map f found) _ _ ∙ ap (λ l. map f found ++ l) (sym (first_line rest some)) ∙ so_far)
 
 -- lines that a reader gave, one block after another
-pub GivesLines-none : (a : Option (List ℕ)) → GivesLines a a []
-GivesLines-none None = tt
-GivesLines-none (Some xs) = refl
+pub CutsLines-none : (a : Option (List ℕ)) → CutsLines a a []
+CutsLines-none None = tt
+CutsLines-none (Some xs) = refl
 
-pub GivesLines-trans : (a b c : Option (List ℕ)) (ls ms : List (List ℕ)) → GivesLines a b ls → GivesLines b c ms → GivesLines a c (ls ++ ms)
-GivesLines-trans None b c ls ms p q = tt
-GivesLines-trans (Some x) None c ls ms p q = absurd p
-GivesLines-trans (Some x) (Some y) None ls ms p q = absurd q
-GivesLines-trans (Some x) (Some y) (Some z) ls ms p q = p ∙ ap (λ l. ls ++ l) q ∙ sym (append_assoc ls ms (lines z))
+pub CutsLines-trans : (a b c : Option (List ℕ)) (ls ms : List (List ℕ)) → CutsLines a b ls → CutsLines b c ms → CutsLines a c (ls ++ ms)
+CutsLines-trans None b c ls ms p q = tt
+CutsLines-trans (Some x) None c ls ms p q = absurd p
+CutsLines-trans (Some x) (Some y) None ls ms p q = absurd q
+CutsLines-trans (Some x) (Some y) (Some z) ls ms p q = p ∙ ap (λ l. ls ++ l) q ∙ sym (append_assoc ls ms (lines z))
 
 -- at the end they are all
-pub GivesLines-whole : (a b : Option (List ℕ)) (ls : List (List ℕ)) (P : List (List ℕ) → Type 0) → GivesLines a b ls → IsAtEnd b → P ls
+pub CutsLines-whole : (a b : Option (List ℕ)) (ls : List (List ℕ)) (P : List (List ℕ) → Type 0) → CutsLines a b ls → IsAtEnd b → P ls
     → IfSome a (λ xs. P (lines xs))
-GivesLines-whole None b ls P p end h = tt
-GivesLines-whole (Some x) None ls P p end h = absurd p
-GivesLines-whole (Some x) (Some y) ls P p end h = subst P (sym (p ∙ ap (λ l. ls ++ lines l) end ∙ append-nil ls)) h
+CutsLines-whole None b ls P p end h = tt
+CutsLines-whole (Some x) None ls P p end h = absurd p
+CutsLines-whole (Some x) (Some y) ls P p end h = subst P (sym (p ∙ ap (λ l. ls ++ lines l) end ∙ append-nil ls)) h
 
 -- so are those of one block more, where the reader is at its end behind it
-pub GivesLines-ends : (a b c : Option (List ℕ)) (ls ms : List (List ℕ)) (P : List (List ℕ) → Type 0) → GivesLines a b ls
-    → GivesLines b c ms → IfSome b (λ _. IsAtEnd c) → P (ls ++ ms) → IfSome a (λ xs. P (lines xs))
-GivesLines-ends None b c ls ms P p q end h = tt
-GivesLines-ends (Some x) None c ls ms P p q end h = absurd p
-GivesLines-ends (Some x) (Some y) c ls ms P p q end h =
-    GivesLines-whole (Some x) c (ls ++ ms) P (GivesLines-trans (Some x) (Some y) c ls ms p q) end h
+pub CutsLines-ends : (a b c : Option (List ℕ)) (ls ms : List (List ℕ)) (P : List (List ℕ) → Type 0) → CutsLines a b ls
+    → CutsLines b c ms → IfSome b (λ _. IsAtEnd c) → P (ls ++ ms) → IfSome a (λ xs. P (lines xs))
+CutsLines-ends None b c ls ms P p q end h = tt
+CutsLines-ends (Some x) None c ls ms P p q end h = absurd p
+CutsLines-ends (Some x) (Some y) c ls ms P p q end h =
+    CutsLines-whole (Some x) c (ls ++ ms) P (CutsLines-trans (Some x) (Some y) c ls ms p q) end h

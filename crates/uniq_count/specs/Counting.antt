@@ -31,7 +31,7 @@ pub record Counts (before after : Option (List ℕ)) (old more new : List (List 
   pub goes_on : (rest : List (List ℕ)) → counted (old ++ more ++ rest) ≡ text ++ counted (new ++ rest)
 
 -- a reader gave these lines, and has the others left, where its bytes are known
-abbrev pub GivesLines : Option (List ℕ) → Option (List ℕ) → List (List ℕ) → Type 0
-GivesLines None new given = Unit {0}
-GivesLines (Some xs) None given = ⊥
-GivesLines (Some xs) (Some ys) given = lines xs ≡ given ++ lines ys
+abbrev pub CutsLines : Option (List ℕ) → Option (List ℕ) → List (List ℕ) → Type 0
+CutsLines None new given = Unit {0}
+CutsLines (Some xs) None given = ⊥
+CutsLines (Some xs) (Some ys) given = lines xs ≡ given ++ lines ys

@@ -3,7 +3,7 @@ ghost use Rattle.std.specs.Prelude.{◌≡◌, ◌<◌, ◌==◌, drop, false, l
 ghost use Rattle.std.specs.List.{position, position_or_len};
 ghost use Rattle.std.specs.Io.BufRead.{ends_with_byte};
 ghost use Rattle.std.specs.Io.KnownBytes.{IsAtEnd};
-ghost use Rattle.uniq_count.specs.Counting.{lines, GivesLines};
+ghost use Rattle.uniq_count.specs.Counting.{lines, CutsLines};
 
 use program_parts::blocks::read_block;
 use std::alloc::{AllocError, Global};
@@ -21,7 +21,7 @@ pub fn read_lines<R: BufRead>(
     text: &mut Vec<u8>,
 ) -> io::Result<bool>
     requires { 0 < length buffer.old }
-    ensures given { OnOk result (GivesLines (R.remaining input.old) (R.remaining input.new) (lines text.new.items)) }
+    ensures given { OnOk result (CutsLines (R.remaining input.old) (R.remaining input.new) (lines text.new.items)) }
     ensures end { IfOk result (λ may_go_on. may_go_on ≡ false
         → IfSome (R.remaining input.old) (λ _. IsAtEnd (R.remaining input.new))) }
 {

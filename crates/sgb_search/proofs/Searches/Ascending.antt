@@ -7,9 +7,9 @@ use Rattle.std.specs.Cmp.{IsTotalOrder, alike_right}
 use Rattle.std.specs.Ordering.{ordering_index, is_lt, is_gt}
 use Rattle.std.specs.declared.cmp.Ordering.{Ordering}
 use Rattle.std.specs.declared.cmp.Ordering.TheVariants.{Less, Equal, Greater}
-use Rattle.sgb_search.specs.Split.{neighbours}
+use Rattle.sgb_split.specs.Split.{neighbours}
 use Rattle.sgb_search.specs.Search.{NeverDescends, IsLessEqualGreater, between}
-use Rattle.sgb_search.proofs.Lists.AllByRecursion.{all_each}
+use Rattle.sgb_split.proofs.Lists.AllByRecursion.{all_each}
 
 -- what does not fall from neighbour to neighbour never falls
 module _ {T : Type 0} (n : T → ℕ) where

@@ -7,9 +7,9 @@ use Rattle.std.specs.declared.cmp.Ordering.{Ordering}
 use Rattle.std.specs.declared.cmp.Ordering.TheVariants.{Less, Equal, Greater}
 use Rattle.sgb_search.specs.Searching.{digits, binary, exponential, IsWithin, IsBetween, WasAnswered, IsLowEnd, IsHighEnd, TellsBoundary, IsPlaceSearch, IsBracket}
 use Rattle.sgb_search.proofs.Searches.Digits.{digits_half, digits_zero, digits_mono, digits_le_self, within_galloping}
-use Rattle.sgb_search.specs.Judges.{IsRun, IsCallable}
-use Rattle.sgb_search.proofs.Questions.Runs.{run_push, run_append, may_after}
-use Rattle.sgb_search.proofs.Lists.AllByRecursion.{all_push, all_append, all_each}
+use Rattle.sgb_split.specs.Judges.{IsRun, IsCallable}
+use Rattle.sgb_split.proofs.Questions.Runs.{run_push, run_append, may_after}
+use Rattle.sgb_split.proofs.Lists.AllByRecursion.{all_push, all_append, all_each}
 use Rattle.sgb_search.proofs.Searches.Boundaries.{answered_left, answered_right}
 
 module _ {S A : Type 0} (may : S → ℕ → Type 0) (gives : S → ℕ → A → S → Type 0) (reads : A → Ordering) where

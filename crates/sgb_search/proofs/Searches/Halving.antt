@@ -7,9 +7,9 @@ use Rattle.std.specs.declared.cmp.Ordering.{Ordering}
 use Rattle.std.specs.declared.cmp.Ordering.TheVariants.{Less, Equal, Greater}
 use Rattle.sgb_search.proofs.Searches.Digits.{digits_half, digits_mono, within_halving}
 use Rattle.sgb_search.specs.Searching.{digits, binary, IsWithin, IsBetween, WasAnswered, IsLowEnd, IsHighEnd, IsPlaceSearch}
-use Rattle.sgb_search.specs.Judges.{IsRun, IsCallable}
-use Rattle.sgb_search.proofs.Questions.Runs.{run_push}
-use Rattle.sgb_search.proofs.Lists.AllByRecursion.{all_push}
+use Rattle.sgb_split.specs.Judges.{IsRun, IsCallable}
+use Rattle.sgb_split.proofs.Questions.Runs.{run_push}
+use Rattle.sgb_split.proofs.Lists.AllByRecursion.{all_push}
 use Rattle.sgb_search.proofs.Searches.Boundaries.{low_more, high_more, answered_left}
 
 module _ {S A : Type 0} (may : S → ℕ → Type 0) (gives : S → ℕ → A → S → Type 0) (reads : A → Ordering) where

@@ -1,6 +1,6 @@
 -- Searches whose answers are two sides: the place that they give parts a list that is partitioned.
-use Rattle.std.specs.Prelude.{cond, ◌≡◌, ℕ, ◌≤◌, Bool, true, false, List, [], ◌++◌, length, slice_range, Result, Ok, Err}
-use Rattle.std.proofs.Common.{refl, sym, ap, ◌∙◌, subst, length-append, arith}
+use Rattle.std.specs.Prelude.{cond, ◌≡◌, ℕ, ◌≤◌, Bool, true, false, List, [], ◌++◌, length, Result, Ok, Err}
+use Rattle.std.proofs.Common.{refl, sym, ap, ◌∙◌, subst, arith}
 use Rattle.std.specs.List.{AllByRecursion, count_by, filter, slice_index_or}
 use Rattle.std.specs.List.Sorted.{IsPartitionedBy, IsPartitionPoint}
 use Rattle.std.specs.Ordering.{ordering_index, is_lt, is_le, is_eq}
@@ -13,8 +13,8 @@ use Rattle.std.proofs.lemmas.List.Sorted.{IsNonDecreasingBy-drop}
 use Rattle.sgb_search.specs.Searching.{as_ordering, answer_place}
 use Rattle.sgb_search.specs.Search.{IsLocalAnswer, IsLocalBoundary, IsLessEqualGreater}
 use Rattle.sgb_search.specs.Ranges.{IsRange, IsLocalRange, IsRangeAt, IsLocalRangeAt}
-use Rattle.sgb_search.proofs.Lists.Filters.{keeps_all, keeps_none}
-use Rattle.sgb_search.proofs.Lists.AllByRecursion.{all_contains, all_each, all_when, all_of_rest}
+use Rattle.sgb_split.proofs.Lists.Filters.{keeps_all, keeps_none}
+use Rattle.sgb_split.proofs.Lists.AllByRecursion.{all_contains, all_each, all_when, all_of_rest}
 use Rattle.sgb_search.proofs.Searches.PartitionPoint.{taken, dropped, less_count}
 use Rattle.sgb_search.proofs.Searches.Boundaries.{never_equal, side_before, side_after}
 use Rattle.sgb_search.proofs.Searches.SearchRuns.{region}
@@ -143,12 +143,6 @@ module _ {T : Type 0} (ord : T → Ordering) where
       → IsLocalRangeAt xs start end (λ x. is_lt (ord x)) (λ x. is_eq (ord x)) → IsRangeAt xs start end ord
   unfolding range_is
   range_at xs start end up r = (range_is xs _ up r.0, r.1)
-
-  pub start_counts : (xs : List T) (start end : ℕ) → IsLessEqualGreater ord xs
-      → IsLocalRangeAt xs start end (λ x. is_lt (ord x)) (λ x. is_eq (ord x)) → start ≡ count_by (λ x. is_lt (ord x)) xs
-  start_counts xs start end up r =
-      sym r.1 ∙ passing_count (λ x. is_lt (ord x)) xs (length r.0.before)
-      (rw r.0.whole (omega (arith, length-append r.0.before (slice_range xs start end ++ r.0.after)))) r.0.starts (less_first xs up)
 
 -- what a filter keeps of a range: all of a part that passes, and none of another
 module _ {T : Type 0} (ord : T → Ordering) (xs equals : List T) (r : IsRange ord xs equals) (p : Ordering → Bool) where

@@ -11,9 +11,9 @@ use Rattle.std.proofs.lemmas.List.Sorted.{IsNonDecreasingBy-drop}
 use Rattle.std.proofs.lemmas.List.Sums.{sum_by-cons, length-filter}
 use Rattle.sgb_search.specs.Search.{IsLessEqualGreater}
 use Rattle.sgb_search.specs.Ranges.{IsRangeAt}
-use Rattle.sgb_search.proofs.Lists.AllByRecursion.{all_contains}
-use Rattle.sgb_search.proofs.Lists.Contained.{contains_tail}
-use Rattle.sgb_search.proofs.Lists.Filters.{keeps_none}
+use Rattle.sgb_split.proofs.Lists.AllByRecursion.{all_contains}
+use Rattle.sgb_split.proofs.Lists.Contained.{contains_tail}
+use Rattle.sgb_split.proofs.Lists.Filters.{keeps_none}
 use Rattle.sgb_search.proofs.Searches.SearchRuns.{contains_at}
 use Rattle.sgb_search.proofs.Searches.Partitions.{range_filters, range_less}
 
@@ -125,6 +125,9 @@ module _ {T : Type 0} (ord : T → Ordering) where
       where
         length_part : length (slice_range xs start end) ≡ end - start
         length_part = length-take-le (end - start) (drop start xs) (omega (arith, within, length-drop start xs))
+
+    pub filters : IsRangeAt xs start end ord → slice_range xs start end ≡ equal xs
+    filters r = range_filters ord xs (slice_range xs start end) r.0
 
     -- an element is equal exactly if it stands in the range
     pub exactly : start ≤ end → end ≤ length xs → IsRangeAt xs start end ord → (i : ℕ) (x : T) → slice_get xs i ≡ Some x

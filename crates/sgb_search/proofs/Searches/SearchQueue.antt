@@ -4,25 +4,26 @@ use Rattle.std.specs.Prelude.{◌≡◌, ℕ, ◌+◌, ◌-◌, ◌<◌, ◌≤�
 use Rattle.std.proofs.Common.{suc, sym, ap, subst, arith, ◌∙◌, inl, inr, get_or, length-append, append_assoc}
 use Rattle.std.proofs.lemmas.List.{append-nil}
 use Rattle.std.proofs.lemmas.Option.{slice_get-get_or, slice_get_within}
-use Rattle.sgb_search.specs.declared.judge.Judge.{Ghosts}
-use Rattle.sgb_search.specs.Split.{on_pairs, from, put_at, last, without_last, IsAccepted, IsRefusedAcross, TakesPiece, IsGrouped, AreApart}
-use Rattle.sgb_search.specs.declared.end.End.{End}
-use Rattle.sgb_search.specs.declared.end.End.TheVariants.{Front, Back}
-use Rattle.sgb_search.specs.Calls.{IsGroupAt, CallAt, Groups, ComputesBy, IsCallableBy}
+use Rattle.sgb_split.specs.declared.judge.Judge.{Ghosts}
+use Rattle.sgb_split.specs.Split.{on_pairs, from, put_at, last, without_last, IsAccepted, IsRefusedAcross, TakesPiece, IsGrouped, AreApart}
+use Rattle.sgb_split.specs.declared.end.End.{End}
+use Rattle.sgb_split.specs.declared.end.End.TheVariants.{Front, Back}
+use Rattle.sgb_split.specs.Calls.{IsGroupAt, CallAt, Groups, ComputesBy, IsCallableBy}
 use Rattle.sgb_search.specs.Searching.{SearchCost, IsWithin, IsBetween, IsLowEnd, IsHighEnd, as_ordering, outward, QuestionsAt, IsLocalEnd, IsSettledApart, SearchQuestions}
 use Rattle.sgb_search.specs.Search.{AnswersAt}
-use Rattle.sgb_search.proofs.Lists.Ends.{length-from, length-put_at}
-use Rattle.sgb_search.proofs.Lists.Apart.{outward_len, outward_of, outward_apart, get_reverse, apart_of_rest}
-use Rattle.sgb_search.proofs.Lists.Pairs.{in_order}
-use Rattle.sgb_search.proofs.Splits.Grouped.{parts_of_grouped, grouped_part, get_after, get_before, last_is}
-use Rattle.sgb_search.proofs.Splits.Split.{takes_piece, takes_nothing}
+use Rattle.sgb_split.proofs.Lists.Ends.{length-from, length-put_at}
+use Rattle.sgb_split.proofs.Lists.Apart.{get_reverse, apart_of_rest}
+use Rattle.sgb_search.proofs.Searches.Outward.{outward_len, outward_of, outward_apart}
+use Rattle.sgb_split.proofs.Lists.Pairs.{in_order}
+use Rattle.sgb_split.proofs.Splits.Grouped.{parts_of_grouped, grouped_part, get_after, get_before, last_is}
+use Rattle.sgb_split.proofs.Splits.Split.{takes_piece, takes_nothing}
 use Rattle.std.specs.declared.cmp.Ordering.{Ordering}
 use Rattle.std.specs.declared.cmp.Ordering.TheVariants.{Less, Greater}
-use Rattle.sgb_search.specs.Judges.{IsRunOf, Computes, AsksWithin}
-use Rattle.sgb_search.proofs.Questions.AtPlaces.{asked_at, answered_by}
+use Rattle.sgb_split.specs.Judges.{IsRunOf, Computes, AsksWithin}
+use Rattle.sgb_search.proofs.Searches.AtPlaces.{asked_at, answered_by}
 use Rattle.sgb_search.proofs.Searches.Boundaries.{tells_more, one_answer, answers_once, side_before, side_after}
-use Rattle.sgb_search.proofs.Questions.Calls as calls
-use Rattle.sgb_search.proofs.Questions.Calls.{AsksAllowed, nothing_asked}
+use Rattle.sgb_split.proofs.Questions.Calls as calls
+use Rattle.sgb_split.proofs.Questions.Calls.{AsksAllowed, nothing_asked}
 
 module _ {T J : Type 0} (g : Ghosts J T) (cost : SearchCost) (e : End) (xs : List T) (n : ℕ) (j k : J)
     (h : SearchQuestions g cost e xs n j k) where

@@ -9,23 +9,24 @@ use Rattle.std.specs.Fn.{Mut, TakesAt, CalledAt}
 use Rattle.std.specs.Borrow.{Bor}
 use Rattle.std.specs.declared.cmp.Ordering.{Ordering}
 use Rattle.std.specs.declared.cmp.Ordering.TheVariants.{Less, Equal, Greater}
-use Rattle.sgb_search.specs.Judges.{IsCallable, Computes}
+use Rattle.sgb_split.specs.Judges.{IsCallable, Computes}
 use Rattle.sgb_search.specs.Searching.{IsBetween, MayAskAt, AnsweredAt}
-use Rattle.sgb_search.specs.Search.{AnswersAt, IsLocalAnswer, FindsIn, IsLessEqualGreater, IsCallableOn, ComputesOn, IsSearch}
-use Rattle.sgb_search.proofs.Questions.AtPlaces as places
+use Rattle.sgb_search.specs.Search.{AnswersAt, IsLocalAnswer, FindsIn, IsLessEqualGreater, IsSearch}
+use Rattle.sgb_split.specs.Judges.{IsCallableOn, ComputesOn}
+use Rattle.sgb_search.proofs.Searches.AtPlaces as places
 use Rattle.sgb_search.proofs.Searches.Boundaries.{tells_local}
 use Rattle.sgb_search.proofs.Searches.PartitionPoint.{less_count}
 
 pub contains_at : {T : Type 0} (xs : List T) (i : ℕ) (x : T) → slice_get xs i ≡ Some x → Contains xs x
 contains_at xs i x e = (i, slice_get_within xs i x e, get_or_from_slice_get xs i x x e)
 
+pub top_greater : (o : Ordering) → 2 ≤ ordering_index o → o ≡ Greater
+top_greater Less h = absurd (omega arith)
+top_greater Equal h = absurd (omega arith)
+top_greater Greater h = refl
+
 -- where the answers rise, a local boundary is the place between the Less and the Greater
 module _ {T : Type 0} (ord : T → Ordering) (xs : List T) where
-  top : (o : Ordering) → 2 ≤ ordering_index o → o ≡ Greater
-  top Less h = absurd (omega arith)
-  top Equal h = absurd (omega arith)
-  top Greater h = refl
-
   bottom : (o : Ordering) → ordering_index o ≤ 0 → o ≡ Less
   bottom Less h = refl
   bottom Equal h = absurd (omega arith)
@@ -36,7 +37,7 @@ module _ {T : Type 0} (ord : T → Ordering) (xs : List T) where
 
   pub region : (r : Result ℕ ℕ) → IsLocalAnswer ord xs r → IsBinarySearchResult ord xs r
   region (Ok i) a = answer_read i Equal a
-  region (Err i) b = λ up. (λ k d l h. bottom _ (before up k d h b.0), λ k d l h. top _ (after up k d l h b.1))
+  region (Err i) b = λ up. (λ k d l h. bottom _ (before up k d h b.0), λ k d l h. top_greater _ (after up k d l h b.1))
     where
       before : IsNonDecreasingBy (λ y. ordering_index (ord y)) xs → (k : ℕ) (d : T) → k < i → (i ≡ 0) ⊎
           ((0 < i) × AnswersAt ord xs (i - 1) Less) → ordering_index (ord (get_or xs k d)) ≤ 0

@@ -7,7 +7,7 @@ use Rattle.std.specs.Cmp.{IsTotalOrder}
 use Rattle.std.specs.Ordering.{partial_le, is_lt, ordering_reverse}
 use Rattle.std.specs.declared.cmp.Ordering.{Ordering}
 use Rattle.std.specs.declared.cmp.Ordering.TheVariants.{Less, Equal, Greater}
-use Rattle.sgb_search.specs.Split.{neighbours}
+use Rattle.sgb_split.specs.Split.{neighbours}
 use Rattle.sgb_search.specs.Search.{NeverDescends}
 
 module _ {A : Type 0} (P : A → A → Type 0) where

@@ -3,8 +3,8 @@ use Rattle.std.proofs.Common.{◌≡◌, Bool, true, false, cond, List, [], ◌�
 use Rattle.std.proofs.Common.{refl, sym, subst, inl, inr}
 use Rattle.std.specs.Prelude.{◌⊎◌}
 use Rattle.std.specs.List.{AllByRecursion, Contains, filter}
-use Rattle.sgb_search.proofs.Lists.AllByRecursion.{all_contains, all_each}
-use Rattle.sgb_search.proofs.Lists.Contained.{contains_cases, contains_head, contains_tail}
+use Rattle.sgb_split.proofs.Lists.AllByRecursion.{all_contains, all_each}
+use Rattle.sgb_split.proofs.Lists.Contained.{contains_cases, contains_head, contains_tail}
 use Rattle.sgb_merge_join.proofs.Joins.Sets.{filter_contains}
 use Rattle.sgb_linear_group.specs.Best.{best_from, best_of_each}
 

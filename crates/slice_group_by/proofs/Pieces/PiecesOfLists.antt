@@ -13,12 +13,12 @@ use Rattle.std.specs.Ordering.{is_eq}
 use Rattle.std.specs.declared.cmp.Ordering.{Ordering}
 use Rattle.std.specs.declared.cmp.Ordering.TheVariants.{Less, Equal}
 use Rattle.sgb_search.specs.Search.{NeverDescends}
-use Rattle.sgb_search.specs.Split.{IsAccepted, concat, first, without_first, put_before, split}
-use Rattle.sgb_search.proofs.Lists.AllByRecursion.{all_contains, all_each}
-use Rattle.sgb_search.proofs.Lists.Contained.{contains_cases, contains_head, contains_tail}
-use Rattle.sgb_search.proofs.Lists.Filters.{keeps_all, keeps_none}
-use Rattle.sgb_search.proofs.Lists.Order.{equal_if_tied, turned_around}
-use Rattle.sgb_search.proofs.Splits.Split.{split_is}
+use Rattle.sgb_split.specs.Split.{IsAccepted, concat, first, without_first, put_before, split}
+use Rattle.sgb_split.proofs.Lists.AllByRecursion.{all_contains, all_each}
+use Rattle.sgb_split.proofs.Lists.Contained.{contains_cases, contains_head, contains_tail}
+use Rattle.sgb_split.proofs.Lists.Filters.{keeps_all, keeps_none}
+use Rattle.sgb_split.proofs.Lists.Order.{equal_if_tied, turned_around}
+use Rattle.sgb_split.proofs.Splits.Split.{split_is}
 use Rattle.slice_group_by.specs.Dedup.{counted}
 use Rattle.slice_group_by.specs.Keyed.{keyed}
 use Rattle.slice_group_by.proofs.Joins.FirstGroups.{IsAbove, Ascends, split_ascends}

@@ -2,7 +2,7 @@
 use Rattle.std.proofs.Common.{◌≡◌, ℕ, ◌+◌, Bool, true, false, cond, not, List, [], ◌∷◌, ◌++◌, length, map, replicate, refl, sym, ap, ◌∙◌, arith, append_assoc}
 use Rattle.std.proofs.lemmas.Simd.{map-map}
 use Rattle.std.proofs.lemmas.List.Sums.{sum_by-cons}
-use Rattle.sgb_search.specs.Split.{neighbours, on_pairs, split, put_before, refused_pairs}
+use Rattle.sgb_split.specs.Split.{neighbours, on_pairs, split, put_before, refused_pairs}
 use Rattle.slice_group_by.specs.Ranks.{beginnings, ranks}
 
 -- at each place of the pieces, the number of its piece, counted on from r

@@ -5,7 +5,7 @@ use Rattle.std.proofs.lemmas.Str.{encodes-chars}
 use Rattle.std.specs.Prelude.{option_map, IfSome}
 use Rattle.std.specs.Str.{chars, IsUtf8, chars_after, continuation_len, lead_bits}
 use Rattle.std.specs.List.{AllByRecursion}
-use Rattle.sgb_search.specs.declared.end.End.{End}
+use Rattle.sgb_split.specs.declared.end.End.{End}
 use Rattle.slice_group_by.specs.Walk.{IsChain}
 
 -- what each call says of its group holds of the groups of a list of calls

@@ -1,9 +1,9 @@
 -- What stays the same list while a loop notes each group as it comes.
 use Rattle.std.proofs.Common.{◌≡◌, List, [], ◌∷◌, ◌++◌, map, refl, sym, ap, ◌∙◌, append_assoc, rules}
 use Rattle.std.proofs.lemmas.List.{map-append}
-use Rattle.sgb_search.specs.declared.end.End.{End}
-use Rattle.sgb_search.specs.declared.end.End.TheVariants.{Front, Back}
-use Rattle.sgb_search.specs.Split.{put_at, concat}
+use Rattle.sgb_split.specs.declared.end.End.{End}
+use Rattle.sgb_split.specs.declared.end.End.TheVariants.{Front, Back}
+use Rattle.sgb_split.specs.Split.{put_at, concat}
 use Rattle.sgb_loans.specs.Loans.{before_with, after_with}
 use Rattle.slice_group_by.proofs.Queues.Chains.{joined_push}
 

@@ -13,10 +13,10 @@ use Rattle.std.specs.Prelude.{Result}
 use Rattle.std.specs.declared.cmp.Ordering.{Ordering}
 use Rattle.sgb_search.specs.Search.{IsSearch}
 use Rattle.sgb_search.specs.Searching.{digits, answer_place, MayAskAt, AnsweredAt}
-use Rattle.sgb_search.specs.Split.{neighbours}
-use Rattle.sgb_search.proofs.Lists.Pairs.{length-neighbours}
-use Rattle.sgb_search.specs.Judges.{IsRun, IsRunOf, AsksWithin}
-use Rattle.sgb_search.proofs.Questions.Calls.{asks_nothing, asks_add}
+use Rattle.sgb_split.specs.Split.{neighbours}
+use Rattle.sgb_split.proofs.Lists.Pairs.{length-neighbours}
+use Rattle.sgb_split.specs.Judges.{IsRun, IsRunOf, AsksWithin}
+use Rattle.sgb_split.proofs.Questions.Calls.{asks_nothing, asks_add}
 
 -- a property P n of the state, which each question takes from n to n + 1
 module _ {S Q A : Type 0} (may : S → Q → Type 0) (gives : S → Q → A → S → Type 0) (P : ℕ → S → Type 0)

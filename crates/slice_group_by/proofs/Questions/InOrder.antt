@@ -1,38 +1,19 @@
 -- Linear calls at the front, one after another, ask about the neighbouring pairs in their order.
-use Rattle.std.proofs.Common.{◌≡◌, ℕ, zero, suc, ◌-◌, ◌<◌, Bool, true, false, List, [], ◌∷◌, ◌++◌, length, take, drop, map, Option, Some}
+use Rattle.std.proofs.Common.{◌≡◌, ◌<◌, Bool, List, [], ◌∷◌, ◌++◌, length, take, map, Option, Some}
 use Rattle.std.proofs.Common.{refl, sym, ap, ◌∙◌, arith, append_assoc}
 use Rattle.std.proofs.lemmas.List.{append-nil, map-append}
 use Rattle.std.specs.Prelude.{option_map}
 use Rattle.std.specs.Iterator.{Yields}
-use Rattle.sgb_search.specs.declared.judge.Judge.{Ghosts}
-use Rattle.sgb_search.specs.declared.end.End.TheVariants.{Front}
-use Rattle.sgb_search.specs.Calls.{Groups, CallAt}
-use Rattle.sgb_search.specs.Judges.{IsRun}
-use Rattle.sgb_search.specs.Linear.{LinearQuestions, all_answered, questions, questions_along}
-use Rattle.sgb_search.specs.Split.{neighbours}
-use Rattle.sgb_search.proofs.Questions.Runs.{run_append}
+use Rattle.sgb_split.specs.declared.judge.Judge.{Ghosts}
+use Rattle.sgb_split.specs.declared.end.End.TheVariants.{Front}
+use Rattle.sgb_split.specs.Calls.{Groups, CallAt}
+use Rattle.sgb_split.specs.Judges.{IsRun}
+use Rattle.sgb_split.specs.Linear.{LinearQuestions, questions}
+use Rattle.sgb_split.specs.Split.{neighbours}
+use Rattle.sgb_split.proofs.Linear.LinearPairs.{pairs-along}
+use Rattle.sgb_split.proofs.Questions.Runs.{run_append}
 
 module _ {A : Type 0} where
-  answered : (b : Bool) (qs : List (A × A)) → map (λ r. r.0) (all_answered b qs) ≡ qs
-  answered b [] = refl
-  answered b (q ∷ qs) = ap (λ l. q ∷ l) (answered b qs)
-
-  one_more : (n : ℕ) (qs : List (A × A)) → take n qs ++ take 1 (drop n qs) ≡ take (suc n) qs
-  one_more zero [] = refl
-  one_more zero (q ∷ qs) = refl
-  one_more (suc n) [] = refl
-  one_more (suc n) (q ∷ qs) = ap (λ l. q ∷ l) (one_more n qs)
-
-  along : (qs : List (A × A)) (n : ℕ) → 0 < n → map (λ r. r.0) (questions_along qs n) ≡ take n qs
-  along qs zero h = absurd (omega arith)
-  along qs (suc n) h =
-      let e : suc n - 1 ≡ n = omega arith in
-      rw e
-      (map-append {B = A × A} (λ r. r.0) (all_answered true (take n qs)) (all_answered false (take 1 (drop n qs)))
-      ∙ ap (λ l. l ++ map (λ r. r.0) (all_answered false (take 1 (drop n qs)))) (answered true (take n qs))
-      ∙ ap (λ l. take n qs ++ l) (answered false (take 1 (drop n qs)))
-      ∙ one_more n qs)
-
   -- those of a part, with the one across, and those of the rest
   taken_off : (x : A) (xs rest : List A)
       → take (length (x ∷ xs)) (neighbours (x ∷ (xs ++ rest))) ++ neighbours rest ≡ neighbours (x ∷ (xs ++ rest))
@@ -44,7 +25,7 @@ module _ {A : Type 0} where
       → map (λ r. r.0) (questions Front (part ++ rest) (length part)) ++ neighbours rest ≡ neighbours (part ++ rest)
   asked_off [] rest h = absurd (omega arith)
   asked_off (x ∷ xs) rest h =
-      ap (λ l. l ++ neighbours rest) (along (neighbours (x ∷ (xs ++ rest))) (length (x ∷ xs)) h) ∙ taken_off x xs rest
+      ap (λ l. l ++ neighbours rest) (pairs-along (neighbours (x ∷ (xs ++ rest))) (length (x ∷ xs)) h) ∙ taken_off x xs rest
 
 module _ {T J : Type 0} (g : Ghosts J T) where
   -- a run of questions, about those pairs that are gone

@@ -3,10 +3,10 @@ use Rattle.std.specs.Borrow.{Bor}
 use Rattle.std.specs.Fn.{CalledAt, Mut}
 use Rattle.std.proofs.Common.{min, Option, ◌≡◌, ℕ, ◌+◌, ◌-◌, ◌*◌, ◌<◌, Bool, List, [], ◌∷◌, ◌++◌, length, map, refl, ap, ◌∙◌, arith}
 use Rattle.std.proofs.lemmas.List.{length-append, length-map}
-use Rattle.sgb_search.proofs.Lists.Pairs.{length-neighbours}
-use Rattle.sgb_search.specs.Judges.{IsRun, by_key}
-use Rattle.sgb_search.specs.declared.judge.KeyJudge.{KeyJudge}
-use Rattle.sgb_search.specs.Split.{last, neighbours}
+use Rattle.sgb_split.proofs.Lists.Pairs.{length-neighbours}
+use Rattle.sgb_split.specs.Judges.{IsRun, by_key}
+use Rattle.sgb_split.specs.declared.judge.KeyJudge.{KeyJudge}
+use Rattle.sgb_split.specs.Split.{last, neighbours}
 use Rattle.sgb_stream_group.specs.Streams.{AsksEnds, across, pair_list}
 use Rattle.sgb_stream_group.proofs.JoinedParts.{last_some}
 use Rattle.slice_group_by.proofs.Questions.Counting.{counts_just, times_due}

@@ -1,14 +1,14 @@
 -- A chain of calls asks about each neighbouring pair that goes once.
 use Rattle.std.proofs.Common.{◌≡◌, ◌-◌, List, [], ◌∷◌, length, Option, ap, arith}
 use Rattle.std.specs.Prelude.{option_map}
-use Rattle.sgb_search.specs.declared.judge.Judge.{Ghosts}
-use Rattle.sgb_search.specs.Judges.{IsRunOf}
-use Rattle.sgb_search.specs.Split.{neighbours}
-use Rattle.sgb_search.specs.Calls.{Groups, CallAt}
-use Rattle.sgb_search.specs.Linear.{AsksEachOnce, LinearQuestions}
-use Rattle.sgb_search.proofs.Lists.Pairs.{length-neighbours}
-use Rattle.sgb_search.proofs.Linear.LinearPairs.{asks_none, asks_more, count_asked, asks_once}
-use Rattle.sgb_search.specs.declared.end.End.{End}
+use Rattle.sgb_split.specs.declared.judge.Judge.{Ghosts}
+use Rattle.sgb_split.specs.Judges.{IsRunOf}
+use Rattle.sgb_split.specs.Split.{neighbours}
+use Rattle.sgb_split.specs.Calls.{Groups, CallAt}
+use Rattle.sgb_split.specs.Linear.{AsksEachOnce, LinearQuestions}
+use Rattle.sgb_split.proofs.Lists.Pairs.{length-neighbours}
+use Rattle.sgb_split.proofs.Linear.LinearPairs.{asks_none, asks_more, count_asked, asks_once}
+use Rattle.sgb_split.specs.declared.end.End.{End}
 use Rattle.slice_group_by.specs.Walk.{IsChain}
 
 module _ {T J : Type 0} (g : Ghosts J T) where

@@ -4,13 +4,13 @@ use Rattle.std.specs.Prelude.{option_map}
 use Rattle.std.specs.List.{AllByRecursion}
 use Rattle.std.proofs.lemmas.List.{append-nil, reverse-append}
 use Rattle.std.proofs.lemmas.Grind.{flat_map-append}
-use Rattle.sgb_search.specs.Split.{put_at, TakesPart, first, last, without_first, without_last, IsSplit, IsAccepted, TakesPiece, split, concat}
-use Rattle.sgb_search.proofs.Splits.Split.{split_is, split_only}
-use Rattle.sgb_search.proofs.Splits.Grouped.{last_is}
-use Rattle.sgb_search.specs.declared.end.End.{End}
-use Rattle.sgb_search.specs.declared.end.End.TheVariants.{Front, Back}
-use Rattle.sgb_search.specs.Judges.{AsksWithin}
-use Rattle.sgb_search.proofs.Questions.Calls.{asks_nothing, asks_add}
+use Rattle.sgb_split.specs.Split.{put_at, TakesPart, first, last, without_first, without_last, IsSplit, IsAccepted, TakesPiece, split, concat}
+use Rattle.sgb_split.proofs.Splits.Split.{split_is, split_only}
+use Rattle.sgb_split.proofs.Splits.Grouped.{last_is}
+use Rattle.sgb_split.specs.declared.end.End.{End}
+use Rattle.sgb_split.specs.declared.end.End.TheVariants.{Front, Back}
+use Rattle.sgb_split.specs.Judges.{AsksWithin}
+use Rattle.sgb_split.proofs.Questions.Calls.{asks_nothing, asks_add}
 use Rattle.slice_group_by.specs.Queue.{pops, after_pops}
 use Rattle.slice_group_by.specs.Walk.{Partition, put_given, IsChain, AnswersAsQueue}
 

@@ -9,11 +9,11 @@ use Rattle.std.specs.List.{IsChunkByPrefix}
 use Rattle.std.specs.Slice.Iter.{chunk_by_rest, chunk_by_callee}
 use Rattle.std.specs.Slice.Back.{IsChunkBySuffix}
 use Rattle.std.specs.declared.slice.ChunkBy.{ChunkBy}
-use Rattle.sgb_search.specs.declared.end.End.{End}
-use Rattle.sgb_search.specs.declared.end.End.TheVariants.{Front, Back}
-use Rattle.sgb_search.specs.Split.{put_at, first, last, IsAccepted, IsRefusedAcross, TakesPiece}
-use Rattle.sgb_search.proofs.Lists.Pairs.{in_order}
-use Rattle.sgb_search.proofs.Splits.Split.{takes_piece, takes_nothing}
+use Rattle.sgb_split.specs.declared.end.End.{End}
+use Rattle.sgb_split.specs.declared.end.End.TheVariants.{Front, Back}
+use Rattle.sgb_split.specs.Split.{put_at, first, last, IsAccepted, IsRefusedAcross, TakesPiece}
+use Rattle.sgb_split.proofs.Lists.Pairs.{in_order}
+use Rattle.sgb_split.proofs.Splits.Split.{takes_piece, takes_nothing}
 use Rattle.slice_group_by.specs.Chunks.{chunk_calls}
 use Rattle.slice_group_by.proofs.Pieces.Adjacent.{neighbours_by_place}
 

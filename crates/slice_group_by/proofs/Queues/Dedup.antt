@@ -4,10 +4,10 @@ use Rattle.std.specs.Prelude.{option_map, slice_get}
 use Rattle.std.specs.Borrow.{Bor}
 use Rattle.std.specs.Iterator.{AlwaysYields}
 use Rattle.std.specs.List.{AllByRecursion}
-use Rattle.sgb_search.specs.declared.end.End.{End}
-use Rattle.sgb_search.specs.Split.{from, split, TakesPiece}
-use Rattle.sgb_search.proofs.Lists.Ends.{from-from, all_from}
-use Rattle.sgb_search.proofs.Splits.Split.{split_is}
+use Rattle.sgb_split.specs.declared.end.End.{End}
+use Rattle.sgb_split.specs.Split.{from, split, TakesPiece}
+use Rattle.sgb_split.proofs.Lists.Ends.{from-from, all_from}
+use Rattle.sgb_split.proofs.Splits.Split.{split_is}
 use Rattle.slice_group_by.specs.Dedup.{counted, GivesCounted}
 use Rattle.slice_group_by.specs.declared.adapters.dedup.DedupWithCount.{DedupWithCount}
 use Rattle.slice_group_by.proofs.Queues.Yields.{yields_pieces, same_some}

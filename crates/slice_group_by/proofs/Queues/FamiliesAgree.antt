@@ -1,8 +1,8 @@
 -- Queues that are settled for one test, of equal remainders, answer alike.
 use Rattle.std.specs.Prelude.{◌≡◌, Bool, List, Option, map, option_map}
 use Rattle.std.proofs.Common.{sym, ap, ◌∙◌}
-use Rattle.sgb_search.specs.Split.{split, TakesPiece}
-use Rattle.sgb_search.specs.declared.end.End.{End}
+use Rattle.sgb_split.specs.Split.{split, TakesPiece}
+use Rattle.sgb_split.specs.declared.end.End.{End}
 use Rattle.slice_group_by.specs.Queue.{pops}
 use Rattle.slice_group_by.specs.Walk.{IsChain}
 use Rattle.slice_group_by.proofs.Queues.Chains.{chain_answers}

@@ -10,7 +10,7 @@ use Rattle.std.specs.declared.cmp.Ordering.{Ordering}
 use Rattle.std.specs.declared.cmp.Ordering.TheVariants.{Less, Equal, Greater}
 use Rattle.std.proofs.lemmas.Cmp.{ranked}
 use Rattle.std.proofs.lemmas.Iterator.{YieldsList, items_from_drains}
-use Rattle.sgb_search.proofs.Lists.Contained.{contains_cases, contains_head, contains_tail}
+use Rattle.sgb_split.proofs.Lists.Contained.{contains_cases, contains_head, contains_tail}
 
 module _ {A B F : Type 0} (shows : A → B) (g : Mut F (Bor A × Unit {0}) ℕ) (size : B → ℕ) (f : F) (computes : (x : A) (n : ℕ) (h : F) → CalledAt g f x n h → (h ≡ f) × (n ≡ size (shows x))) where
   abbrev size_of : A → ℕ

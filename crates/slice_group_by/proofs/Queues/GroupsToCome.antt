@@ -2,9 +2,9 @@
 use Rattle.std.proofs.Common.{◌≡◌, ℕ, ◌+◌, ◌-◌, ◌<◌, ◌≤◌, cond, List, [], ◌∷◌, ◌++◌, length, Option, None, Some, sym, ap, ◌∙◌, arith}
 use Rattle.std.specs.Prelude.{◌≢◌, option_map, count_by, is_some}
 use Rattle.std.proofs.lemmas.List.Sums.{sum_by-cons}
-use Rattle.sgb_search.specs.declared.end.End.{End}
-use Rattle.sgb_search.specs.Split.{TakesPart}
-use Rattle.sgb_search.proofs.Lists.Ends.{length-put_at}
+use Rattle.sgb_split.specs.declared.end.End.{End}
+use Rattle.sgb_split.specs.Split.{TakesPart}
+use Rattle.sgb_split.proofs.Lists.Ends.{length-put_at}
 use Rattle.slice_group_by.specs.Walk.{IsChain}
 
 some_length : {A : Type 0} (xs : List A) → xs ≢ [] → 0 < length xs

@@ -2,9 +2,9 @@
 use Rattle.std.proofs.Common.{◌≡◌, ◌≢◌, ℕ, ◌+◌, List, [], ◌∷◌, length, Option, Some, refl, ap, ◌∙◌, subst}
 use Rattle.std.specs.Iterator.{AlwaysYields}
 use Rattle.std.specs.List.{AllByRecursion}
-use Rattle.sgb_search.specs.Calls.{Place}
-use Rattle.sgb_search.specs.declared.end.End.{End}
-use Rattle.sgb_search.specs.declared.end.End.TheVariants.{Front}
+use Rattle.sgb_split.specs.Calls.{Place}
+use Rattle.sgb_split.specs.declared.end.End.{End}
+use Rattle.sgb_split.specs.declared.end.End.TheVariants.{Front}
 use Rattle.slice_group_by.specs.Keyed.{GivesWithKey, keyed, keyed_at}
 use Rattle.slice_group_by.specs.Offsets.{GivesWithOffset, TakesUnits}
 use Rattle.slice_group_by.specs.declared.adapters.keyed.WithKeys.{WithKeys}

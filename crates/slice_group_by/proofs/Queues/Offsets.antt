@@ -5,11 +5,11 @@ use Rattle.std.specs.Borrow.{Bor}
 use Rattle.std.specs.Iterator.{AlwaysYields, MakesProgress, Yields}
 use Rattle.std.specs.List.{AllByRecursion}
 use Rattle.std.specs.Str.{IsCharBoundary, IsUtf8}
-use Rattle.sgb_search.specs.Calls.{Place, StandsAt, place_after}
-use Rattle.sgb_search.specs.declared.end.End.{End}
-use Rattle.sgb_search.specs.declared.end.End.TheVariants.{Front, Back}
-use Rattle.sgb_search.proofs.Lists.Places.{first_stands, second_stands}
-use Rattle.sgb_search.specs.declared.judge.Judge.{Ghosts}
+use Rattle.sgb_split.specs.Calls.{Place, StandsAt, place_after}
+use Rattle.sgb_split.specs.declared.end.End.{End}
+use Rattle.sgb_split.specs.declared.end.End.TheVariants.{Front, Back}
+use Rattle.sgb_split.proofs.Lists.Places.{first_stands, second_stands}
+use Rattle.sgb_split.specs.declared.judge.Judge.{Ghosts}
 use Rattle.sgb_linear_str_group.specs.Texts.{GivesText, text_groups_of, text_place_of}
 use Rattle.sgb_linear_str_group.specs.declared.text_groups.LinearStrGroups.{LinearStrGroups}
 use Rattle.sgb_linear_str_group.proofs.Places.{part_is_between}

@@ -2,10 +2,10 @@
 use Rattle.std.proofs.Common.{◌≡◌, Bool, List, [], ◌∷◌, ◌++◌, map, Option, Some, sym, ap, ◌∙◌}
 use Rattle.std.specs.Prelude.{option_map}
 use Rattle.std.specs.Iterator.{Drains, Yields}
-use Rattle.sgb_search.specs.Split.{TakesPart, TakesPiece, last, split}
-use Rattle.sgb_search.specs.declared.end.End.{End}
-use Rattle.sgb_search.specs.declared.end.End.TheVariants.{Front}
-use Rattle.sgb_search.proofs.Splits.Split.{split_is}
+use Rattle.sgb_split.specs.Split.{TakesPart, TakesPiece, last, split}
+use Rattle.sgb_split.specs.declared.end.End.{End}
+use Rattle.sgb_split.specs.declared.end.End.TheVariants.{Front}
+use Rattle.sgb_split.proofs.Splits.Split.{split_is}
 use Rattle.sgb_stream_group.specs.declared.parts.Parts.{Parts}
 use Rattle.sgb_stream_group.specs.Streams.{GivesPart, across, as_parts, begins_at, with_parts}
 use Rattle.sgb_stream_group.proofs.FoldedParts.{AllSome}

@@ -5,14 +5,14 @@ use Rattle.std.specs.Iterator.{Yields, Drains, AlwaysYields}
 use Rattle.std.specs.Iterator.Adapters.{rev_source, rev_steps}
 use Rattle.std.specs.declared.iter.Rev.{Rev}
 use Rattle.std.proofs.lemmas.List.{append-nil, reverse-append}
-use Rattle.sgb_search.specs.Split.{from, put_at, TakesPart, item_at, without, last, without_last, concat, split, TakesPiece}
+use Rattle.sgb_split.specs.Split.{from, put_at, TakesPart, item_at, without, last, without_last, concat, split, TakesPiece}
 use Rattle.std.specs.List.{Contains}
 use Rattle.std.proofs.lemmas.List.Elements.{Contains-append_right}
-use Rattle.sgb_search.proofs.Lists.AllByRecursion.{all_contains, all_reverse, all_when}
-use Rattle.sgb_search.proofs.Lists.Contained.{contains_head}
-use Rattle.sgb_search.proofs.Splits.Split.{last_push, without_last_push}
-use Rattle.sgb_search.specs.declared.end.End.{End}
-use Rattle.sgb_search.specs.declared.end.End.TheVariants.{Front, Back}
+use Rattle.sgb_split.proofs.Lists.AllByRecursion.{all_contains, all_reverse, all_when}
+use Rattle.sgb_split.proofs.Lists.Contained.{contains_head}
+use Rattle.sgb_split.proofs.Splits.Split.{last_push, without_last_push}
+use Rattle.sgb_split.specs.declared.end.End.{End}
+use Rattle.sgb_split.specs.declared.end.End.TheVariants.{Front, Back}
 use Rattle.slice_group_by.proofs.Queues.Chains.{joined_push}
 
 item_first : {X : Type 0} (e : End) (x : X) (xs : List X) → item_at e (from e (x ∷ xs)) ≡ Some x

@@ -4,9 +4,9 @@ ghost use Rattle.std.specs.Borrow.{Bor};
 ghost use Rattle.std.specs.Iterator.{Drains, UpTo};
 ghost use Rattle.std.specs.Iterator.SizeHint.{IsWithinCount};
 ghost use Rattle.std.proofs.lemmas.Iterator.{YieldsList};
-ghost use Rattle.sgb_search.specs.Split.{from, split};
-ghost use Rattle.sgb_search.specs.declared.end.End.{End};
-ghost use Rattle.sgb_search.specs.declared.end.End.TheVariants.{Front, Back};
+ghost use Rattle.sgb_split.specs.Split.{from, split};
+ghost use Rattle.sgb_split.specs.declared.end.End.{End};
+ghost use Rattle.sgb_split.specs.declared.end.End.TheVariants.{Front, Back};
 ghost use Rattle.slice_group_by.specs.Dedup.{GivesCounted, counted, counted_groups, counts_to_come};
 ghost use Rattle.slice_group_by.specs.declared.adapters.dedup.DedupWithCount.{DedupWithCount};
 

@@ -6,15 +6,15 @@ ghost use Rattle.std.specs.Borrow.{Bor};
 ghost use Rattle.std.specs.List.{AllByRecursion};
 ghost use Rattle.std.specs.Str.{IsCharBoundary, IsUtf8};
 ghost use Rattle.std.proofs.lemmas.Iterator.{YieldsList};
-ghost use Rattle.sgb_search.specs.Calls.{Place, StandsAt};
-ghost use Rattle.sgb_search.specs.Split.{split};
+ghost use Rattle.sgb_split.specs.Calls.{Place, StandsAt};
+ghost use Rattle.sgb_split.specs.Split.{split};
 ghost use Rattle.slice_group_by.specs.Keyed.{GivesWithKey, groups_within, keyed_at};
 ghost use Rattle.slice_group_by.specs.declared.adapters.keyed.WithKeys.{WithKeys};
-ghost use Rattle.sgb_search.specs.declared.end.End.{End};
+ghost use Rattle.sgb_split.specs.declared.end.End.{End};
 ghost use Rattle.sgb_linear_str_group.specs.Texts.{GivesText, text_groups_of, text_place_of};
 ghost use Rattle.sgb_linear_str_group.specs.declared.text_groups.LinearStrGroups.{LinearStrGroups};
 ghost use Rattle.slice_group_by.specs.declared.adapters.offsets.WithOffsets.{WithOffsets};
-ghost use Rattle.sgb_search.specs.declared.end.End.TheVariants.{Front, Back};
+ghost use Rattle.sgb_split.specs.declared.end.End.TheVariants.{Front, Back};
 ghost use Rattle.slice_group_by.specs.Offsets.{TakesUnits, GivesWithOffset, groups_under, offsets_to_come, with_offsets};
 
 use crate::adapters::keyed::{Keyed, WithKeys, sees_keys};
@@ -23,7 +23,7 @@ use sgb_groups::groups::SliceGroups;
 use sgb_groups::way::Way;
 use sgb_linear_str_group::text_groups::LinearStrGroups;
 use sgb_linear_str_group::text_judge::TextJudge;
-use sgb_search::judge::Judge;
+use sgb_split::judge::Judge;
 use std::iter::FusedIterator;
 
 /// Groups that know where what remains begins in their input, in elements of a slice or bytes of a text: what `with_offsets`
@@ -207,8 +207,8 @@ impl<Q: Offsets> GroupQueue for WithOffsets<Q> {
     ghost use Rattle.std.specs.Prelude.{option_map};
     ghost use Rattle.slice_group_by.specs.Offsets.{GivesWithOffset};
     ghost use Rattle.std.proofs.Common.{ap};
-    ghost use Rattle.sgb_search.specs.Split.{TakesPart, TakesPiece};
-    ghost use Rattle.sgb_search.proofs.Questions.Calls.{read_at_once, asks_seen};
+    ghost use Rattle.sgb_split.specs.Split.{TakesPart, TakesPiece};
+    ghost use Rattle.sgb_split.proofs.Questions.Calls.{read_at_once, asks_seen};
 
     type Element = Q::Element;
 
@@ -276,8 +276,8 @@ impl<Q: Offsets + Keyed> Keyed for WithOffsets<Q> {
     type Key = Q::Key;
 
     ghost use Rattle.std.specs.Prelude.{option_map};
-    ghost use Rattle.sgb_search.specs.Split.{TakesPiece};
-    ghost use Rattle.sgb_search.proofs.Questions.Calls.{read_at_once};
+    ghost use Rattle.sgb_split.specs.Split.{TakesPiece};
+    ghost use Rattle.sgb_split.proofs.Questions.Calls.{read_at_once};
 
     ghost key_callable = { λ s. Q.Keyed.key_callable s.groups };
 

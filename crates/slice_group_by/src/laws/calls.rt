@@ -6,10 +6,10 @@ ghost use Rattle.std.specs.Iterator.Adapters.{rev_source, rev_steps};
 ghost use Rattle.std.specs.declared.iter.Rev.{Rev};
 ghost use Rattle.std.proofs.lemmas.Iterator.{YieldsList};
 ghost use Rattle.std.specs.List.{Contains};
-ghost use Rattle.sgb_search.specs.Split.{from, put_at, first, last, without, concat, IsAccepted, split};
-ghost use Rattle.sgb_search.specs.Judges.{AsksWithin};
-ghost use Rattle.sgb_search.specs.declared.end.End.{End};
-ghost use Rattle.sgb_search.specs.declared.end.End.TheVariants.{Front, Back};
+ghost use Rattle.sgb_split.specs.Split.{from, put_at, first, last, without, concat, IsAccepted, split};
+ghost use Rattle.sgb_split.specs.Judges.{AsksWithin};
+ghost use Rattle.sgb_split.specs.declared.end.End.{End};
+ghost use Rattle.sgb_split.specs.declared.end.End.TheVariants.{Front, Back};
 ghost use Rattle.slice_group_by.specs.Walk.{Partition, IsChain};
 ghost use Rattle.slice_group_by.specs.Queue.{after_pops, pops, pushed_at};
 

@@ -1,8 +1,8 @@
 //! Laws of the families of groups beside each other.
 ghost use Rattle.std.specs.Prelude.{◌≡◌, Bool, List, length, Option, Some, map, option_map};
-ghost use Rattle.sgb_search.specs.Calls.{ComputesBy};
+ghost use Rattle.sgb_split.specs.Calls.{ComputesBy};
 ghost use Rattle.std.specs.Borrow.{Bor};
-ghost use Rattle.sgb_search.specs.Split.{from, split, AreApart};
+ghost use Rattle.sgb_split.specs.Split.{from, split, AreApart};
 ghost use Rattle.std.specs.Fn.{ComputesOnPairs};
 ghost use Rattle.std.specs.Iterator.{Drains};
 ghost use Rattle.std.specs.Slice.Iter.{chunk_by_rest, chunk_by_callee};
@@ -10,13 +10,13 @@ ghost use Rattle.std.specs.declared.slice.ChunkBy.{ChunkBy};
 ghost use Rattle.std.proofs.lemmas.Iterator.{YieldsList};
 ghost use Rattle.slice_group_by.specs.Chunks.{chunk_calls};
 ghost use Rattle.sgb_search.specs.Searching.{IsLocalEnd};
-ghost use Rattle.sgb_search.specs.declared.end.End.{End};
+ghost use Rattle.sgb_split.specs.declared.end.End.{End};
 ghost use Rattle.slice_group_by.specs.Walk.{IsChain};
 
 use crate::laws::judged::Judged;
 use crate::laws::queue::GroupQueue;
 use sgb_groups::searching::{GroupSearch, Search};
-use sgb_search::judge::Judge;
+use sgb_split::judge::Judge;
 use std::slice::ChunkBy;
 
 /// The families agree: any two queues of groups that are settled for one test, of equal remainders, give groups of equal elements to

@@ -3,15 +3,15 @@
 ghost use Rattle.std.specs.Prelude.{ℕ, List, Option, Some, option_map, IfSome};
 ghost use Rattle.std.specs.Borrow.{GName};
 ghost use Rattle.std.specs.Str.{IsUtf8};
-ghost use Rattle.sgb_search.specs.declared.end.End.{End};
-ghost use Rattle.sgb_search.specs.Split.{TakesPart};
-ghost use Rattle.sgb_search.specs.Calls.{Groups, CallAt};
+ghost use Rattle.sgb_split.specs.declared.end.End.{End};
+ghost use Rattle.sgb_split.specs.Split.{TakesPart};
+ghost use Rattle.sgb_split.specs.Calls.{Groups, CallAt};
 ghost use Rattle.sgb_loans.specs.declared.loans.Loans.{Loans};
 ghost use Rattle.sgb_loans.specs.Loans.{HandsOut};
 
 use crate::laws::queue::GroupQueue;
 use sgb_groups::way::Way;
-use sgb_search::judge::Judge;
+use sgb_split::judge::Judge;
 
 /// Groups whose calls ask the judge `J` about elements in the way `W`.
 pub trait Judged<T, J: Judge<T>, W: Way>: GroupQueue<Element = T> {

@@ -56,11 +56,14 @@ pub use sgb_merge_join::laws::{
     sees_merge_by_keys, sees_merge_in_order, semi_joins_are_filters, unions_ascend,
 };
 pub use sgb_search::laws::{
+    ascending_is_grouped, ascending_is_searchable, range_places, searchable_is_partitioned,
+};
+pub use sgb_split::laws::{
     always_callable, always_callable_char_key, always_callable_chars, always_callable_key,
-    always_callable_on_elements, always_computes, ascending_is_grouped, ascending_is_searchable,
-    callable_on_elements, callable_on_pairs, callable_unchanged, callable_unchanged_char_key,
-    callable_unchanged_on_pairs, computes_on_elements, computes_on_pairs, equality_judges,
-    one_split, pairs_are_elements, range_places, searchable_is_partitioned, splits_join,
+    always_callable_on_elements, always_computes, callable_on_elements, callable_on_pairs,
+    callable_unchanged, callable_unchanged_char_key, callable_unchanged_on_pairs,
+    computes_on_elements, computes_on_pairs, equality_judges, one_split, pairs_are_elements,
+    splits_join,
 };
 pub use sorted::{is_sorted_for_groups, sorts_ascend};
 pub use streams::{

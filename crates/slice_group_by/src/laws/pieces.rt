@@ -6,7 +6,7 @@ ghost use Rattle.std.specs.List.Sorted.{IsStrictlySortedBy};
 ghost use Rattle.std.specs.declared.cmp.Ordering.TheVariants.{Less};
 ghost use Rattle.sgb_linear_group.specs.Best.{best_of_each};
 ghost use Rattle.sgb_search.specs.Search.{NeverDescends};
-ghost use Rattle.sgb_search.specs.Split.{first, split};
+ghost use Rattle.sgb_split.specs.Split.{first, split};
 ghost use Rattle.slice_group_by.specs.Dedup.{counted};
 ghost use Rattle.slice_group_by.specs.Keyed.{keyed};
 

@@ -3,7 +3,7 @@ ghost use Rattle.std.specs.Prelude.{◌≡◌, ℕ, ◌-◌, ◌<◌, ◌≤◌,
 ghost use Rattle.std.specs.List.{slice_get};
 ghost use Rattle.sgb_search.specs.Searching.{digits};
 ghost use Rattle.slice_group_by.specs.declared.laws.plans.Plan.{Plan};
-ghost use Rattle.sgb_search.specs.Split.{IsGrouped, first, split};
+ghost use Rattle.sgb_split.specs.Split.{IsGrouped, first, split};
 ghost use Rattle.slice_group_by.specs.Plans.{IsRefuted, IsRight, run};
 
 /// A plan of questions that finds how long the first group of a grouped slice is, by comparing its first element with others.

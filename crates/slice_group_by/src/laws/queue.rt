@@ -1,14 +1,14 @@
 //! Groups as a two-ended queue, and a walk over it.
 ghost use Rattle.std.specs.Borrow.{Bor, MutBor};
 ghost use Rattle.std.specs.Prelude.{◌≡◌, ℕ, ◌+◌, ◌<◌, Bool, List, length, Option, None, Some, map, option_map, reverse, ⊤};
-ghost use Rattle.sgb_search.specs.Split.{TakesPart, split, TakesPiece};
-ghost use Rattle.sgb_search.specs.Judges.{AsksWithin};
-ghost use Rattle.sgb_search.specs.declared.end.End.{End};
-ghost use Rattle.sgb_search.specs.declared.end.End.TheVariants.{Front, Back};
+ghost use Rattle.sgb_split.specs.Split.{TakesPart, split, TakesPiece};
+ghost use Rattle.sgb_split.specs.Judges.{AsksWithin};
+ghost use Rattle.sgb_split.specs.declared.end.End.{End};
+ghost use Rattle.sgb_split.specs.declared.end.End.TheVariants.{Front, Back};
 ghost use Rattle.slice_group_by.specs.Queue.{pops, after_pops};
 ghost use Rattle.slice_group_by.specs.Walk.{Partition, IsChain, AnswersAsQueue};
 
-pub use sgb_search::end::End;
+pub use sgb_split::end::End;
 
 /// An iterator over groups, as a two-ended queue of them.
 ///
@@ -113,9 +113,9 @@ pub trait SliceQueueMut<'a, T: 'a>: GroupQueue<Item = &'a mut [T], Element = T> 
 }
 
 #[inline]
-fn pop_at<Q: GroupQueue>(queue: &mut Q, end: &End) -> Option<Q::Item>
+fn pop_at<Q: GroupQueue>(queue: &mut Q, end: End) -> Option<Q::Item>
     requires { Q.can_pop queue.old }
-    ensures gives { Q.gives end.now queue.old result queue.new }
+    ensures gives { Q.gives end queue.old result queue.new }
     ensures can { Q.can_pop queue.new }
 {
     match end {
@@ -162,6 +162,6 @@ pub fn walk<Q: GroupQueue>(queue: &mut Q, ends: &[End], out: &mut [Option<Q::Ite
     ensures questions { AsksWithin Q.asked Q.due Q.exact queue.old queue.new }
 {
     for (i, end) in ends.iter().enumerate() {
-        out[i] = pop_at(queue, end);
+        out[i] = pop_at(queue, *end);
     }
 }

@@ -3,7 +3,7 @@ ghost use Rattle.std.specs.Prelude.{◌≡◌, ◌++◌, Bool, List, map, true};
 ghost use Rattle.std.specs.List.{IsAllAdjacentAnswer};
 ghost use Rattle.std.specs.List.Sorted.{IsSorted, IsSortedByKey};
 ghost use Rattle.std.specs.Ordering.{partial_le};
-ghost use Rattle.sgb_search.specs.Split.{IsGrouped};
+ghost use Rattle.sgb_split.specs.Split.{IsGrouped};
 ghost use Rattle.sgb_search.specs.Search.{NeverDescends};
 
 /// Whether no neighbouring pair of the slice descends. Then it is grouped for `==`, so that the binary and exponential

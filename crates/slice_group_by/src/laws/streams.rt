@@ -1,15 +1,15 @@
 //! Laws of groups that go on over the blocks of a stream.
 ghost use Rattle.std.specs.Prelude.{◌≡◌, ◌≢◌, ℕ, ◌+◌, ◌-◌, ◌*◌, ◌<◌, Bool, true, false, ◌&&◌, List, [], ◌∷◌, ◌++◌};
-ghost use Rattle.std.specs.Prelude.{length, Option, None, Some, count_by, map, option_map, slice_index_or, slice_set};
+ghost use Rattle.std.specs.Prelude.{length, Option, None, Some, count_by, flat_map, map, option_map, slice_index_or, slice_set};
 ghost use Rattle.std.specs.Borrow.{MutBor};
 ghost use Rattle.std.specs.Fn.{CalledAt};
 ghost use Rattle.std.specs.Iterator.{Drains, Yields};
 ghost use Rattle.std.specs.List.{fold};
-ghost use Rattle.sgb_search.specs.Judges.{IsRun};
-ghost use Rattle.sgb_search.specs.Split.{concat, last, neighbours, split};
-ghost use Rattle.sgb_search.specs.declared.end.End.TheVariants.{Front};
+ghost use Rattle.sgb_split.specs.Judges.{IsRun};
+ghost use Rattle.sgb_split.specs.Split.{concat, last, neighbours, split};
+ghost use Rattle.sgb_split.specs.declared.end.End.TheVariants.{Front};
 ghost use Rattle.sgb_stream_group.specs.declared.parts.Parts.{Parts};
-ghost use Rattle.sgb_stream_group.specs.Streams.{AsksEnds, GivesPart, across, add_part};
+ghost use Rattle.sgb_stream_group.specs.Streams.{AsksEnds, GivesPart, across, add_part, add_values, of_nonempty};
 ghost use Rattle.sgb_stream_group.specs.Streams.{as_parts, begins_at, begins_of, change_last, groups_in};
 ghost use Rattle.sgb_stream_group.specs.Streams.{last_after, pair_list, with_part, with_parts};
 ghost use Rattle.slice_group_by.specs.Counts.{RaisesJust};
@@ -17,7 +17,7 @@ ghost use Rattle.slice_group_by.specs.Counts.{RaisesJust};
 use crate::laws::judged::Judged;
 use crate::laws::queue::GroupQueue;
 use sgb_linear_group::linear_group::Linear;
-use sgb_search::judge::{Judge, KeyJudge};
+use sgb_split::judge::{Judge, KeyJudge};
 use sgb_stream_group::parts::Parts;
 
 /// The parts of a block, joined, are the block, and a group begins with each but perhaps the first, whatever the judge
@@ -59,9 +59,10 @@ pub fn parts_join<Q: GroupQueue>(_parts: &Parts<Q>)
 
 /// A fold over parts is a fold over groups. Of each group a value is kept, which `first` computes of its elements. Let `more`
 /// compute from the value of a part, and the elements that follow, the value of both. Then the values of the groups before,
-/// changed by `add_part` part by part, are those of the groups of all elements so far.
+/// changed by `add_part` part by part, are those of the groups of all elements so far (`map`). If `first` computes of the first
+/// element and the others, elements need no value for the empty list (`nonempty`).
 pub fn parts_fold<Q: GroupQueue, V>(_parts: &Parts<Q>)
-    ensures { (first : List Q.Element → V) (more : V → List Q.Element → V)
+    ensures map { (first : List Q.Element → V) (more : V → List Q.Element → V)
         → ((group part : List Q.Element) → group ≢ [] → part ≢ [] → more (first group) part ≡ first (group ++ part))
         → (p : Q.Element → Q.Element → Bool) (before block : List Q.Element) (values : List V)
         (s : Parts Q) (parts : List (Bool × Q.Item))
@@ -71,6 +72,16 @@ pub fn parts_fold<Q: GroupQueue, V>(_parts: &Parts<Q>)
         → Drains (GivesPart (Q.gives Front)) s parts
         → fold (λ values x. add_part first more values (x.0, Q.shows x.1)) values parts
         ≡ map first (split p (before ++ block)) }
+    ensures nonempty { (first : Q.Element → List Q.Element → V) (more : V → List Q.Element → V)
+        → ((x : Q.Element) (others part : List Q.Element) → part ≢ [] → more (first x others) part ≡ first x (others ++ part))
+        → (p : Q.Element → Q.Element → Bool) (before block : List Q.Element) (values : List V)
+        (s : Parts Q) (parts : List (Bool × Q.Item))
+        → values ≡ flat_map (of_nonempty first) (split p before)
+        → Q.is_settled (groups_in s) p → Q.remainder (groups_in s) ≡ block
+        → begins_of s ≡ begins_at p (across (last before) block)
+        → Drains (GivesPart (Q.gives Front)) s parts
+        → fold (λ values x. add_values (of_nonempty first) more values (x.0, Q.shows x.1)) values parts
+        ≡ flat_map (of_nonempty first) (split p (before ++ block)) }
 {}
 
 /// What `add_part` makes of a part that goes on, where the last value stands in a vector and is changed there, as by

@@ -4,8 +4,8 @@ ghost use Rattle.std.specs.Iterator.{Yields, Drains};
 ghost use Rattle.std.specs.Str.{chars, IsUtf8};
 ghost use Rattle.std.proofs.Math.Utf8.{encodes};
 ghost use Rattle.std.specs.List.{AllByRecursion};
-ghost use Rattle.sgb_search.specs.Split.{from, put_at, concat};
-ghost use Rattle.sgb_search.specs.declared.end.End.{End};
+ghost use Rattle.sgb_split.specs.Split.{from, put_at, concat};
+ghost use Rattle.sgb_split.specs.declared.end.End.{End};
 ghost use Rattle.slice_group_by.specs.Walk.{Partition, IsChain};
 
 use crate::laws::judged::OfText;

@@ -1,7 +1,7 @@
 //! What calls on groups for writing hand out, and what their notes keep.
 ghost use Rattle.std.specs.Prelude.{◌≡◌, Bool, List, ◌++◌, Option, Some, map};
-ghost use Rattle.sgb_search.specs.Split.{concat, split};
-ghost use Rattle.sgb_search.specs.declared.end.End.{End};
+ghost use Rattle.sgb_split.specs.Split.{concat, split};
+ghost use Rattle.sgb_split.specs.declared.end.End.{End};
 ghost use Rattle.sgb_loans.specs.Loans.{before_with, after_with};
 
 use crate::laws::judged::Lends;

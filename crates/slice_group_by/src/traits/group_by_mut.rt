@@ -1,11 +1,11 @@
 //! Groups for writing by a method of the slice.
 ghost use Rattle.std.specs.Prelude.{◌≡◌, Bool};
-ghost use Rattle.sgb_search.specs.Calls.{ComputesBy, IsCallableBy};
+ghost use Rattle.sgb_split.specs.Calls.{ComputesBy, IsCallableBy};
 ghost use Rattle.std.specs.Fn.{ComputesOnPairs, ComputesKey};
-ghost use Rattle.sgb_search.specs.Judges.{by_predicate, predicate_judge, by_key, key_judge, by_equality};
+ghost use Rattle.sgb_split.specs.Judges.{by_predicate, predicate_judge, by_key, key_judge, by_equality};
 ghost use Rattle.sgb_numbers.specs.Numbers.{by_number};
-ghost use Rattle.sgb_search.specs.Split.{IsGrouped, AreApart, AreNeighbours};
-ghost use Rattle.sgb_search.specs.Linear.{IsSettled};
+ghost use Rattle.sgb_split.specs.Split.{IsGrouped, AreApart, AreNeighbours};
+ghost use Rattle.sgb_split.specs.Linear.{IsSettled};
 ghost use Rattle.sgb_search.specs.Searching.{IsSettledApart};
 ghost use Rattle.sgb_groups.specs.Gives.{groups_of_mut};
 ghost use Rattle.sgb_loans.specs.Loans.{NothingOut};

@@ -1,9 +1,9 @@
 //! Groups by a method of the text.
 ghost use Rattle.std.specs.Prelude.{◌≡◌, ℕ, Bool, nat_eq};
-ghost use Rattle.sgb_search.specs.Calls.{IsCallableBy, at_start};
-ghost use Rattle.sgb_search.specs.Split.{AreNeighbours};
+ghost use Rattle.sgb_split.specs.Calls.{IsCallableBy, at_start};
+ghost use Rattle.sgb_split.specs.Split.{AreNeighbours};
 ghost use Rattle.std.specs.Str.{IsUtf8};
-ghost use Rattle.sgb_search.specs.Judges.{by_char_predicate, char_predicate_judge, ComputesOnChars, by_char_key, char_key_judge, ComputesCharKey, by_equality};
+ghost use Rattle.sgb_split.specs.Judges.{by_char_predicate, char_predicate_judge, ComputesOnChars, by_char_key, char_key_judge, ComputesCharKey, by_equality};
 ghost use Rattle.sgb_linear_str_group.specs.Texts.{text_groups_of, text_place_of, IsSettledText, in_characters};
 ghost use Rattle.sgb_linear_str_group.specs.TextsMut.{text_groups_of_mut};
 ghost use Rattle.sgb_loans.specs.Loans.{NothingOut};

@@ -8,7 +8,7 @@ use Rattle.example_counts.proofs.parts.count_in_shards.Goals as goal
 pub sum-requires-clause-fits : goal.sum-requires-clause-fits
 sum-requires-clause-fits c =
     let xs = c.args.slice.now in
-    let k = c.sees_shards.ensures nat_eq c.shards-shards.result c.args.slice.now
+    let k = c.sees_shards.ensures.shards nat_eq c.shards-shards.result c.args.slice.now
     (c.shards-shards.ensures.settled nat_eq (c.new.ensures.settled tt)) (search rules) in
     fits_by_from_yields_list (λ shard. length (split nat_eq shard)) k.0 c.map.result _
     (YieldsList-from_map _ (λ shard. length (split nat_eq shard)) (YieldsList-at c.map.ensures.source k.2) c.map.ensures.closure
@@ -17,7 +17,7 @@ sum-requires-clause-fits c =
 
 pub returns : goal.returns
 returns c =
-    let k = c.sees_shards.ensures nat_eq c.shards-shards.result c.args.slice.now
+    let k = c.sees_shards.ensures.shards nat_eq c.shards-shards.result c.args.slice.now
     (c.shards-shards.ensures.settled nat_eq (c.new.ensures.settled tt)) (search rules) in
     sum_by_from_yields_List (λ shard. length (split nat_eq shard)) k.0 c.map.result _ c.sum.ensures.ran
     (YieldsList-from_map _ (λ shard. length (split nat_eq shard)) (YieldsList-at c.map.ensures.source k.2) c.map.ensures.closure

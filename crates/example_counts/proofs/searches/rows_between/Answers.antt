@@ -11,5 +11,5 @@ returns c =
     let rows = c.args.rows.now in
     let ord : ℕ × ℕ → Ordering = λ row. between nat_cmp c.args.low c.args.high (key row) in
     let computes = c.always_computes.ensures rows ord _ (always_returns_same _ _ _ (λ a r f' k. search rules)) in
-    c.exponential_equal_places_by-places.ensures.filter ord computes
-    (c.ascending_is_searchable.ensures.between key c.args.low c.args.high rows c.requires)
+    c.range_places.ensures.filter ord rows _ _ (c.exponential_equal_places_by-places.ensures.range ord computes
+    (c.ascending_is_searchable.ensures.between key c.args.low c.args.high rows c.requires))

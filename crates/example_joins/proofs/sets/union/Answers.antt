@@ -1,5 +1,5 @@
-use Rattle.std.proofs.Common.{rules, subst, sym, ◌↔◌, ◌⊎◌}
-use Rattle.std.specs.List.{Contains}
+use Rattle.std.proofs.Common.{rules, subst, sym, ap, ◌∙◌, ◌↔◌, ◌⊎◌, ℕ, ◌+◌, List, length}
+use Rattle.std.specs.List.{Contains, filter}
 use Rattle.std.specs.Ordering.{nat_cmp}
 use Rattle.std.proofs.lemmas.Fn.{always_returns_same}
 use Rattle.std.proofs.lemmas.Iterator.{YieldsList-from_slice, items_from_collect}
@@ -7,7 +7,7 @@ use Rattle.std.proofs.lemmas.Iterator.Consumers.{YieldsList-at, YieldsList-from_
 use Rattle.std.proofs.lemmas.Iterator.Adapters.{YieldsList-from_flat_map}
 use Rattle.std.proofs.lemmas.Map.Lookups.{exact_unsigned}
 use Rattle.std.proofs.lemmas.Result.{IfOk-weaker}
-use Rattle.slice_group_by.specs.JoinKinds.{AlwaysAscends, once}
+use Rattle.slice_group_by.specs.JoinKinds.{AlwaysAscends, has_partner, once}
 use Rattle.example_joins.proofs.sets.union.Goals as goal
 
 pub returns : goal.returns
@@ -24,4 +24,7 @@ returns c =
       all = IfOk-weaker c.collect.result _ _ (λ v e x.
           subst (λ l. Contains l x ↔ (Contains c.args.left.now x ⊎ Contains c.args.right.now x)) (sym e)
           (law.all exact_unsigned _ _ seen.0 seen.1.merges x)) items;
+      size = IfOk-weaker c.collect.result _ _
+          (λ v e. ap (λ (l : List ℕ). length l + length (filter (has_partner nat_cmp c.args.left.now) c.args.right.now)) e
+          ∙ law.size _ _ seen.0 seen.1.merges) items;
     }

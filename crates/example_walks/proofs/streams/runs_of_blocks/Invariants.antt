@@ -1,10 +1,10 @@
-use Rattle.std.proofs.Common.{◌≡◌, flat_map, map, nat_eq, take}
+use Rattle.std.proofs.Common.{◌≡◌, flat_map, take}
 use Rattle.slice_group_by.specs.Split.{last, split}
-use Rattle.slice_group_by.specs.Streams.{kept_of}
+use Rattle.slice_group_by.specs.Streams.{kept_of, of_nonempty}
 use Rattle.example_walks.specs.Runs.{run_of}
 use Rattle.example_walks.proofs.streams.runs_of_blocks.Given as goal
 
 abbrev pub invariant-loop-block : goal.invariant-loop-block
-invariant-loop-block l =
+invariant-loop-block g l =
     (kept_of l.stream ≡ last (flat_map (λ block. block.now) (take l.block-index l.blocks)))
-    × (l.runs.items ≡ map run_of (split nat_eq (flat_map (λ block. block.now) (take l.block-index l.blocks))))
+    × (l.runs.items ≡ flat_map (of_nonempty run_of) (split g.T.PartialEq.eq (flat_map (λ block. block.now) (take l.block-index l.blocks))))

@@ -3,10 +3,10 @@ use Rattle.std.specs.Prelude.{slice_range}
 use Rattle.std.specs.Fn.{CalledAtTwo}
 use Rattle.std.proofs.lemmas.List.{drop_all, drop-drop, length-drop, take_all}
 use Rattle.std.proofs.lemmas.List.Sorted.{IsPermutation-trans}
-use Rattle.sgb_search.specs.Calls.{CallAt}
-use Rattle.sgb_search.specs.Linear.{LinearQuestions}
-use Rattle.sgb_search.specs.declared.end.End.TheVariants.{Front}
-use Rattle.sgb_search.proofs.Linear.LinearQueue.{keeps}
+use Rattle.sgb_split.specs.Calls.{CallAt}
+use Rattle.sgb_split.specs.Linear.{LinearQuestions}
+use Rattle.sgb_split.specs.declared.end.End.TheVariants.{Front}
+use Rattle.sgb_split.proofs.Linear.LinearQueue.{keeps}
 use Rattle.sgb_linear_group.proofs.BestOf.{call_at, each_more, swapped_kept, swapped_rest, yields_more}
 use Rattle.sgb_linear_group.proofs.best.partition_best.Goals as goal
 

@@ -3,10 +3,10 @@ use denote.Param.Always.{always_mut}
 use Rattle.std.specs.Fn.{CalledAtTwo}
 use Rattle.std.specs.Iterator.{Yields}
 use Rattle.std.specs.List.Sorted.{IsPermutation}
-use Rattle.sgb_search.specs.Calls.{CallAt, IsCallableBy}
-use Rattle.sgb_search.specs.Linear.{LinearQuestions}
-use Rattle.sgb_search.specs.Split.{AreNeighbours}
-use Rattle.sgb_search.specs.declared.end.End.TheVariants.{Front}
+use Rattle.sgb_split.specs.Calls.{CallAt, IsCallableBy}
+use Rattle.sgb_split.specs.Linear.{LinearQuestions}
+use Rattle.sgb_split.specs.Split.{AreNeighbours}
+use Rattle.sgb_split.specs.declared.end.End.TheVariants.{Front}
 use Rattle.sgb_linear_group.specs.Best.{KeepsOfEach}
 use Rattle.sgb_linear_group.proofs.best.partition_best.Given as goal
 

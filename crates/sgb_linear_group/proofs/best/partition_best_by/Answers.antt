@@ -1,4 +1,4 @@
-use Rattle.sgb_search.proofs.Questions.Closures.{predicate_settled}
+use Rattle.sgb_split.proofs.Questions.Closures.{predicate_settled}
 use Rattle.sgb_linear_group.proofs.BestOf.{kept_are_best}
 use Rattle.sgb_linear_group.proofs.best.partition_best_by.Goals as goal
 

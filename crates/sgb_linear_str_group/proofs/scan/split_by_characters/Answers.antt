@@ -36,7 +36,7 @@ loop-beyond-smaller g c =
 pub loop-beyond-preserved : goal.loop-beyond-preserved
 loop-beyond-preserved g c =
     let next = c.in-Some in
-    let pair : c.match-end.left ≡ as_they_stand c.args.end.now c.loop-beyond.innermost next.beyond = elim c.match-end.branch [
+    let pair : c.match-end.left ≡ as_they_stand c.args.end c.loop-beyond.innermost next.beyond = elim c.match-end.branch [
       | in-Front w ↦ rw w.in-Front.is w.left-is
       | in-Back w ↦ rw w.in-Back.is w.left-is
     ] in
@@ -58,14 +58,14 @@ pub returns : goal.returns
 returns g c =
     let i = c.loop-beyond.invariant.0 in
     let same = c.loop-beyond.invariant.1 in
-    let at_group = λ (group : List ℕ). IsTextAt g.J.Judge c.args.end.now
+    let at_group = λ (group : List ℕ). IsTextAt g.J.Judge c.args.end
     (record { text = c.args.text.now; judge = c.args.judge.now }) group
     (record { text = c.loop-beyond.rest.now; judge = c.match-next_character.judge }) in
     let found : at_group i.group = elim c.match-next_character.branch [
       | in_default w ↦ rw w.judge-is (found_all g.J.Judge _ _ _ _ _ _ i (sym same ∙ w.in_default.ensures))
       | in-Some+then-not-together w ↦
           let next = w.in-Some in
-          let pair : w.match-end.left ≡ as_they_stand c.args.end.now c.loop-beyond.innermost next.beyond = elim w.match-end.branch [
+          let pair : w.match-end.left ≡ as_they_stand c.args.end c.loop-beyond.innermost next.beyond = elim w.match-end.branch [
             | in-Front v ↦ rw v.in-Front.is v.left-is
             | in-Back v ↦ rw v.in-Back.is v.left-is
           ] in

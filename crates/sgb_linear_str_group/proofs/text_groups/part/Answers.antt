@@ -1,5 +1,5 @@
 use Rattle.std.proofs.Common.{sym, refl, ◌∙◌, arith}
-use Rattle.sgb_search.proofs.Lists.Between.{between_places, between_empty}
+use Rattle.sgb_split.proofs.Lists.Between.{between_places, between_empty}
 use Rattle.sgb_linear_str_group.specs.Texts.{lies_between_characters}
 use Rattle.sgb_linear_str_group.proofs.Places.{boundary_test, boundary_of_text, boundary_of_front}
 use Rattle.sgb_linear_str_group.proofs.text_groups.part.Goals as goal

@@ -1,7 +1,7 @@
 use Rattle.std.specs.Cmp.{back_total}
 use Rattle.std.specs.Ordering.{flip_args}
-use Rattle.sgb_search.proofs.Splits.AscendingGroups.{ascending_grouped, sorted_grouped}
-use Rattle.sgb_search.proofs.Lists.Order.{ties_back}
+use Rattle.sgb_search.proofs.Searches.AscendingGroups.{ascending_grouped, sorted_grouped}
+use Rattle.sgb_split.proofs.Lists.Order.{ties_back}
 use Rattle.sgb_search.proofs.laws.ascending_is_grouped.Goals as goal
 
 pub returns-clause-by_key : goal.returns-clause-by_key

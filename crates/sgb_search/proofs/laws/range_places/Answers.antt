@@ -1,4 +1,4 @@
-use Rattle.sgb_search.proofs.Searches.RangePlaces.{starts_at, ends_at, parted, range_at_counts, exactly}
+use Rattle.sgb_search.proofs.Searches.RangePlaces.{starts_at, ends_at, parted, range_at_counts, filters, exactly}
 use Rattle.sgb_search.proofs.laws.range_places.Goals as goal
 
 pub returns-clause-start : goal.returns-clause-start
@@ -12,6 +12,9 @@ returns-clause-whole g c = parted
 
 pub returns-clause-range : goal.returns-clause-range
 returns-clause-range g c = range_at_counts
+
+pub returns-clause-filter : goal.returns-clause-filter
+returns-clause-filter g c = filters
 
 pub returns-clause-exactly : goal.returns-clause-exactly
 returns-clause-exactly g c = exactly

@@ -1,5 +1,5 @@
 use Rattle.std.proofs.Common.{rules}
-use Rattle.sgb_search.proofs.Questions.Runs.{answers_same}
+use Rattle.sgb_split.proofs.Questions.Runs.{answers_same}
 use Rattle.sgb_search.proofs.Searches.Ascending.{ascends_itself}
 use Rattle.sgb_search.proofs.places.exponential_equal_places.Goals as goal
 
@@ -13,13 +13,3 @@ returns-clause-range g c =
 
 pub returns-clause-sorted : goal.returns-clause-sorted
 returns-clause-sorted g c up = returns-clause-range g c (ascends_itself g.T.Ord.cmp g.met.T.Ord.total c.args.elem.now c.args.slice.now up)
-
-pub returns-clause-start : goal.returns-clause-start
-returns-clause-start g c up =
-    c.exponential_equal_places_by.ensures.start (λ x. g.T.Ord.cmp x c.args.elem.now) (answers_same _ _ _ _ _ (λ q a t k. search rules))
-    (ascends_itself g.T.Ord.cmp g.met.T.Ord.total c.args.elem.now c.args.slice.now up)
-
-pub returns-clause-filter : goal.returns-clause-filter
-returns-clause-filter g c up =
-    c.exponential_equal_places_by.ensures.filter (λ x. g.T.Ord.cmp x c.args.elem.now) (answers_same _ _ _ _ _ (λ q a t k. search rules))
-    (ascends_itself g.T.Ord.cmp g.met.T.Ord.total c.args.elem.now c.args.slice.now up)

@@ -6,7 +6,7 @@ use Rattle.std.proofs.lemmas.List.Elements.{Contains-append_right}
 use Rattle.sgb_search.specs.Searching.{as_ordering}
 use Rattle.sgb_search.specs.Search.{IsLocalBoundary}
 use Rattle.sgb_search.specs.Ranges.{AsksPartition}
-use Rattle.sgb_search.proofs.Questions.OnElements.{callable_on_fewer, computes_on_fewer}
+use Rattle.sgb_split.proofs.Questions.OnElements.{callable_on_fewer, computes_on_fewer}
 use Rattle.sgb_search.proofs.Searches.SearchRuns.{may_go_on, answers_go_on}
 use Rattle.sgb_search.proofs.places.places.Goals as goal
 

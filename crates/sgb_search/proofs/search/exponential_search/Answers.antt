@@ -1,5 +1,5 @@
 use Rattle.std.proofs.Common.{rules}
-use Rattle.sgb_search.proofs.Questions.Runs.{answers_same}
+use Rattle.sgb_split.proofs.Questions.Runs.{answers_same}
 use Rattle.sgb_search.proofs.Searches.Ascending.{ascends_itself}
 use Rattle.sgb_search.proofs.search.exponential_search.Goals as goal
 

@@ -7,7 +7,7 @@ use sgb_groups::groups_mut::SliceGroupsMut;
 use sgb_groups::way::Way;
 use sgb_masks::byte_classes::{ByteClasses, ClassJudge};
 use sgb_masks::mask_groups::MaskGroups;
-use sgb_search::judge::KeyJudge;
+use sgb_split::judge::KeyJudge;
 
 impl<'a, T, F: FnMut(&T) -> K, K: PartialEq + Drop, W: Way> Keyed
     for SliceGroups<'a, T, KeyJudge<F, K>, W> {
@@ -18,10 +18,10 @@ impl<'a, T, F: FnMut(&T) -> K, K: PartialEq + Drop, W: Way> Keyed
     ghost use Rattle.std.proofs.Common.{sym, subst};
     ghost use Rattle.sgb_groups.specs.Gives.{groups_of, place_of};
     ghost use Rattle.sgb_groups.proofs.Cuts.{call};
-    ghost use Rattle.sgb_search.specs.Judges.{by_key};
-    ghost use Rattle.sgb_search.specs.declared.judge.KeyJudge.{KeyJudge};
-    ghost use Rattle.sgb_search.proofs.Lists.Ends.{less_remains};
-    ghost use Rattle.sgb_search.proofs.Questions.Closures as closures;
+    ghost use Rattle.sgb_split.specs.Judges.{by_key};
+    ghost use Rattle.sgb_split.specs.declared.judge.KeyJudge.{KeyJudge};
+    ghost use Rattle.sgb_split.proofs.Lists.Ends.{less_remains};
+    ghost use Rattle.sgb_split.proofs.Questions.Closures as closures;
     ghost use Rattle.slice_group_by.specs.Keyed.{CallsAtFirst};
 
     ghost key_callable = { λ q. F.IsAlwaysCallable q.judge.func };
@@ -80,10 +80,10 @@ impl<'a, T, F: FnMut(&T) -> K, K: PartialEq + Drop, W: Way> Keyed
     ghost use Rattle.std.specs.Fn.{CalledAt, ComputesKey};
     ghost use Rattle.std.proofs.Common.{sym, subst};
     ghost use Rattle.sgb_groups.specs.Gives.{groups_of_mut};
-    ghost use Rattle.sgb_search.specs.Judges.{by_key};
-    ghost use Rattle.sgb_search.specs.declared.judge.KeyJudge.{KeyJudge};
-    ghost use Rattle.sgb_search.proofs.Lists.Ends.{less_remains};
-    ghost use Rattle.sgb_search.proofs.Questions.Closures as closures;
+    ghost use Rattle.sgb_split.specs.Judges.{by_key};
+    ghost use Rattle.sgb_split.specs.declared.judge.KeyJudge.{KeyJudge};
+    ghost use Rattle.sgb_split.proofs.Lists.Ends.{less_remains};
+    ghost use Rattle.sgb_split.proofs.Questions.Closures as closures;
     ghost use Rattle.slice_group_by.specs.Keyed.{CallsAtFirst};
 
     ghost key_callable = { λ q. F.IsAlwaysCallable q.judge.func };
@@ -143,9 +143,9 @@ impl<'a, C: ByteClasses> Keyed for MaskGroups<'a, u8, ClassJudge<C>> {
     ghost use Rattle.sgb_masks.proofs.Queue.{call};
     ghost use Rattle.sgb_masks.specs.Classes.{by_class};
     ghost use Rattle.sgb_masks.specs.Gives.{groups_of};
-    ghost use Rattle.sgb_search.specs.Linear.{IsSettled};
-    ghost use Rattle.sgb_search.proofs.Linear.LinearQueue as laws;
-    ghost use Rattle.sgb_search.proofs.Lists.Ends.{less_remains};
+    ghost use Rattle.sgb_split.specs.Linear.{IsSettled};
+    ghost use Rattle.sgb_split.proofs.Linear.LinearQueue as laws;
+    ghost use Rattle.sgb_split.proofs.Lists.Ends.{less_remains};
 
     ghost key_callable = { λ _. ⊤ };
 

@@ -4,7 +4,7 @@ ghost use Rattle.std.specs.Prelude.{◌≡◌, ◌<◌, length};
 use crate::adapters::keyed::Keyed;
 use sgb_linear_str_group::text_groups::LinearStrGroups;
 use sgb_linear_str_group::text_groups_mut::LinearStrGroupsMut;
-use sgb_search::judge::CharKeyJudge;
+use sgb_split::judge::CharKeyJudge;
 
 impl<'a, F: FnMut(char) -> K, K: PartialEq + Drop> Keyed
     for LinearStrGroups<'a, CharKeyJudge<F, K>> {
@@ -12,9 +12,9 @@ impl<'a, F: FnMut(char) -> K, K: PartialEq + Drop> Keyed
 
     ghost use Rattle.std.specs.Str.{chars};
     ghost use Rattle.std.proofs.Common.{ap};
-    ghost use Rattle.sgb_search.specs.Judges.{by_char_key, CalledAtChar, ComputesCharKey};
-    ghost use Rattle.sgb_search.proofs.Lists.Ends.{less_remains};
-    ghost use Rattle.sgb_search.proofs.Questions.Closures as closures;
+    ghost use Rattle.sgb_split.specs.Judges.{by_char_key, CalledAtChar, ComputesCharKey};
+    ghost use Rattle.sgb_split.proofs.Lists.Ends.{less_remains};
+    ghost use Rattle.sgb_split.proofs.Questions.Closures as closures;
     ghost use Rattle.sgb_linear_str_group.specs.Texts.{text_groups_of, text_place_of};
     ghost use Rattle.sgb_linear_str_group.proofs.Queue as queue;
     ghost use Rattle.slice_group_by.specs.Keyed.{CallsAtFirst};
@@ -69,9 +69,9 @@ impl<'a, F: FnMut(char) -> K, K: PartialEq + Drop> Keyed
 
     ghost use Rattle.std.specs.Str.{IsUtf8, chars};
     ghost use Rattle.std.proofs.Common.{ap};
-    ghost use Rattle.sgb_search.specs.Judges.{by_char_key, CalledAtChar, ComputesCharKey};
-    ghost use Rattle.sgb_search.proofs.Lists.Ends.{less_remains};
-    ghost use Rattle.sgb_search.proofs.Questions.Closures as closures;
+    ghost use Rattle.sgb_split.specs.Judges.{by_char_key, CalledAtChar, ComputesCharKey};
+    ghost use Rattle.sgb_split.proofs.Lists.Ends.{less_remains};
+    ghost use Rattle.sgb_split.proofs.Questions.Closures as closures;
     ghost use Rattle.sgb_linear_str_group.specs.TextsMut.{text_groups_of_mut};
     ghost use Rattle.sgb_linear_str_group.proofs.Queue as queue;
     ghost use Rattle.slice_group_by.specs.Keyed.{CallsAtFirst};

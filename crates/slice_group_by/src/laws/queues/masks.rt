@@ -14,12 +14,12 @@ impl<'a, T, J: MaskJudge<T> + Drop> GroupQueue for MaskGroups<'a, T, J> {
     ghost use Rattle.std.specs.Prelude.{true, length, option_copied};
     ghost use Rattle.sgb_masks.proofs.Queue.{call};
     ghost use Rattle.sgb_masks.specs.Gives.{groups_of, Gives};
-    ghost use Rattle.sgb_search.specs.Judges.{IsRunOf};
-    ghost use Rattle.sgb_search.specs.Linear.{IsSettled, LinearQuestions};
-    ghost use Rattle.sgb_search.specs.Split.{neighbours};
-    ghost use Rattle.sgb_search.proofs.Linear.LinearQueue as laws;
-    ghost use Rattle.sgb_search.proofs.Questions.Calls.{part, asks_seen};
-    ghost use Rattle.sgb_search.proofs.Questions.Runs.{run_of_none, run_of_more};
+    ghost use Rattle.sgb_split.specs.Judges.{IsRunOf};
+    ghost use Rattle.sgb_split.specs.Linear.{IsSettled, LinearQuestions};
+    ghost use Rattle.sgb_split.specs.Split.{neighbours};
+    ghost use Rattle.sgb_split.proofs.Linear.LinearQueue as laws;
+    ghost use Rattle.sgb_split.proofs.Questions.Calls.{part, asks_seen};
+    ghost use Rattle.sgb_split.proofs.Questions.Runs.{run_of_none, run_of_more};
 
     type Element = T;
 

@@ -6,18 +6,18 @@ use crate::laws::queue::{GroupQueue, RemainderLen, SliceQueue, SliceQueueMut};
 use sgb_groups::groups::SliceGroups;
 use sgb_groups::groups_mut::SliceGroupsMut;
 use sgb_groups::way::Way;
-use sgb_search::end::End;
-use sgb_search::judge::Judge;
+use sgb_split::end::End;
+use sgb_split::judge::Judge;
 
 impl<'a, T, J: Judge<T>, W: Way> GroupQueue for SliceGroups<'a, T, J, W> {
     type Item = &'a [T];
 
     ghost use Rattle.std.specs.Prelude.{option_copied};
     ghost use Rattle.sgb_groups.proofs.Cuts.{call};
-    ghost use Rattle.sgb_search.specs.Calls.{IsCallableBy};
-    ghost use Rattle.sgb_search.specs.Judges.{IsRunOf};
-    ghost use Rattle.sgb_search.proofs.Questions.Calls.{part, asks_seen};
-    ghost use Rattle.sgb_search.proofs.Questions.Runs.{run_of_none, run_of_more};
+    ghost use Rattle.sgb_split.specs.Calls.{IsCallableBy};
+    ghost use Rattle.sgb_split.specs.Judges.{IsRunOf};
+    ghost use Rattle.sgb_split.proofs.Questions.Calls.{part, asks_seen};
+    ghost use Rattle.sgb_split.proofs.Questions.Runs.{run_of_none, run_of_more};
     ghost use Rattle.sgb_groups.specs.Gives.{groups_of, Gives};
 
     type Element = T;
@@ -40,12 +40,12 @@ impl<'a, T, J: Judge<T>, W: Way> GroupQueue for SliceGroups<'a, T, J, W> {
 
     #[inline]
     fn pop_front(&mut self) -> Option<&'a [T]> {
-        self.next_at(&End::Front)
+        self.next_at(End::Front)
     }
 
     #[inline]
     fn pop_back(&mut self) -> Option<&'a [T]> {
-        self.next_at(&End::Back)
+        self.next_at(End::Back)
     }
 
     ghost part = { λ e s group t h. part (W.asks T J J.Judge) e (groups_of s) (option_copied group) (groups_of t)
@@ -99,10 +99,10 @@ impl<'a, T, J: Judge<T>, W: Way> GroupQueue for SliceGroupsMut<'a, T, J, W> {
     type Item = &'a mut [T];
 
     ghost use Rattle.std.specs.Option.{option_copied_mut};
-    ghost use Rattle.sgb_search.specs.Judges.{IsRunOf};
-    ghost use Rattle.sgb_search.proofs.Questions.Calls.{part, asks_seen};
-    ghost use Rattle.sgb_search.proofs.Questions.Runs.{run_of_none, run_of_more};
-    ghost use Rattle.sgb_search.specs.Calls.{IsCallableBy};
+    ghost use Rattle.sgb_split.specs.Judges.{IsRunOf};
+    ghost use Rattle.sgb_split.proofs.Questions.Calls.{part, asks_seen};
+    ghost use Rattle.sgb_split.proofs.Questions.Runs.{run_of_none, run_of_more};
+    ghost use Rattle.sgb_split.specs.Calls.{IsCallableBy};
     ghost use Rattle.sgb_groups.specs.Gives.{groups_of_mut, GivesMut};
 
     type Element = T;
@@ -125,12 +125,12 @@ impl<'a, T, J: Judge<T>, W: Way> GroupQueue for SliceGroupsMut<'a, T, J, W> {
 
     #[inline]
     fn pop_front(&mut self) -> Option<&'a mut [T]> {
-        self.next_at(&End::Front)
+        self.next_at(End::Front)
     }
 
     #[inline]
     fn pop_back(&mut self) -> Option<&'a mut [T]> {
-        self.next_at(&End::Back)
+        self.next_at(End::Back)
     }
 
     ghost part = { λ e s group t h. part (W.asks T J J.Judge) e (groups_of_mut s) (option_copied_mut group) (groups_of_mut t) h.0 };

@@ -5,17 +5,17 @@ use sgb_linear_group::linear_group::Linear;
 use sgb_linear_str_group::text_groups::LinearStrGroups;
 use sgb_linear_str_group::text_groups_mut::LinearStrGroupsMut;
 use sgb_linear_str_group::text_judge::TextJudge;
-use sgb_search::end::End;
+use sgb_split::end::End;
 
 impl<'a, J: TextJudge> GroupQueue for LinearStrGroups<'a, J> {
     type Item = &'a str;
 
     ghost use Rattle.std.specs.Prelude.{length, true};
-    ghost use Rattle.sgb_search.specs.Calls.{IsCallableBy};
+    ghost use Rattle.sgb_split.specs.Calls.{IsCallableBy};
     ghost use Rattle.std.specs.Str.{chars};
-    ghost use Rattle.sgb_search.specs.Split.{neighbours, AreNeighbours};
-    ghost use Rattle.sgb_search.specs.Judges.{IsRunOf};
-    ghost use Rattle.sgb_search.proofs.Questions.Runs.{run_of_none, run_of_more};
+    ghost use Rattle.sgb_split.specs.Split.{neighbours, AreNeighbours};
+    ghost use Rattle.sgb_split.specs.Judges.{IsRunOf};
+    ghost use Rattle.sgb_split.proofs.Questions.Runs.{run_of_none, run_of_more};
     ghost use Rattle.sgb_linear_str_group.specs.Texts.{text_groups_of, IsSettledText, GivesText, in_characters};
     ghost use Rattle.sgb_linear_str_group.proofs.Queue as laws;
 
@@ -39,12 +39,12 @@ impl<'a, J: TextJudge> GroupQueue for LinearStrGroups<'a, J> {
 
     #[inline]
     fn pop_front(&mut self) -> Option<&'a str> {
-        self.next_at(&End::Front)
+        self.next_at(End::Front)
     }
 
     #[inline]
     fn pop_back(&mut self) -> Option<&'a str> {
-        self.next_at(&End::Back)
+        self.next_at(End::Back)
     }
 
     ghost part = { λ e q r t h. laws.part J.Judge e text_groups_of (λ group. group.now) q r t
@@ -110,10 +110,10 @@ impl<'a, J: TextJudge> GroupQueue for LinearStrGroupsMut<'a, J> {
 
     ghost use Rattle.std.specs.Prelude.{length, true};
     ghost use Rattle.std.specs.Str.{chars};
-    ghost use Rattle.sgb_search.specs.Calls.{IsCallableBy};
-    ghost use Rattle.sgb_search.specs.Split.{neighbours, AreNeighbours};
-    ghost use Rattle.sgb_search.specs.Judges.{IsRunOf};
-    ghost use Rattle.sgb_search.proofs.Questions.Runs.{run_of_none, run_of_more};
+    ghost use Rattle.sgb_split.specs.Calls.{IsCallableBy};
+    ghost use Rattle.sgb_split.specs.Split.{neighbours, AreNeighbours};
+    ghost use Rattle.sgb_split.specs.Judges.{IsRunOf};
+    ghost use Rattle.sgb_split.proofs.Questions.Runs.{run_of_none, run_of_more};
     ghost use Rattle.sgb_linear_str_group.specs.Texts.{IsSettledText, in_characters};
     ghost use Rattle.sgb_linear_str_group.specs.TextsMut.{text_groups_of_mut, GivesTextMut};
     ghost use Rattle.sgb_linear_str_group.proofs.Queue as laws;
@@ -138,12 +138,12 @@ impl<'a, J: TextJudge> GroupQueue for LinearStrGroupsMut<'a, J> {
 
     #[inline]
     fn pop_front(&mut self) -> Option<&'a mut [u8]> {
-        self.next_at(&End::Front)
+        self.next_at(End::Front)
     }
 
     #[inline]
     fn pop_back(&mut self) -> Option<&'a mut [u8]> {
-        self.next_at(&End::Back)
+        self.next_at(End::Back)
     }
 
     ghost part = { λ e q r t h. laws.part J.Judge e text_groups_of_mut (λ group. group.now) q r t h.0 };

@@ -4,10 +4,10 @@ use Rattle.std.specs.List.{AllByRecursion}
 use Rattle.std.specs.Ordering.{nat_cmp}
 use Rattle.std.specs.declared.cmp.Ordering.{Ordering}
 use Rattle.std.specs.declared.cmp.Ordering.TheVariants.{Less, Equal, Greater}
-use Rattle.sgb_search.proofs.Lists.AllByRecursion.{all_contains}
+use Rattle.sgb_split.proofs.Lists.AllByRecursion.{all_contains}
 use Rattle.test_cases.specs.Stair.{stair}
 use Rattle.slice_group_by.specs.Merge.{AllStand}
-use Rattle.sgb_search.proofs.Lists.Contained.{contains_head, contains_tail}
+use Rattle.sgb_split.proofs.Lists.Contained.{contains_head, contains_tail}
 use Rattle.sgb_merge_join.proofs.Merges.Sorted as converse
 use Rattle.test_cases.proofs.definitions.merge_cases.Goals as goal
 

@@ -1,11 +1,11 @@
-use Rattle.std.proofs.Common.{◌≡◌, ℕ, List, Option, Some, None, IfSome, Result, Ok, Err, sym, subst, ◌∙◌, refl}
-use Rattle.std.specs.Prelude.{OnOk}
+use Rattle.std.proofs.Common.{◌≡◌, ℕ, List, Option, Some, None, IfSome, sym, subst, ◌∙◌, refl}
 use Rattle.std.specs.Str.{chars}
 use Rattle.std.specs.Io.KnownBytes.{Appends}
 use Rattle.std.proofs.KnownBytes.{Appends-kept}
 use Rattle.slice_group_by.specs.AsciiClass.{AsciiClass}
 use Rattle.slice_group_by.specs.AsciiClass.TheVariants.{Letter, Digit, Space, Other}
 use Rattle.slice_group_by.specs.Counted.{count_of}
+use Rattle.program_parts.proofs.Appended.{on_ok}
 use Rattle.token_counter.specs.Tokens.{report, token_count}
 use Rattle.token_counter.proofs.program.report_tokens.Given.{Over}
 use Rattle.token_counter.proofs.program.report_tokens.Goals as goal
@@ -17,11 +17,6 @@ report_same f g h = rw (h Letter, h Digit, h Space, h Other) refl
 where_known : (known : Option (List ℕ)) (P Q : List ℕ → Type 0) → ((bytes : List ℕ) → P bytes → Q bytes) → IfSome known P → IfSome known Q
 where_known None P Q f p = tt
 where_known (Some bytes) P Q f p = f bytes p
-
--- what always holds does so on `Ok`
-on_ok : {T E P : Type 0} (r : Result T E) → P → OnOk r P
-on_ok (Ok x) p = p
-on_ok (Err e) p = tt
 
 module _ (g : Over) (c : goal.After-flush g) where
   printed : (text : List ℕ) → ((k : AsciiClass) → count_of k c.in_ok-counts.counts ≡ token_count k text)

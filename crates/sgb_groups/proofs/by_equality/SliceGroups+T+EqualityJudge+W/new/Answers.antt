@@ -1,4 +1,4 @@
-use Rattle.sgb_search.proofs.Questions.Equality.{equality_settled}
+use Rattle.sgb_split.proofs.Questions.Equality.{equality_settled}
 use Rattle.sgb_groups.proofs.by_equality.SliceGroups+T+EqualityJudge+W.new.Goals as goal
 
 pub returns-clause-computes : goal.returns-clause-computes

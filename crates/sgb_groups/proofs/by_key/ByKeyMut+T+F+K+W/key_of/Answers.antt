@@ -1,6 +1,6 @@
 use Rattle.std.proofs.Common.{ap, refl, rules, subst, sym}
 use Rattle.std.specs.Fn.{CalledAt}
-use Rattle.sgb_search.proofs.Questions.Closures.{key_called, key_callable, key_next, key_settled, callable_after_call}
+use Rattle.sgb_split.proofs.Questions.Closures.{key_called, key_callable, key_next, key_settled, callable_after_call}
 use Rattle.sgb_groups.proofs.by_key.ByKeyMut+T+F+K+W.key_of.Goals as goal
 
 pub returns-clause-called : goal.returns-clause-called

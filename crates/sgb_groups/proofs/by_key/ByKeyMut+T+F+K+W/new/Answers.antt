@@ -1,4 +1,4 @@
-use Rattle.sgb_search.proofs.Questions.Closures.{key_settled}
+use Rattle.sgb_split.proofs.Questions.Closures.{key_settled}
 use Rattle.sgb_groups.proofs.by_key.ByKeyMut+T+F+K+W.new.Goals as goal
 
 pub returns-clause-callable : goal.returns-clause-callable

@@ -1,4 +1,4 @@
-use Rattle.sgb_search.proofs.Questions.Closures.{predicate_settled}
+use Rattle.sgb_split.proofs.Questions.Closures.{predicate_settled}
 use Rattle.sgb_groups.proofs.by_predicate.SliceGroups+T+PredicateJudge+P+W.new.Goals as goal
 
 pub returns-clause-computes : goal.returns-clause-computes

@@ -1,5 +1,5 @@
 use Rattle.std.proofs.Common.{Some, List, refl, subst, arith}
-use Rattle.sgb_search.specs.Judges.{IsCallable}
+use Rattle.sgb_split.specs.Judges.{IsCallable}
 use Rattle.sgb_groups.proofs.Cuts.{part_is, moved_behind, front_cut, back_cut}
 use Rattle.sgb_groups.proofs.groups.SliceGroups.next_at.Goals as goal
 

@@ -1,6 +1,6 @@
 use Rattle.std.proofs.Common.{List, take, drop, length, sym, ap, subst, ◌∙◌, arith}
 use Rattle.std.proofs.lemmas.List.{take-append-drop, length-append, length-drop}
-use Rattle.sgb_search.specs.Calls.{IsCallableBy}
+use Rattle.sgb_split.specs.Calls.{IsCallableBy}
 use Rattle.sgb_groups.specs.Gives.{groups_of}
 use Rattle.sgb_groups.proofs.groups.SliceGroups.next_from.Goals as goal
 

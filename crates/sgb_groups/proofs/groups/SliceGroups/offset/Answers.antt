@@ -1,6 +1,6 @@
 use Rattle.std.proofs.Common.{length, refl, arith}
 use Rattle.std.proofs.Math.Nat.{min-eq_left, min-le_right}
-use Rattle.sgb_search.proofs.Lists.Places.{stands}
+use Rattle.sgb_split.proofs.Lists.Places.{stands}
 use Rattle.sgb_groups.specs.Gives.{lies_within}
 use Rattle.sgb_groups.proofs.Cuts.{place_within}
 use Rattle.sgb_groups.proofs.groups.SliceGroups.offset.Goals as goal

@@ -1,5 +1,5 @@
 use Rattle.std.proofs.Common.{arith}
-use Rattle.sgb_search.proofs.Lists.Between.{between_empty}
+use Rattle.sgb_split.proofs.Lists.Between.{between_empty}
 use Rattle.sgb_groups.specs.Gives.{lies_within}
 use Rattle.sgb_groups.proofs.Cuts.{place_within}
 use Rattle.sgb_groups.proofs.groups.SliceGroups.places.Goals as goal

@@ -1,5 +1,5 @@
 use Rattle.std.proofs.Common.{arith}
-use Rattle.sgb_search.proofs.Lists.Between.{between_ends}
+use Rattle.sgb_split.proofs.Lists.Between.{between_ends}
 use Rattle.sgb_groups.specs.Gives.{lies_within}
 use Rattle.sgb_groups.proofs.Cuts.{within_place}
 use Rattle.sgb_groups.proofs.groups.SliceGroups.with_judge.Goals as goal

@@ -1,5 +1,5 @@
 use Rattle.std.proofs.Common.{arith}
-use Rattle.sgb_search.specs.declared.end.End.TheVariants.{Front, Back}
+use Rattle.sgb_split.specs.declared.end.End.TheVariants.{Front, Back}
 use Rattle.sgb_groups.proofs.Outward.{reads_front, reads_back, search_may, search_asks}
 use Rattle.sgb_groups.proofs.searching.SearchWay.group_len.Goals.{in-Front, in-Back}
 use Rattle.sgb_groups.proofs.searching.SearchWay.group_len.Goals as goal

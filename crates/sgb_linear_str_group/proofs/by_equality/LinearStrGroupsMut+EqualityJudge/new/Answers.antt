@@ -1,5 +1,5 @@
 use Rattle.std.proofs.Common.{nat_eq}
-use Rattle.sgb_search.proofs.Questions.Equality.{equality_settled}
+use Rattle.sgb_split.proofs.Questions.Equality.{equality_settled}
 use Rattle.sgb_linear_str_group.proofs.by_equality.LinearStrGroupsMut+EqualityJudge.new.Goals as goal
 
 pub returns-clause-settled : goal.returns-clause-settled

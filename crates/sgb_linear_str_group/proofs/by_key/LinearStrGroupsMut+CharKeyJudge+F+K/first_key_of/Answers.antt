@@ -1,5 +1,5 @@
 use Rattle.std.proofs.Common.{◌≡◌, ap, ◌∙◌, rules}
-use Rattle.sgb_search.proofs.Questions.Closures.{char_key_called, char_key_callable, char_key_next, char_key_settled}
+use Rattle.sgb_split.proofs.Questions.Closures.{char_key_called, char_key_callable, char_key_next, char_key_settled}
 use Rattle.sgb_linear_str_group.proofs.by_key.LinearStrGroupsMut+CharKeyJudge+F+K.first_key_of.Goals as goal
 
 pub returns-clause-called : goal.returns-clause-called

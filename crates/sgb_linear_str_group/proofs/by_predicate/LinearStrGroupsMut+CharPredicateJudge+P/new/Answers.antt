@@ -1,4 +1,4 @@
-use Rattle.sgb_search.proofs.Questions.Closures.{char_predicate_settled}
+use Rattle.sgb_split.proofs.Questions.Closures.{char_predicate_settled}
 use Rattle.sgb_linear_str_group.proofs.by_predicate.LinearStrGroupsMut+CharPredicateJudge+P.new.Goals as goal
 
 pub returns-clause-settled : goal.returns-clause-settled

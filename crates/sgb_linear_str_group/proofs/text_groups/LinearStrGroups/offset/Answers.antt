@@ -1,5 +1,5 @@
 use Rattle.std.proofs.Common.{refl, arith}
-use Rattle.sgb_search.proofs.Lists.Places.{stands}
+use Rattle.sgb_split.proofs.Lists.Places.{stands}
 use Rattle.sgb_linear_str_group.specs.Texts.{lies_between_characters}
 use Rattle.sgb_linear_str_group.proofs.Places.{place_or_end_is_boundary, place_or_end_is_place, place_within}
 use Rattle.sgb_linear_str_group.proofs.text_groups.LinearStrGroups.offset.Goals as goal

@@ -33,7 +33,7 @@ use denote.Triple.Table.{framed}
 use denote.Triple.Walked.{Stays, walk_of, stay_dropped, Goes-dropped}
 use Rattle.std.proofs.cell.Inside.{one}
 use Rattle.std.proofs.raw_atomic.Walks.{proved_at, leaves}
-use Rattle.sgb_search.specs.declared.end.End.TheVariants.{Back}
+use Rattle.sgb_split.specs.declared.end.End.TheVariants.{Back}
 use Rattle.sgb_loans.proofs.Parts.{Part, part_laws}
 use Rattle.sgb_loans.proofs.Tokens.{ends_after}
 use Rattle.sgb_loans.proofs.loans.Last.TheLaws as last_laws

@@ -14,7 +14,7 @@ split_group-requires g c =
 
 pub returns-clause-gives : goal.returns-clause-gives
 returns-clause-gives g c =
-    let given = cut_alike g.J.Judge c.args.end.now _ _ _ _ _ (rw c.unwrap.ensures at c.split_group.ensures) in
+    let given = cut_alike g.J.Judge c.args.end _ _ _ _ _ (rw c.unwrap.ensures at c.split_group.ensures) in
     let cut = c.cut-group.ensures in
     let at = given _ _ (c.text_of.ensures ∙ cut.value) cut.len in
     grind (arith, common_steps, at)
@@ -25,6 +25,6 @@ returns-clause-callable g c =
 
 pub invariant_of-self : goal.invariant_of-self
 invariant_of-self g c =
-    let given = cut_alike g.J.Judge c.args.end.now _ _ _ _ _ (rw c.unwrap.ensures at c.split_group.ensures) in
+    let given = cut_alike g.J.Judge c.args.end _ _ _ _ _ (rw c.unwrap.ensures at c.split_group.ensures) in
     let cut = c.cut-group.ensures in
     record { utf8 = (given _ _ (c.text_of.ensures ∙ cut.value) cut.len).rest_utf8; rest = cut.rest }

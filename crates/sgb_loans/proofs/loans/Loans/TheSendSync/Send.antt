@@ -4,7 +4,7 @@ use base.Fml.{GName}
 use base.Shift.{Keyless}
 use denote.RattleType.{RattleType}
 use denote.Param.Send.{IsSend, owning_send, sendable}
-use Rattle.sgb_search.specs.declared.end.End.{End}
+use Rattle.sgb_split.specs.declared.end.End.{End}
 use Rattle.sgb_loans.specs.Loans.{loan_owns, before_with, after_with}
 use Rattle.sgb_loans.specs.contracts.loans.Loans.{the_row, the_type}
 

@@ -1,5 +1,5 @@
 -- The slice is split, and the link between its name and the parts' is kept.
-use Rattle.sgb_search.specs.contracts.end.End as ends
+use Rattle.sgb_split.specs.contracts.end.End as ends
 use Rattle.std.proofs.Common.{◌≡◌, ℕ, ◌≤◌, List, [], ◌∷◌, ◌++◌, length, refl, sym, subst}
 use mir.Syntax.{a_type, named, w64}
 use mir.Val.{Val, vptr, vint}

@@ -1,6 +1,6 @@
 -- The one part that is out ended as the token says.
-use Rattle.sgb_search.specs.declared.end.End.{End}
-use Rattle.sgb_search.specs.contracts.end.End as ends
+use Rattle.sgb_split.specs.declared.end.End.{End}
+use Rattle.sgb_split.specs.contracts.end.End as ends
 use Rattle.std.proofs.Common.{◌≡◌, ℕ, List, [], ◌∷◌, ◌++◌, refl, sym, subst, drop}
 use mir.Syntax.{a_type}
 use mir.Val.{Val, vptr, vunit}

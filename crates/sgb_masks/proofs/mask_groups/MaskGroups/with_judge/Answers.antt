@@ -1,6 +1,6 @@
 use Rattle.std.specs.Prelude.{⊤}
-use Rattle.sgb_search.specs.Split.{AreNeighbours, on_pairs}
-use Rattle.sgb_search.proofs.Questions.Runs.{answers_by}
+use Rattle.sgb_split.specs.Split.{AreNeighbours, on_pairs}
+use Rattle.sgb_split.proofs.Questions.Runs.{answers_by}
 use Rattle.sgb_masks.proofs.mask_groups.MaskGroups.with_judge.Goals as goal
 
 pub returns-clause-settled : goal.returns-clause-settled

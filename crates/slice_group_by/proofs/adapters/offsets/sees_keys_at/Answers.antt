@@ -1,6 +1,6 @@
 use Rattle.std.proofs.lemmas.Iterator.{items_from_drains}
-use Rattle.sgb_search.proofs.Splits.Split.{split_is}
-use Rattle.sgb_search.specs.declared.end.End.TheVariants.{Front}
+use Rattle.sgb_split.proofs.Splits.Split.{split_is}
+use Rattle.sgb_split.specs.declared.end.End.TheVariants.{Front}
 use Rattle.slice_group_by.specs.Keyed.{GivesWithKey, groups_within}
 use Rattle.slice_group_by.specs.Offsets.{GivesWithOffset, groups_under}
 use Rattle.slice_group_by.proofs.Queues.KeyedOffsets.{keys_at}

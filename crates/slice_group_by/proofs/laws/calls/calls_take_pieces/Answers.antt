@@ -1,6 +1,6 @@
 use Rattle.std.proofs.Common.{ap, arith}
-use Rattle.sgb_search.specs.Split.{split}
-use Rattle.sgb_search.specs.declared.end.End.TheVariants.{Front, Back}
+use Rattle.sgb_split.specs.Split.{split}
+use Rattle.sgb_split.specs.declared.end.End.TheVariants.{Front, Back}
 use Rattle.slice_group_by.proofs.Queues.Chains.{piece_and_others, piece_accepted}
 use Rattle.slice_group_by.proofs.Queues.GroupsToCome.{part_length}
 use Rattle.slice_group_by.proofs.laws.calls.calls_take_pieces.Goals as goal

@@ -1,12 +1,12 @@
 use Rattle.std.proofs.Common.{◌≡◌, List, [], ◌∷◌, ◌++◌, reverse, sym, ap, ◌∙◌, append_assoc, length}
 use Rattle.std.proofs.lemmas.List.{length-map, reverse-append, reverse-reverse}
 use Rattle.std.specs.Iterator.Adapters.{rev_source}
-use Rattle.sgb_search.specs.Split.{put_at}
-use Rattle.sgb_search.specs.declared.end.End.{End}
-use Rattle.sgb_search.specs.declared.end.End.TheVariants.{Front, Back}
+use Rattle.sgb_split.specs.Split.{put_at}
+use Rattle.sgb_split.specs.declared.end.End.{End}
+use Rattle.sgb_split.specs.declared.end.End.TheVariants.{Front, Back}
 use Rattle.slice_group_by.specs.Queue.{pushed_at}
 use Rattle.slice_group_by.proofs.Queues.Chains.{piece_and_others}
-use Rattle.sgb_search.proofs.Lists.Ends.{from-from, length-from}
+use Rattle.sgb_split.proofs.Lists.Ends.{from-from, length-from}
 use Rattle.slice_group_by.proofs.Queues.Yields.{yields_pieces, yields_settled, turn_piece, drains_settled, yields_more, rev_always}
 use Rattle.slice_group_by.proofs.laws.calls.sees_pieces.Goals as goal
 

@@ -1,4 +1,4 @@
-use Rattle.sgb_search.specs.declared.end.End.TheVariants.{Back}
+use Rattle.sgb_split.specs.declared.end.End.TheVariants.{Back}
 use Rattle.std.specs.Iterator.Adapters.{rev_source}
 use Rattle.slice_group_by.proofs.Questions.Counting.{yields_ask, yields_rev}
 use Rattle.slice_group_by.proofs.laws.counts.calls_ask.Goals as goal

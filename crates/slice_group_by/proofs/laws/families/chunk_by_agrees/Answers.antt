@@ -1,8 +1,8 @@
 use Rattle.std.proofs.Common.{sym, ap, ◌∙◌}
 use Rattle.std.specs.Slice.Iter.{chunk_by_rest, chunk_by_callee}
 use Rattle.std.specs.Fn.{ComputesOnPairs}
-use Rattle.sgb_search.specs.Split.{from, split}
-use Rattle.sgb_search.proofs.Lists.Ends.{from-from}
+use Rattle.sgb_split.specs.Split.{from, split}
+use Rattle.sgb_split.proofs.Lists.Ends.{from-from}
 use Rattle.slice_group_by.specs.Chunks.{chunk_calls}
 use Rattle.slice_group_by.proofs.Queues.Chunks.{chunk_piece}
 use Rattle.slice_group_by.proofs.Queues.Yields.{yields_pieces, drains_settled}

@@ -1,5 +1,5 @@
 use Rattle.sgb_search.proofs.Searches.Digits.{digits_above, digits_least}
-use Rattle.sgb_search.proofs.Splits.FirstPiece.{first_agrees}
+use Rattle.sgb_split.proofs.Splits.FirstPiece.{first_agrees}
 use Rattle.slice_group_by.proofs.Questions.Adversary.{right_plan_asks}
 use Rattle.slice_group_by.proofs.laws.plans.right_plans_ask.Goals as goal
 

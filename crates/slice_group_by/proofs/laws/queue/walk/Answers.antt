@@ -1,6 +1,6 @@
 use Rattle.std.proofs.Common.{arith, take_all, rules}
 use Rattle.std.proofs.lemmas.List.{take_more, take_more_set}
-use Rattle.sgb_search.specs.declared.end.End.TheVariants.{Front}
+use Rattle.sgb_split.specs.declared.end.End.TheVariants.{Front}
 use Rattle.slice_group_by.specs.Walk.{IsChain}
 use Rattle.slice_group_by.proofs.Queues.Chains.{chain_push, chain_parts, chain_answers, chain_settled, chain_asks}
 use Rattle.slice_group_by.proofs.laws.queue.walk.Goals as goal

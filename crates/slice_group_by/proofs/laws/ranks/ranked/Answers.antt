@@ -1,7 +1,7 @@
 use Rattle.std.proofs.Common.{◌≡◌, ℕ, ◌+◌, ◌++◌, ◌∷◌, [], drop, List, length, nat_eq, replicate, ap, ◌∙◌, sym, arith, refl, Some}
 use Rattle.std.proofs.lemmas.List.{length-append, length-replicate}
-use Rattle.sgb_search.specs.Split.{split}
-use Rattle.sgb_search.specs.declared.end.End.TheVariants.{Front}
+use Rattle.sgb_split.specs.Split.{split}
+use Rattle.sgb_split.specs.declared.end.End.TheVariants.{Front}
 use Rattle.slice_group_by.proofs.Pieces.Ranks.{numbered, ranks_numbered, one_more}
 use Rattle.slice_group_by.proofs.laws.ranks.ranked.Goals as goal
 

@@ -1,8 +1,8 @@
 use Rattle.std.proofs.Common.{length, ◌≡◌, ◌≤◌, ◌+◌, ◌++◌, nat_eq, []}
-use Rattle.sgb_search.specs.Split.{split}
-use Rattle.sgb_search.specs.Linear.{IsSettled}
+use Rattle.sgb_split.specs.Split.{split}
+use Rattle.sgb_split.specs.Linear.{IsSettled}
 use Rattle.sgb_groups.specs.Gives.{groups_of_mut}
-use Rattle.sgb_search.specs.Judges.{by_equality}
+use Rattle.sgb_split.specs.Judges.{by_equality}
 use Rattle.slice_group_by.specs.Ranks.{ranks}
 use Rattle.slice_group_by.proofs.Pieces.Ranks.{numbered}
 use Rattle.slice_group_by.proofs.laws.ranks.ranked.Given as goal

@@ -1,4 +1,4 @@
-use Rattle.sgb_search.proofs.Splits.AscendingGroups.{sorted_grouped}
+use Rattle.sgb_search.proofs.Searches.AscendingGroups.{sorted_grouped}
 use Rattle.slice_group_by.proofs.Pieces.Adjacent.{sorted_never_descends, never_descends_sorted}
 use Rattle.slice_group_by.proofs.laws.sorted.is_sorted_for_groups.Goals as goal
 

@@ -1,5 +1,5 @@
 use Rattle.sgb_stream_group.proofs.JoinedParts as joined
-use Rattle.sgb_search.specs.Split.{last}
+use Rattle.sgb_split.specs.Split.{last}
 use Rattle.slice_group_by.proofs.laws.streams.parts_begin_by_keys.Goals as goal
 
 pub returns-clause-begins : goal.returns-clause-begins

@@ -2,8 +2,8 @@ use Rattle.std.proofs.Common.{◌+◌, Bool, List, sym, ap, ◌∙◌, [], ◌�
 use Rattle.std.proofs.lemmas.List.{map-append}
 use Rattle.std.specs.List.{count_by}
 use Rattle.std.proofs.lemmas.List.Folds.{fold-map}
-use Rattle.sgb_search.specs.Split.{concat, split}
-use Rattle.sgb_search.specs.declared.end.End.TheVariants.{Front}
+use Rattle.sgb_split.specs.Split.{concat, split}
+use Rattle.sgb_split.specs.declared.end.End.TheVariants.{Front}
 use Rattle.sgb_stream_group.specs.Streams.{as_parts, with_parts}
 use Rattle.sgb_stream_group.proofs.JoinedParts as joined
 use Rattle.sgb_stream_group.proofs.FoldedParts.{counted}

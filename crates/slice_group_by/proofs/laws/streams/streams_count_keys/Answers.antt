@@ -1,6 +1,6 @@
 use Rattle.std.proofs.Common.{map, ◌∙◌, ap}
-use Rattle.sgb_search.specs.Split.{neighbours}
-use Rattle.sgb_search.specs.declared.end.End.TheVariants.{Front}
+use Rattle.sgb_split.specs.Split.{neighbours}
+use Rattle.sgb_split.specs.declared.end.End.TheVariants.{Front}
 use Rattle.sgb_stream_group.proofs.JoinedParts.{yields_under}
 use Rattle.slice_group_by.proofs.Questions.InOrder.{in_order, yields_in_order}
 use Rattle.slice_group_by.proofs.Questions.OverBlocks.{counts_keys}

@@ -1,5 +1,5 @@
 use Rattle.std.proofs.Common.{ap, map, ◌++◌, ◌∙◌}
-use Rattle.sgb_search.specs.Split.{concat, split}
+use Rattle.sgb_split.specs.Split.{concat, split}
 use Rattle.sgb_loans.specs.Loans.{before_with, after_with}
 use Rattle.slice_group_by.proofs.Pieces.WrittenPieces.{noted_pieces}
 use Rattle.slice_group_by.proofs.Queues.Chains.{piece_and_others}

@@ -1,4 +1,4 @@
-use Rattle.sgb_search.specs.declared.end.End.TheVariants.{Back}
+use Rattle.sgb_split.specs.declared.end.End.TheVariants.{Back}
 use Rattle.slice_group_by.proofs.Queues.Offsets.{progress}
 use Rattle.slice_group_by.proofs.adapters.offsets.WithOffsetsDoubleEndedIterator.next_back.Goals as goal
 

@@ -1,5 +1,5 @@
 use Rattle.std.proofs.Common.{arith}
-use Rattle.sgb_search.specs.declared.end.End.TheVariants.{Front}
+use Rattle.sgb_split.specs.declared.end.End.TheVariants.{Front}
 use Rattle.slice_group_by.proofs.Queues.Offsets.{begins}
 use Rattle.slice_group_by.proofs.adapters.offsets.WithOffsetsGroupQueue.pop_front.Goals as goal
 

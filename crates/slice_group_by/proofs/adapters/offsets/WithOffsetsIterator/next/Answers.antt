@@ -1,4 +1,4 @@
-use Rattle.sgb_search.specs.declared.end.End.TheVariants.{Front}
+use Rattle.sgb_split.specs.declared.end.End.TheVariants.{Front}
 use Rattle.slice_group_by.proofs.Queues.Offsets.{progress}
 use Rattle.slice_group_by.proofs.adapters.offsets.WithOffsetsIterator.next.Goals as goal
 

@@ -1,4 +1,4 @@
-use Rattle.sgb_search.proofs.Questions.Closures.{key_taken}
+use Rattle.sgb_split.proofs.Questions.Closures.{key_taken}
 use Rattle.slice_group_by.proofs.adapters.keyed.slices.SliceGroupsMutKeyJudgeKeyed.first_key.Goals as goal
 
 pub key_of-requires : goal.key_of-requires

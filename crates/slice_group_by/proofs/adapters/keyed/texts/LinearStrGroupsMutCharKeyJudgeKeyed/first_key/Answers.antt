@@ -1,4 +1,4 @@
-use Rattle.sgb_search.proofs.Questions.Closures.{char_key_taken}
+use Rattle.sgb_split.proofs.Questions.Closures.{char_key_taken}
 use Rattle.slice_group_by.proofs.adapters.keyed.texts.LinearStrGroupsMutCharKeyJudgeKeyed.first_key.Goals as goal
 
 pub first_key_of-requires-clause-callable : goal.first_key_of-requires-clause-callable

@@ -1,7 +1,0 @@
--- Runs of questions, and when they may be asked.
-pub mod Runs
-pub mod AtPlaces
-pub mod Calls
-pub mod Closures
-pub mod OnElements
-pub mod Equality

@@ -1,6 +1,0 @@
--- A judge by equality holds nothing.
-use denote.Param.Send.{IsSend, owning_send}
-use Rattle.sgb_search.specs.contracts.judge.EqualityJudge.{the_row, the_type}
-
-pub send : IsSend the_row
-send = owning_send the_type tt (λ d. tt) (λ k x w. tt)

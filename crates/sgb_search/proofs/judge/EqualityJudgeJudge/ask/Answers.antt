@@ -1,4 +1,0 @@
-use Rattle.sgb_search.proofs.judge.EqualityJudgeJudge.ask.Goals as goal
-
-pub returns : goal.returns
-returns g c = (c.eq.ensures, c.one_more.ensures)

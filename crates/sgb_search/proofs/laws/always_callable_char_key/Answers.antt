@@ -1,5 +1,0 @@
-use Rattle.sgb_search.proofs.Questions.Closures.{char_key_callable}
-use Rattle.sgb_search.proofs.laws.always_callable_char_key.Goals as goal
-
-pub returns : goal.returns
-returns g c = char_key_callable g.F.FnMut g.K.PartialEq.eq

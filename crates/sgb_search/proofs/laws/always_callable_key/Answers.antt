@@ -1,9 +1,0 @@
-use Rattle.sgb_search.specs.Split.{AreApart, AreNeighbours}
-use Rattle.sgb_search.proofs.Questions.Closures.{key_callable}
-use Rattle.sgb_search.proofs.laws.always_callable_key.Goals as goal
-
-pub returns-clause-along : goal.returns-clause-along
-returns-clause-along g c xs = key_callable g.F.FnMut g.K.PartialEq.eq (AreNeighbours xs)
-
-pub returns-clause-apart : goal.returns-clause-apart
-returns-clause-apart g c xs = key_callable g.F.FnMut g.K.PartialEq.eq (AreApart xs)

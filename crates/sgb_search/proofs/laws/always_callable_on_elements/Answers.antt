@@ -1,5 +1,0 @@
-use Rattle.sgb_search.proofs.Questions.Closures.{callable_on_elements}
-use Rattle.sgb_search.proofs.laws.always_callable_on_elements.Goals as goal
-
-pub returns : goal.returns
-returns g c = callable_on_elements g.F.FnMut

@@ -1,9 +1,0 @@
-use Rattle.sgb_search.specs.Split.{AreNeighbours, AreApart}
-use Rattle.sgb_search.proofs.Questions.OnElements.{callable_on_pairs}
-use Rattle.sgb_search.proofs.laws.callable_on_pairs.Goals as goal
-
-pub returns-clause-along : goal.returns-clause-along
-returns-clause-along g c xs = callable_on_pairs g.P.FnMut (AreNeighbours xs)
-
-pub returns-clause-apart : goal.returns-clause-apart
-returns-clause-apart g c xs = callable_on_pairs g.P.FnMut (AreApart xs)

@@ -1,0 +1,4 @@
+pub mod Lists
+pub mod Splits
+pub mod Questions
+pub mod Linear
