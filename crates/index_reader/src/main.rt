@@ -15,9 +15,9 @@ mod run;
 
 use crate::program::USAGE;
 use program_parts::arguments::{Refusal, arguments, explain, refusal_of};
-use program_parts::input::{Input, NamedFile};
+use program_parts::input::{NamedFile, open_two};
 use std::io;
-use std::io::{BufReader, BufWriter, Write};
+use std::io::BufWriter;
 use std::process::ExitCode;
 
 fn main(rt: HostRuntime) -> io::Result<ExitCode> {
@@ -35,21 +35,10 @@ fn main(rt: HostRuntime) -> io::Result<ExitCode> {
     };
     let index_file = NamedFile::new(rt.alloc(), index_name)?;
     let queries_file = NamedFile::new(rt.alloc(), queries_name)?;
-    if index_file.is_stdin() && queries_file.is_stdin() {
-        let _ = writeln!(
-            complaints,
-            "index_reader: both files cannot be standard input"
-        );
-        return Ok(ExitCode::from(2));
-    }
-    let Some(index) = Input::open(&rt, "index_reader", &index_file) else {
-        return Ok(ExitCode::from(1));
+    let (index, queries) = match open_two(&rt, "index_reader", &index_file, &queries_file)? {
+        Ok(opened) => opened,
+        Err(status) => return Ok(ExitCode::from(status)),
     };
-    let Some(queries) = Input::open(&rt, "index_reader", &queries_file) else {
-        return Ok(ExitCode::from(1));
-    };
-    let index = BufReader::with_capacity(rt.alloc(), 65536, index)?;
-    let queries = BufReader::with_capacity(rt.alloc(), 65536, queries)?;
     let status = program::run(
         rt.alloc(),
         &index_file.shown,

@@ -8,7 +8,7 @@ use std::alloc::{AllocError, Global};
 use std::cell::Cell;
 use std::fs::File;
 use std::io;
-use std::io::{ErrorKind, Read, Stdin, Write};
+use std::io::{BufReader, ErrorKind, Read, Stdin, Write};
 
 /// A file by its name, or standard input by a dash. It has the name as complaints show it, with control characters
 /// escaped, and notes whether a read failed.
@@ -74,6 +74,28 @@ impl<'a> Input<'a> {
             }
         }
     }
+}
+
+/// Opens two files, each behind a buffer of 64 KiB. Where one cannot be opened, or both are standard input, a line of complaint says
+/// so, and the status is given back.
+pub fn open_two<'a>(
+    rt: &HostRuntime,
+    program: &str,
+    first: &'a NamedFile,
+    second: &'a NamedFile,
+) -> io::Result<Result<(BufReader<Input<'a>>, BufReader<Input<'a>>), u8>> {
+    if first.is_stdin() && second.is_stdin() {
+        let _ = writeln!(rt.stderr(), "{program}: both files cannot be standard input");
+        return Ok(Err(2));
+    }
+    let Some(first) = Input::open(rt, program, first) else {
+        return Ok(Err(1));
+    };
+    let Some(second) = Input::open(rt, program, second) else {
+        return Ok(Err(1));
+    };
+    let first = BufReader::with_capacity(rt.alloc(), 65536, first)?;
+    Ok(Ok((first, BufReader::with_capacity(rt.alloc(), 65536, second)?)))
 }
 
 impl<'a> Read for Input<'a> {

@@ -42,7 +42,8 @@ pub mod laws;
 pub mod loans;
 mod traits;
 
-pub use adapters::{GroupAdapters, dedup_with_count};
+pub use adapters::dedup::dedup_with_count;
+pub use adapters::methods::GroupAdapters;
 pub use join::MergeJoin;
 pub use join::outer::OuterJoin;
 pub use laws::plans::{Plan, refute};

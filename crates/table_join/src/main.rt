@@ -17,9 +17,9 @@ mod table;
 use crate::kind::{Kind, kind_of};
 use crate::program::USAGE;
 use program_parts::arguments::{Refusal, arguments, explain, refusal_of};
-use program_parts::input::{Input, NamedFile};
+use program_parts::input::{NamedFile, open_two};
 use std::io;
-use std::io::{BufReader, BufWriter, Write};
+use std::io::BufWriter;
 use std::process::ExitCode;
 
 fn main(rt: HostRuntime) -> io::Result<ExitCode> {
@@ -37,21 +37,10 @@ fn main(rt: HostRuntime) -> io::Result<ExitCode> {
     };
     let left_file = NamedFile::new(rt.alloc(), left_name)?;
     let right_file = NamedFile::new(rt.alloc(), right_name)?;
-    if left_file.is_stdin() && right_file.is_stdin() {
-        let _ = writeln!(
-            complaints,
-            "table_join: both files cannot be standard input"
-        );
-        return Ok(ExitCode::from(2));
-    }
-    let Some(left) = Input::open(&rt, "table_join", &left_file) else {
-        return Ok(ExitCode::from(1));
+    let (left, right) = match open_two(&rt, "table_join", &left_file, &right_file)? {
+        Ok(opened) => opened,
+        Err(status) => return Ok(ExitCode::from(status)),
     };
-    let Some(right) = Input::open(&rt, "table_join", &right_file) else {
-        return Ok(ExitCode::from(1));
-    };
-    let left = BufReader::with_capacity(rt.alloc(), 65536, left)?;
-    let right = BufReader::with_capacity(rt.alloc(), 65536, right)?;
     let status = program::run(
         rt.alloc(),
         kind,
