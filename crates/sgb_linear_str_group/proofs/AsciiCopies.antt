@@ -11,7 +11,7 @@ use Rattle.std.proofs.lemmas.Str.{encode_ascii, IsUtf8-nil, IsUtf8-append, IsUtf
 use Rattle.std.proofs.lemmas.Str.{IsUtf8-encode, IsCharBoundary-from_take, IsCharBoundary-before_ascii}
 use Rattle.std.proofs.lemmas.Str.Ascii.{IsAscii-cons, IsAscii-nil}
 use lib.Dec.{eqb}
-use Rattle.sgb_numbers.specs.Alike.{IsFirstLen, IsLastLen}
+use Rattle.sgb_numbers.specs.Numbers.{IsFirstLen, IsLastLen}
 use Rattle.sgb_split.specs.Calls.{IsCallableBy}
 use Rattle.sgb_split.specs.declared.end.End.{End}
 use Rattle.sgb_split.specs.declared.end.End.TheVariants.{Front, Back}

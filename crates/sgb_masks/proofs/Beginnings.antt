@@ -11,7 +11,7 @@ use Rattle.std.proofs.lemmas.Simd.{ones-mask_l_cons}
 use Rattle.std.proofs.Math.Seq.{take-add, take-length}
 use Rattle.sgb_split.specs.Split.{split, put_before}
 use Rattle.sgb_masks.specs.AsciiBytes.{ascii_class, is_class}
-use Rattle.sgb_numbers.specs.Neighbours.{boundaries}
+use Rattle.sgb_numbers.specs.Numbers.{boundaries}
 use Rattle.sgb_masks.specs.declared.ascii_classes.AsciiClass.{AsciiClass}
 use Rattle.sgb_masks.specs.declared.ascii_classes.AsciiClass.TheVariants.{Letter, Digit, Space, Other}
 use Rattle.sgb_masks.specs.Counted.{same_class, class_of_group, begun, class_count, class_after}

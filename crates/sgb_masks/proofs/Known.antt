@@ -4,7 +4,7 @@ use Rattle.std.proofs.lemmas.Bool.{cases_lt, cond-true, false_from_ne_true, fals
 use Rattle.std.proofs.lemmas.Nat.Bits.{bit_at-zero}
 use Rattle.std.specs.Int.{bit_at}
 use Rattle.std.specs.Simd.Lanes.{mask_l, chunk}
-use Rattle.sgb_numbers.specs.Neighbours.{boundaries, differs, AreSame}
+use Rattle.sgb_numbers.specs.Numbers.{boundaries, differs, AreSame}
 use Rattle.sgb_numbers.proofs.Scanned.{is_cut}
 use Rattle.sgb_masks.specs.Masks.{FrontMask}
 use Rattle.sgb_masks.proofs.Lowest.{lowest, lowest_below, lowest_set, below_clear, rest, rest_above, rest_set}

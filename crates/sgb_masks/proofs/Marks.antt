@@ -4,7 +4,7 @@ use Rattle.std.proofs.Common.{drop-cons, sym, ap, ◌∙◌, subst, arith}
 use Rattle.std.proofs.lemmas.Simd.{length-chunk, get_or-chunk, mask_l-lt}
 use Rattle.std.specs.Int.{bit_at}
 use Rattle.std.specs.Simd.Lanes.{mask_l, chunk}
-use Rattle.sgb_numbers.specs.Neighbours.{boundaries, differs}
+use Rattle.sgb_numbers.specs.Numbers.{boundaries, differs}
 use Rattle.sgb_numbers.proofs.Bits.{passed, is_set, inside}
 use Rattle.sgb_numbers.proofs.Pairs.{length-boundaries}
 

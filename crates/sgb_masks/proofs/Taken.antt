@@ -9,7 +9,7 @@ use Rattle.sgb_split.specs.Calls.{IsGroupAt, Place, place_after}
 use Rattle.sgb_split.specs.Linear.{LinearQuestions}
 use Rattle.sgb_split.specs.Questions.{IsRun, questions}
 use Rattle.sgb_split.proofs.Lists.Ranges.{length-range}
-use Rattle.sgb_numbers.specs.Neighbours.{IsFirstEnd, IsLastStart}
+use Rattle.sgb_numbers.specs.Numbers.{IsFirstEnd, IsLastStart}
 use Rattle.sgb_numbers.proofs.Asked.{asked_front, asked_back}
 
 range_split : {T : Type 0} (xs : List T) (low middle high : ℕ) → low ≤ middle → middle ≤ high

@@ -1,7 +1,7 @@
 -- What masks of boundaries tell of a list: which neighbouring pairs differ. Pair p is that of the elements at the places p and p + 1.
 use Rattle.std.specs.Prelude.{◌≡◌, ℕ, ◌+◌, ◌-◌, ◌<◌, ◌≤◌, Bool, true, List, length, reverse}
 use Rattle.std.specs.Int.{bit_at}
-use Rattle.sgb_numbers.specs.Neighbours.{differs}
+use Rattle.sgb_numbers.specs.Numbers.{differs}
 
 module _ {T : Type 0} (eq : T → T → Bool) where
   -- the pairs from low up to, not including, known: bit k of m is that of the pair known + k - 64. A bit is set for each pair that differs,

@@ -1,7 +1,7 @@
 //! Sixty-four neighbouring pairs, or elements, at a time.
 ghost use Rattle.std.specs.Prelude.{◌≡◌, ◌+◌, ◌-◌, ◌*◌, ◌<◌, ◌≤◌, not, length, map, reverse};
 ghost use Rattle.std.specs.Simd.Lanes.{mask_l, chunk};
-ghost use Rattle.sgb_numbers.specs.Neighbours.{boundaries};
+ghost use Rattle.sgb_numbers.specs.Numbers.{boundaries};
 
 use sgb_numbers::masks::Masks;
 

@@ -2,7 +2,7 @@
 ghost use Rattle.std.specs.Prelude.{◌≡◌, ℕ, ◌+◌, ◌*◌, ◌<◌, ◌≤◌, cond, not, refl, length, map};
 ghost use Rattle.std.specs.Ordering.{on};
 ghost use Rattle.std.specs.Simd.Lanes.{mask_l, chunk};
-ghost use Rattle.sgb_numbers.specs.Neighbours.{boundaries};
+ghost use Rattle.sgb_numbers.specs.Numbers.{boundaries};
 ghost use Rattle.sgb_masks.specs.Classes.{by_class};
 
 use sgb_numbers::masks::{MaskJudge, Masks};

@@ -2,7 +2,7 @@
 ghost use Rattle.std.specs.Prelude.{◌≡◌, ℕ, ◌+◌, ◌-◌, ◌^◌, ◌<◌, ◌≤◌, List, ◌∷◌, ◌++◌, length, slice_index_or, min, Option, Some};
 ghost use Rattle.std.specs.Simd.Lanes.{mask_l, chunk};
 ghost use Rattle.sgb_masks.specs.AsciiBytes.{ascii_class};
-ghost use Rattle.sgb_numbers.specs.Neighbours.{boundaries};
+ghost use Rattle.sgb_numbers.specs.Numbers.{boundaries};
 ghost use Rattle.sgb_masks.specs.declared.ascii_classes.AsciiClass.{AsciiClass};
 ghost use Rattle.sgb_masks.specs.Counted.{class_count, class_after, count_of, same_class};
 ghost use Rattle.sgb_masks.specs.Starts.{begins, starts};

@@ -1,6 +1,6 @@
 //! Masks of boundaries: filled by vectors, and read from their lowest bit on.
 ghost use Rattle.std.specs.Prelude.{◌≡◌, ◌+◌, ◌-◌, ◌<◌, ◌≤◌, length, true, bit_and, if◌then◌else◌};
-ghost use Rattle.sgb_numbers.specs.Neighbours.{differs, AreSame, IsFirstEnd, IsLastStart};
+ghost use Rattle.sgb_numbers.specs.Numbers.{differs, AreSame, IsFirstEnd, IsLastStart};
 ghost use Rattle.sgb_masks.specs.Masks.{FrontMask, BackMask};
 
 use crate::blocks::{block, block_back, cuts_back};

@@ -10,7 +10,7 @@ use Rattle.sgb_split.specs.Split.{neighbours, on_pairs}
 use Rattle.sgb_split.specs.Questions.{IsRun, all_answered, questions}
 use Rattle.sgb_split.proofs.Lists.Ranges.{length-range}
 use Rattle.sgb_split.proofs.Lists.Pairs.{length-neighbours}
-use Rattle.sgb_numbers.specs.Neighbours.{boundaries, differs, IsFirstEnd, IsLastStart}
+use Rattle.sgb_numbers.specs.Numbers.{boundaries, differs, IsFirstEnd, IsLastStart}
 
 module _ {T : Type 0} (eq : T → T → Bool) where
   abbrev unequal : T × T → Bool

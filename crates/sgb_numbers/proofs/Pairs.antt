@@ -3,7 +3,7 @@ use Rattle.std.proofs.Common.{◌≡◌, ℕ, suc, ◌+◌, ◌-◌, ◌<◌, no
 use Rattle.std.proofs.lemmas.List.{length-map, get_or-map, get_or_default}
 use Rattle.sgb_split.specs.Split.{neighbours, on_pairs}
 use Rattle.sgb_split.proofs.Lists.Pairs.{neighbours_at, length-neighbours}
-use Rattle.sgb_numbers.specs.Neighbours.{boundaries, differs}
+use Rattle.sgb_numbers.specs.Numbers.{boundaries, differs}
 
 module _ {T : Type 0} (eq : T → T → Bool) (xs : List T) where
   pub length-boundaries : length (boundaries eq xs) ≡ length xs - 1

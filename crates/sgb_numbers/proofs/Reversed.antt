@@ -4,8 +4,8 @@ use Rattle.std.specs.Prelude.{reverse}
 use Rattle.std.specs.Simd.Lanes.{chunk}
 use Rattle.std.proofs.lemmas.List.{ext_get_or, get_or-reverse, length-reverse}
 use Rattle.std.proofs.lemmas.Simd.{length-chunk, get_or-chunk}
-use Rattle.sgb_numbers.specs.Alike.{AreLike}
-use Rattle.sgb_numbers.specs.Neighbours.{boundaries, differs, AreSame}
+use Rattle.sgb_numbers.specs.Numbers.{AreLike}
+use Rattle.sgb_numbers.specs.Numbers.{boundaries, differs, AreSame}
 use Rattle.sgb_numbers.proofs.Pairs.{length-boundaries, differs_or}
 
 pub at_reverse : {X : Type 0} (xs : List X) (i j : ℕ) (d : X) → i + j + 1 ≡ length xs → get_or (reverse xs) i d ≡ get_or xs j d

@@ -8,8 +8,8 @@ use Rattle.std.specs.Prelude.{reverse, slice_range}
 use Rattle.sgb_split.specs.declared.end.End.TheVariants.{Front, Back}
 use Rattle.sgb_split.specs.declared.judge.Judge.{Ghosts}
 use Rattle.sgb_split.specs.Questions.{IsRun, questions}
-use Rattle.sgb_numbers.specs.Alike.{AreLike, IsFirstLen, IsLastLen}
-use Rattle.sgb_numbers.specs.Neighbours.{differs, AreSame, IsFirstEnd, IsLastStart}
+use Rattle.sgb_numbers.specs.Numbers.{AreLike, IsFirstLen, IsLastLen}
+use Rattle.sgb_numbers.specs.Numbers.{differs, AreSame, IsFirstEnd, IsLastStart}
 use Rattle.sgb_numbers.proofs.Pairs.{differs_or}
 use Rattle.sgb_numbers.proofs.Reversed.{at_reverse, like_reverse, differs_reverse, same_reverse}
 use Rattle.sgb_numbers.proofs.Asked.{asked_front, asked_back}

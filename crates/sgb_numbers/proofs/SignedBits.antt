@@ -9,7 +9,7 @@ use Rattle.std.proofs.lemmas.Simd.{map-map, length-chunk, get_or-chunk, bitmask_
 use Rattle.std.specs.Int.{Width}
 use Rattle.std.specs.Int.RustNames.{FitsSigned}
 use Rattle.std.specs.Simd.Lanes.{Each1, zip2, chunk, mask_l}
-use Rattle.sgb_numbers.specs.Neighbours.{boundaries}
+use Rattle.sgb_numbers.specs.Numbers.{boundaries}
 use Rattle.sgb_numbers.proofs.Vectors.{unequal, lanes_mask, boundaries-chunk, mask_of}
 
 module _ (w : Width) (e : ℤ) (here : FitsSigned w e) where

@@ -11,7 +11,7 @@ use Rattle.std.specs.List.{prefix_len}
 use Rattle.std.specs.Simd.Lanes.{mask_l, chunk}
 use lib.Count.{count_trailing_zeros}
 use Rattle.sgb_numbers.proofs.Bits.{passed, failed, inside}
-use Rattle.sgb_numbers.specs.Alike.{AreLike}
+use Rattle.sgb_numbers.specs.Numbers.{AreLike}
 
 -- after a stretch of like elements another
 pub like_then : {T : Type 0} (eq : T → T → Bool) (e : T) (xs : List T) (i j k : ℕ) → AreLike eq e xs i j → AreLike eq e xs j k

@@ -7,7 +7,7 @@ use Rattle.std.specs.Prelude.{replicate}
 use Rattle.std.specs.Int.{Width}
 use Rattle.std.specs.Simd.Lanes.{zip2, chunk, mask_l, top}
 use mir.Val.{bits, hbits}
-use Rattle.sgb_numbers.specs.Neighbours.{boundaries}
+use Rattle.sgb_numbers.specs.Numbers.{boundaries}
 
 module _ {X Y Z : Type 0} (f : X → Y → Z) where
   zip2-take : (n : ℕ) (xs : List X) (ys : List Y) → take n (zip2 f xs ys) ≡ zip2 f (take n xs) (take n ys)

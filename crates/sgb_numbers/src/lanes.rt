@@ -1,7 +1,7 @@
 //! The types of numbers that are compared by vectors.
 ghost use Rattle.std.specs.Prelude.{◌≡◌, ◌+◌, ◌<◌, ◌≤◌, not, length, map};
 ghost use Rattle.std.specs.Simd.Lanes.{mask_l, chunk};
-ghost use Rattle.sgb_numbers.specs.Neighbours.{boundaries};
+ghost use Rattle.sgb_numbers.specs.Numbers.{boundaries};
 
 use crate::signed::{Signed, read_all};
 use std::simd::prelude::*;

@@ -2,7 +2,7 @@
 ghost use Rattle.std.specs.Prelude.{◌≡◌, ◌+◌, ◌<◌, ◌≤◌, not, Bool, length, map};
 ghost use Rattle.std.specs.Cmp.{IsPartialEquivalence};
 ghost use Rattle.std.specs.Simd.Lanes.{mask_l, chunk};
-ghost use Rattle.sgb_numbers.specs.Neighbours.{boundaries};
+ghost use Rattle.sgb_numbers.specs.Numbers.{boundaries};
 
 use sgb_split::judge::Judge;
 

@@ -3,7 +3,7 @@
 //! A number is compared with the one at the end, and not with its neighbour: equality is symmetric and transitive, so that
 //! the two say the same.
 ghost use Rattle.std.specs.Prelude.{◌≡◌, ◌+◌, ◌-◌, ◌<◌, ◌≤◌, false, length, slice_index_or};
-ghost use Rattle.sgb_numbers.specs.Alike.{AreLike, IsFirstLen, IsLastLen};
+ghost use Rattle.sgb_numbers.specs.Numbers.{AreLike, IsFirstLen, IsLastLen};
 
 use crate::lanes::Lanes;
 use crate::masks::Masks;

@@ -20,10 +20,6 @@ module _ {T : Type 0} where
       last_at (z ∷ zs) y (omega arith)
       (e ∙ ap (λ (n : ℕ). get_or (x ∷ z ∷ zs) n y) {x = length (x ∷ z ∷ zs) - 1} {y = suc (length (z ∷ zs) - 1)} (omega arith))
 
-  pub is_nil : (xs : List T) → length xs ≤ 0 → xs ≡ []
-  is_nil [] e = refl
-  is_nil (x ∷ xs) e = absurd (omega (arith, e))
-
 module _ {T K : Type 0} (k : T → K) where
   pub first_mapped : (xs : List T) → first (map k xs) ≡ option_map k (first xs)
   first_mapped [] = refl

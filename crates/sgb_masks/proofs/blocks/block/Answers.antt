@@ -1,5 +1,5 @@
 use Rattle.std.proofs.Common.{refl, arith, ◌+◌}
-use Rattle.sgb_numbers.specs.Neighbours.{boundaries}
+use Rattle.sgb_numbers.specs.Numbers.{boundaries}
 use Rattle.sgb_numbers.proofs.Pairs.{length-boundaries}
 use Rattle.sgb_masks.proofs.Joined.{few, block_mask}
 use Rattle.sgb_masks.proofs.blocks.block.Goals as goal

@@ -1,7 +1,7 @@
 use Rattle.std.proofs.Common.{ℕ, ◌+◌, ◌-◌, length, arith}
 use Rattle.std.specs.Prelude.{reverse}
 use Rattle.std.proofs.lemmas.List.{length-reverse}
-use Rattle.sgb_numbers.specs.Neighbours.{boundaries}
+use Rattle.sgb_numbers.specs.Numbers.{boundaries}
 use Rattle.sgb_numbers.proofs.Pairs.{length-boundaries}
 use Rattle.sgb_masks.proofs.Joined.{few, block_mask}
 use Rattle.sgb_masks.proofs.blocks.block_back.Goals as goal

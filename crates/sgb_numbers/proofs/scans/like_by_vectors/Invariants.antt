@@ -1,5 +1,5 @@
 use Rattle.std.proofs.Common.{◌-◌, ◌≤◌}
-use Rattle.sgb_numbers.specs.Alike.{AreLike}
+use Rattle.sgb_numbers.specs.Numbers.{AreLike}
 use Rattle.sgb_numbers.proofs.scans.like_by_vectors.Given as goal
 
 abbrev pub invariant-loop-place : goal.invariant-loop-place

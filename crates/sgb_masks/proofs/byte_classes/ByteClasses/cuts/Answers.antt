@@ -1,6 +1,6 @@
 use Rattle.std.proofs.Common.{◌+◌, ◌-◌, ◌≡◌, get_or, not, sym, ap, ap₂, ◌∙◌, arith}
 use Rattle.std.specs.Ordering.{on}
-use Rattle.sgb_numbers.specs.Neighbours.{boundaries, differs}
+use Rattle.sgb_numbers.specs.Numbers.{boundaries, differs}
 use Rattle.sgb_numbers.proofs.Pairs.{length-boundaries, differs_or}
 use Rattle.sgb_masks.proofs.Joined.{few}
 use Rattle.sgb_masks.proofs.OneByOne.{more}

@@ -1,7 +1,7 @@
 use Rattle.std.proofs.Common.{◌≡◌, ◌+◌, ◌-◌, ◌≤◌, slice_index_or}
 use Rattle.std.specs.Ordering.{on}
 use Rattle.std.specs.Simd.Lanes.{mask_l, chunk}
-use Rattle.sgb_numbers.specs.Neighbours.{boundaries}
+use Rattle.sgb_numbers.specs.Numbers.{boundaries}
 use Rattle.sgb_masks.proofs.byte_classes.ByteClasses.cuts.Given as goal
 
 abbrev pub invariant-loop-k : goal.invariant-loop-k

@@ -1,5 +1,5 @@
 use Rattle.std.proofs.Common.{refl, arith}
-use Rattle.sgb_numbers.specs.Neighbours.{IsLastStart}
+use Rattle.sgb_numbers.specs.Numbers.{IsLastStart}
 use Rattle.sgb_masks.proofs.Taken.{back_call}
 use Rattle.sgb_masks.proofs.mask_groups.MaskGroupsDoubleEndedIterator.next_back.Goals as goal
 

@@ -1,5 +1,5 @@
 use Rattle.std.proofs.Common.{arith}
-use Rattle.sgb_numbers.specs.Neighbours.{IsFirstEnd}
+use Rattle.sgb_numbers.specs.Numbers.{IsFirstEnd}
 use Rattle.sgb_masks.proofs.Taken.{front_call, front_place}
 use Rattle.sgb_masks.proofs.mask_groups.MaskGroupsIterator.next.Goals as goal
 
