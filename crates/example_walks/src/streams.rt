@@ -45,11 +45,7 @@ fn add_block<T: Copy + PartialEq>(
 }
 
 // Adds a part: a run more, or more of the last.
-fn add_run<T: Copy>(
-    runs: &mut Vec<(T, usize)>,
-    begins: bool,
-    part: &[T],
-) -> Result<(), AllocError>
+fn add_run<T: Copy>(runs: &mut Vec<(T, usize)>, begins: bool, part: &[T]) -> Result<(), AllocError>
     requires { part.now ≢ [] }
     ensures { OnOk result
         (runs.new.items ≡ add_values (of_nonempty run_of) longer_run runs.old.items (begins, part.now)) }

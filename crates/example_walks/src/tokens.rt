@@ -1,16 +1,17 @@
 //! The words, numbers and marks of a text, by the classes of its bytes.
 ghost use Rattle.std.specs.List.{AllByRecursion};
-ghost use Rattle.std.specs.Prelude.{◌≡◌, ◌+◌, length, map, IfOk, None};
+ghost use Rattle.std.specs.Prelude.{◌≡◌, ◌+◌, ◌++◌, ℕ, List, flat_map, length, map, IfOk, OnOk, None};
 ghost use Rattle.std.specs.Str.{IsCharBoundary};
 ghost use Rattle.slice_group_by.specs.AsciiClass.TheVariants.{Letter};
 ghost use Rattle.slice_group_by.specs.Counted.{class_count, same_class};
 ghost use Rattle.slice_group_by.specs.Offsets.{with_offsets};
-ghost use Rattle.slice_group_by.specs.Split.{split};
+ghost use Rattle.slice_group_by.specs.Split.{last, split};
+ghost use Rattle.slice_group_by.specs.Streams.{kept_of, with_part};
 
-use slice_group_by::laws::{groups_stand, sees_pieces, texts_stand};
+use slice_group_by::laws::{groups_stand, parts_join, sees_pieces, texts_stand};
 use slice_group_by::{
     AsciiClass, AsciiClasses, GroupAdapters, GroupByClass, LinearClassGroup, LinearStrGroupByKey,
-    StrGroupBy, count_classes,
+    StrGroupBy, StreamGroups, count_classes,
 };
 use std::alloc::{AllocError, Global};
 use std::io;
@@ -63,4 +64,57 @@ pub fn count_words(text: &[u8]) -> usize
     ensures { result ≡ class_count Letter None text.now }
 {
     count_classes(None, text).letters
+}
+
+/// The tokens of bytes that come in blocks, each whole in a vector of its own: the pieces of all bytes.
+pub fn tokens_of_blocks(alloc: Global, blocks: &[&[u8]]) -> Result<Vec<Vec<u8>>, AllocError>
+    ensures { IfOk result (λ tokens. map (λ token. token.items) tokens.items
+        ≡ split same_class (flat_map (λ block. block.now) blocks.now)) }
+{
+    let mut stream = StreamGroups::new();
+    let mut tokens = Vec::new(alloc);
+    for block in blocks {
+        add_block(alloc, &mut stream, block, &mut tokens)?;
+    }
+    Ok(tokens)
+}
+
+// Adds what a block has of the tokens.
+fn add_block(
+    alloc: Global,
+    stream: &mut StreamGroups<u8>,
+    block: &[u8],
+    tokens: &mut Vec<Vec<u8>>,
+) -> Result<(), AllocError>
+    ensures { OnOk result ((came : List ℕ) → kept_of stream.old ≡ last came
+        → map (λ token. token.items) tokens.old.items ≡ split same_class came
+        → (kept_of stream.new ≡ last (came ++ block.now))
+        × (map (λ token. token.items) tokens.new.items ≡ split same_class (came ++ block.now))) }
+{
+    let parts = stream.class_parts::<AsciiClasses>(block);
+    parts_join(&parts);
+    for (begins, part) in parts {
+        add_token(alloc, tokens, begins, part)?;
+    }
+    Ok(())
+}
+
+// Adds a part: a token more, or more of the last.
+fn add_token(
+    alloc: Global,
+    tokens: &mut Vec<Vec<u8>>,
+    begins: bool,
+    part: &[u8],
+) -> Result<(), AllocError>
+    ensures { OnOk result (map (λ token. token.items) tokens.new.items
+        ≡ with_part (map (λ token. token.items) tokens.old.items) (begins, part.now)) }
+{
+    if begins {
+        let mut token = Vec::new(alloc);
+        token.extend_from_slice(part)?;
+        tokens.push(token)?;
+    } else if let Some(token) = tokens.last_mut() {
+        token.extend_from_slice(part)?;
+    }
+    Ok(())
 }

@@ -85,7 +85,10 @@ pub fn open_two<'a>(
     second: &'a NamedFile,
 ) -> io::Result<Result<(BufReader<Input<'a>>, BufReader<Input<'a>>), u8>> {
     if first.is_stdin() && second.is_stdin() {
-        let _ = writeln!(rt.stderr(), "{program}: both files cannot be standard input");
+        let _ = writeln!(
+            rt.stderr(),
+            "{program}: both files cannot be standard input"
+        );
         return Ok(Err(2));
     }
     let Some(first) = Input::open(rt, program, first) else {

@@ -7,8 +7,8 @@ ghost use Rattle.sgb_search.specs.Searching.{SearchCost, IsPlaceSearch, MayAskAt
 use crate::groups::SliceGroups;
 use crate::groups_mut::SliceGroupsMut;
 use crate::way::Way;
-use sgb_split::end::End;
 use sgb_search::gallop::{Places, answer_place, before_end};
+use sgb_split::end::End;
 use sgb_split::judge::Judge;
 use std::cmp::Ordering;
 use std::marker::PhantomData;

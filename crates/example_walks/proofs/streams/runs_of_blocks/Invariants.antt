@@ -6,5 +6,6 @@ use Rattle.example_walks.proofs.streams.runs_of_blocks.Given as goal
 
 abbrev pub invariant-loop-block : goal.invariant-loop-block
 invariant-loop-block g l =
-    (kept_of l.stream ≡ last (flat_map (λ block. block.now) (take l.block-index l.blocks)))
-    × (l.runs.items ≡ flat_map (of_nonempty run_of) (split g.T.PartialEq.eq (flat_map (λ block. block.now) (take l.block-index l.blocks))))
+    let came = flat_map (λ block. block.now) (take l.block-index l.blocks) in
+    (kept_of l.stream ≡ last came)
+    × (l.runs.items ≡ flat_map (of_nonempty run_of) (split g.T.PartialEq.eq came))

@@ -7,5 +7,6 @@ use Rattle.example_walks.proofs.totals.totals_of_blocks.Given as goal
 
 abbrev pub invariant-loop-block : goal.invariant-loop-block
 invariant-loop-block l =
-    (kept_of l.stream ≡ option_map key (last (flat_map (λ block. block.now) (take l.block-index l.blocks))))
-    × (l.found.items ≡ map total_of (split same_key (flat_map (λ block. block.now) (take l.block-index l.blocks))))
+    let came = flat_map (λ block. block.now) (take l.block-index l.blocks) in
+    (kept_of l.stream ≡ option_map key (last came))
+    × (l.found.items ≡ map total_of (split same_key came))

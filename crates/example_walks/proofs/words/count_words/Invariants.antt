@@ -7,5 +7,6 @@ use Rattle.example_walks.proofs.words.count_words.Given as goal
 
 abbrev pub invariant-loop-block : goal.invariant-loop-block
 invariant-loop-block l =
-    (kept_of l.stream ≡ last (flat_map (λ block. block.now) (take l.block-index l.blocks)))
-    × (l.words ≡ min (count_by is_word (split are_letters (flat_map (λ block. block.now) (take l.block-index l.blocks)))) (2 ^ 64 - 1))
+    let came = flat_map (λ block. block.now) (take l.block-index l.blocks) in
+    (kept_of l.stream ≡ last came)
+    × (l.words ≡ min (count_by is_word (split are_letters came)) (2 ^ 64 - 1))
