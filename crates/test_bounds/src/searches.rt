@@ -3,7 +3,7 @@ ghost use Rattle.slice_group_by.specs.Asking.{IsCallableAcross};
 ghost use Rattle.slice_group_by.specs.Calls.{IsCallableBy};
 ghost use Rattle.slice_group_by.specs.Judges.{by_key, key_judge};
 ghost use Rattle.slice_group_by.specs.Split.{AreApart, AreNeighbours};
-ghost use Rattle.slice_group_by.specs.Search.{IsCallableOn};
+ghost use Rattle.slice_group_by.specs.Judges.{IsCallableOn};
 
 use slice_group_by::*;
 use std::cmp::Ordering;
