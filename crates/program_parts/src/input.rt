@@ -76,8 +76,8 @@ impl<'a> Input<'a> {
     }
 }
 
-/// Opens two files, each behind a buffer of 64 KiB. Where one cannot be opened, or both are standard input, a line of complaint says
-/// so, and the status is given back.
+/// Opens two files, each behind a buffer of 64 KiB. Where that fails, a line of complaint says why, and the inner `Err` is the
+/// status of the program: 2 if both are standard input, 1 if one cannot be opened.
 pub fn open_two<'a>(
     rt: &HostRuntime,
     program: &str,

@@ -12,6 +12,6 @@ returns g c came kept e =
     let yielded = rw c.into_iter-begins-iterator.ensures.into_iter_gives at c.loop-begins.yielded_by in (
       rw kept at parts.ensures.kept ∙ sym (c.parts_join.ensures.kept came c.args.block.now),
       c.loop-begins.invariant
-          ∙ c.parts_fold.ensures.nonempty run_of longer_run adds g.T.PartialEq.eq came c.args.block.now _ parts.result _ e parts.ensures.computes
-          parts.ensures.remainder (rw kept at parts.ensures.begins) (_, (_, yielded, c.in-None.ensures.steps)),
+          ∙ c.parts_fold.ensures.nonempty run_of longer_run adds g.T.PartialEq.eq came c.args.block.now _ parts.result _ e
+          parts.ensures.computes parts.ensures.remainder (rw kept at parts.ensures.begins) (_, (_, yielded, c.in-None.ensures.steps)),
     )

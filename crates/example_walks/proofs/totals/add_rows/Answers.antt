@@ -16,6 +16,6 @@ returns c came kept e =
     let begins = rw kept at (parts.ensures.begins key computes) ∙ c.parts_begin_by_keys.ensures.begins key nat_eq came c.args.block.now in (
       rw kept at (parts.ensures.kept key computes) ∙ c.parts_begin_by_keys.ensures.kept key came c.args.block.now,
       c.loop-begins.invariant
-          ∙ c.parts_fold.ensures.map total_of larger_total adds same_key came c.args.block.now _ parts.result _ e (parts.ensures.computes key computes)
-          parts.ensures.remainder begins (_, (_, yielded, c.in-None.ensures.steps)),
+          ∙ c.parts_fold.ensures.map total_of larger_total adds same_key came c.args.block.now _ parts.result _ e
+          (parts.ensures.computes key computes) parts.ensures.remainder begins (_, (_, yielded, c.in-None.ensures.steps)),
     )

@@ -40,8 +40,8 @@ returns g c start came kept w =
     let runs = map run_of (split nat_eq came) in
     let yielded = rw c.into_iter-begins-iterator.ensures.into_iter_gives at c.loop-begins.yielded_by in
     let folded =
-    c.parts_fold.ensures.map run_of longer_run adds nat_eq came c.args.block.now runs parts.result _ refl parts.ensures.computes parts.ensures.remainder
-    (rw kept at parts.ensures.begins) (_, (_, yielded, c.in-None.ensures.steps)) in (
+    c.parts_fold.ensures.map run_of longer_run adds nat_eq came c.args.block.now runs parts.result _ refl parts.ensures.computes
+    parts.ensures.remainder (rw kept at parts.ensures.begins) (_, (_, yielded, c.in-None.ensures.steps)) in (
       rw kept at parts.ensures.kept ∙ sym (c.parts_join.ensures.kept came c.args.block.now),
       Written-same _ _ _ _ _ _ folded (c.loop-begins.invariant start runs w),
     )
