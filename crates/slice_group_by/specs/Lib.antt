@@ -40,3 +40,4 @@ pub use Rattle.sgb_loans.specs.Loans
 pub use Rattle.sgb_split.specs.declared.end.End
 pub use Rattle.sgb_masks.specs.declared.ascii_classes.AsciiClass
 pub use Rattle.sgb_merge_join.specs.declared.either_or_both.EitherOrBoth
+pub use Rattle.sgb_merge_join.specs.declared.joinable.Side

@@ -73,7 +73,7 @@ pub use sgb_masks::by_number::LinearNumberGroup;
 pub use sgb_masks::byte_classes::ByteClasses;
 pub use sgb_masks::class_counter::ClassCounter;
 pub use sgb_masks::class_counts::{ClassCounts, count_classes};
-pub use sgb_merge_join::{EitherOrBoth, JoinablePrefixes, MergeJoinBy, joinable_prefixes};
+pub use sgb_merge_join::{EitherOrBoth, JoinablePrefixes, MergeJoinBy, Side, joinable_prefixes};
 pub use sgb_numbers::lanes::Lanes;
 pub use sgb_search::partition::exponential_partition_point;
 pub use sgb_search::places::{
