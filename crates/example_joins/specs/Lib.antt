@@ -1,3 +1,1 @@
-pub mod Kinds
-pub mod Blocks
 pub mod Names

@@ -2,13 +2,10 @@
 #![tactic(auto)]
 
 pub mod alone;
-pub mod blocks;
-pub mod kind;
 pub mod kinds;
 pub mod merged;
 pub mod names;
 pub mod parts;
 pub mod sets;
-mod side;
 pub mod visits;
 pub mod whole;

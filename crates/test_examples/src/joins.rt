@@ -1,7 +1,6 @@
 //! Users of joins: that memory is enough for what they find.
 ghost use Rattle.std.specs.Prelude.{◌≡◌, IfOk, string_bytes};
 
-use example_joins::blocks::common_numbers_of_blocks;
 use example_joins::kinds::{absent, common_groups, present};
 use example_joins::names::{Person, Visit, count_visits};
 use example_joins::sets::{difference, intersection, union, union_of_three};
@@ -51,17 +50,6 @@ fn of_numbers(rt: HostRuntime) -> Result<(), Fail> {
     assert!(rt; present(alloc, &left, &right)?.as_slice() == [&2, &5].as_slice());
     let groups: [(&[u32], &[u32]); 2] = [(&[2], &[2]), (&[5], &[5, 5])];
     assert!(rt; common_groups(alloc, &left, &right)?.as_slice() == groups.as_slice());
-    Ok(())
-}
-
-// Runs of one number go on over blocks, and some blocks are empty.
-#[test]
-fn of_blocks(rt: HostRuntime) -> Result<(), Fail> {
-    let lefts: [&[u32]; 4] = [&[1, 1], &[], &[1, 2], &[5, 7, 7]];
-    let rights: [&[u32]; 5] = [&[1], &[1, 3], &[5], &[5], &[7, 9]];
-    let rows = common_numbers_of_blocks(rt.alloc(), &lefts, &rights)?;
-    let found: Vec<u32> = rows.iter().filter_map(|row| row.0).collect(rt.alloc())?;
-    assert!(rt; found.as_slice() == [1, 1, 1, 5, 7, 7].as_slice());
     Ok(())
 }
 
