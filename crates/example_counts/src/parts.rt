@@ -2,11 +2,11 @@
 ghost use Rattle.std.specs.Prelude.{◌≡◌, ◌+◌, ◌-◌, ◌<◌, ◌≤◌, ◌^◌, length, map, min, nat_eq, sum, sum_by, IfOk, OnOk};
 ghost use Rattle.std.specs.List.{fold};
 ghost use Rattle.std.specs.Option.{option_copied};
-ghost use Rattle.slice_group_by.specs.Split.{split};
+ghost use Rattle.slice_group_by.specs.Split.{IsGrouped, split};
 ghost use Rattle.slice_group_by.specs.Seams.{are_accepted, lens_joined};
 ghost use Rattle.example_counts.specs.Longest.{longer};
 
-use slice_group_by::LinearGroup;
+use slice_group_by::{ExponentialGroup, LinearGroup};
 use slice_group_by::laws::{
     groups_still_come, one_split, pieces_add_up, sees_pieces, sees_shards, splits_join,
 };
@@ -55,6 +55,29 @@ pub fn count_in_two(slice: &[u32]) -> usize
 {
     let (left, right) = slice.split_at(LinearGroup::new(slice).boundary(slice.len() / 2));
     count_groups(left) + count_groups(right)
+}
+
+/// The same of a grouped slice, by exponential groups: its parts are grouped too.
+pub fn count_grouped_in_two(slice: &[u32]) -> usize
+    requires { IsGrouped nat_eq slice.now }
+    ensures { result ≡ length (split nat_eq slice.now) }
+{
+    one_split::<u32>();
+    let mid = ExponentialGroup::new(slice).boundary(slice.len() / 2);
+    let (left, right) = slice.split_at(mid);
+    count_long_groups(left) + count_long_groups(right)
+}
+
+// How many groups of equal elements a grouped part has.
+fn count_long_groups(part: &[u32]) -> usize
+    requires { IsGrouped nat_eq part.now }
+    ensures count { result ≡ length (split nat_eq part.now) }
+    ensures most { result ≤ length part.now }
+{
+    let groups = ExponentialGroup::new(part);
+    sees_pieces(&groups);
+    groups_still_come(&groups);
+    groups.count()
 }
 
 /// The same of at most so many shards, which a pool of threads could count side by side.

@@ -1,8 +1,8 @@
 //! Laws of the definitions. Each is a function that does nothing: its contract is the law, and a caller cites it.
-ghost use Rattle.std.specs.Prelude.{cond, ◌≡◌, ℕ, ◌+◌, ◌<◌, ◌≤◌, ◌++◌, Bool, List, Some, length, map};
+ghost use Rattle.std.specs.Prelude.{cond, ◌≡◌, ℕ, ◌+◌, ◌<◌, ◌≤◌, ◌++◌, Bool, List, Some, length, map, take, drop};
 ghost use Rattle.std.specs.Fn.{ComputesKey, Takes, TakesAt, TakesAtTwo, CalledAt, CalledAtTwo};
 ghost use Rattle.std.specs.List.{Contains};
-ghost use Rattle.sgb_split.specs.Split.{AreApart, AreNeighbours, IsSplit, concat, last};
+ghost use Rattle.sgb_split.specs.Split.{AreApart, AreNeighbours, IsGrouped, IsSplit, concat, last};
 ghost use Rattle.sgb_split.specs.Split.{without_last, split, refused_pairs};
 ghost use Rattle.sgb_split.specs.Seams.{is_accepted_across, lens_joined, seam};
 ghost use Rattle.sgb_split.specs.Calls.{ComputesBy, IsCallableBy};
@@ -13,13 +13,16 @@ ghost use Rattle.sgb_split.specs.Judges.{CalledAtChar};
 ghost use Rattle.sgb_split.specs.declared.judge.EqualityJudge.{EqualityJudge};
 
 /// Each list has exactly one split for a test, whose pieces joined are the list. It has one piece more than the test refuses
-/// pairs, and none if it is empty: no more pieces than elements.
+/// pairs, and none if it is empty: no more pieces than elements. A part of a grouped list is grouped
+/// (`front`, `rest`).
 pub fn one_split<T>()
     ensures covers { (p : T → T → Bool) (xs : List T) → concat (split p xs) ≡ xs }
     ensures exists { (p : T → T → Bool) (xs : List T) → IsSplit p xs (split p xs) }
     ensures unique { (p : T → T → Bool) (xs : List T) (ps : List (List T)) → IsSplit p xs ps → ps ≡ split p xs }
     ensures count { (p : T → T → Bool) (xs : List T) → 0 < length xs → length (split p xs) ≡ refused_pairs p xs + 1 }
     ensures few { (p : T → T → Bool) (xs : List T) → length (split p xs) ≤ length xs }
+    ensures front { (p : T → T → Bool) (n : ℕ) (xs : List T) → IsGrouped p xs → IsGrouped p (take n xs) }
+    ensures rest { (p : T → T → Bool) (n : ℕ) (xs : List T) → IsGrouped p xs → IsGrouped p (drop n xs) }
 {}
 
 /// The split of `xs ++ ys` is the split of `xs` and then that of `ys`, but where the pair across the seam is accepted, the two pieces

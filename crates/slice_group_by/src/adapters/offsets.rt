@@ -80,12 +80,12 @@ pub fn groups_stand<Q: Offsets>(_groups: &WithOffsets<Q>)
 {}
 
 /// What a loop or an adapter sees of groups with places and keys, of `with_offsets().with_keys()`, from the front: the pieces in
-/// order, each with the key of its first element and the place at which it begins (`pieces`). `whole` says it of a loop at its end.
+/// order, each with the key of its first element and the place at which it begins.
 ///
 /// The groups are of a slice, so that a group is as long as what it shows (`λ _. refl`), and a call of the key function moves no
 /// place: of groups by a key `λ q group k t h. h.2`.
 pub fn sees_keys_at<Q: Offsets + Keyed>(groups: &WithKeys<WithOffsets<Q>>)
-    ensures pieces { (key : Q.Element → Q.Key) (s : WithKeys (WithOffsets Q))
+    ensures { (key : Q.Element → Q.Key) (s : WithKeys (WithOffsets Q))
         → ((group : Q.Item) → length (Q.units group) ≡ length (Q.shows group))
         → ((q : Q) (group : Q.Item) (k : Q.Key) (t : Q) → Q.calls_key q group k t → Q.place t ≡ Q.place q)
         → Q.is_keyed (groups_under (groups_within s)) key
@@ -93,15 +93,6 @@ pub fn sees_keys_at<Q: Offsets + Keyed>(groups: &WithKeys<WithOffsets<Q>>)
         (λ q item k t. Q.calls_key q.groups item.1 k t.groups) Front) (λ x. (x.0, (x.1.0, Q.shows x.1.1))) s
         (keyed_at key (Q.place (groups_under (groups_within s))).offset
         (split (λ x y. Q.same_key (key x) (key y)) (Q.remainder (groups_under (groups_within s))))) }
-    ensures whole { (key : Q.Element → Q.Key) (s : WithKeys (WithOffsets Q)) (items : List (Q.Key × (ℕ × Q.Item)))
-        → ((group : Q.Item) → length (Q.units group) ≡ length (Q.shows group))
-        → ((q : Q) (group : Q.Item) (k : Q.Key) (t : Q) → Q.calls_key q group k t → Q.place t ≡ Q.place q)
-        → Q.is_keyed (groups_under (groups_within s)) key
-        → Drains (GivesWithKey (GivesWithOffset Q.place Q.left Q.units Q.gives)
-        (λ q item k t. Q.calls_key q.groups item.1 k t.groups) Front) s items
-        → map (λ x. (x.0, (x.1.0, Q.shows x.1.1))) items
-        ≡ keyed_at key (Q.place (groups_under (groups_within s))).offset
-        (split (λ x y. Q.same_key (key x) (key y)) (Q.remainder (groups_under (groups_within s)))) }
 {
     sees_keys(groups);
 }

@@ -74,15 +74,9 @@ pub fn pieces_add_up<T>()
 {}
 
 /// What `partition_best_by` keeps if `worse` is an order: what is not worse is transitive, and of two elements at most one is worse.
-///
-/// - `each`: each is an element of its group, and none of the group is better.
-/// - `by_key`: where a list ascends by a key, each is an element of the list, and none with its key is better.
+/// Of a list that ascends by a key, each is an element of the list, and none with its key is better.
 pub fn bests_are_greatest<T, K: Ord>()
-    ensures each { (worse : T → T → Bool) → ((x y : T) → worse x y ≡ true → worse y x ≡ false)
-        → ((x y z : T) → worse x y ≡ false → worse y z ≡ false → worse x z ≡ false) → (groups : List (List T))
-        → AllByRecursion (λ best. (g : List T) × Contains groups g × Contains g best
-        × AllByRecursion (λ y. worse best y ≡ false) g) (best_of_each worse groups) }
-    ensures by_key { (worse : T → T → Bool) → ((x y : T) → worse x y ≡ true → worse y x ≡ false)
+    ensures { (worse : T → T → Bool) → ((x y : T) → worse x y ≡ true → worse y x ≡ false)
         → ((x y z : T) → worse x y ≡ false → worse y z ≡ false → worse x z ≡ false)
         → (key : T → K) (xs : List T) → NeverDescends K.cmp (map key xs)
         → AllByRecursion (λ best. Contains xs best

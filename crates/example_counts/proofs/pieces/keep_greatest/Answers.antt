@@ -10,7 +10,7 @@ worse kept row = nat_lt kept.1 row.1
 
 pub returns : goal.returns
 returns c =
-    let bests = c.bests_are_greatest.ensures.by_key worse (λ x y e. grind (arith, nat_tests, e))
+    let bests = c.bests_are_greatest.ensures worse (λ x y e. grind (arith, nat_tests, e))
     (λ x y z e f. grind (arith, nat_tests, e, f)) key c.args.rows.now c.requires in
     rw (c.partition_best_by_key.ensures.best key worse (always_returns_same _ _ _ (λ a r f' k. search rules))
     (always_returns_same _ _ _ (λ a r f' k. search rules)))

@@ -13,7 +13,7 @@ pub returns : goal.returns
 returns c =
     let groups = c.with_keys-groups in
     let judge = ap (λ q. q.judge.func) c.with_offsets.ensures ∙ ap (λ j. j.func) c.new.ensures.judge in
-    let seen = YieldsList-at c.map.ensures.source (c.sees_keys_at.ensures.pieces key groups.result (λ _. refl) (λ q group k t h. h.2)
+    let seen = YieldsList-at c.map.ensures.source (c.sees_keys_at.ensures key groups.result (λ _. refl) (λ q group k t h. h.2)
     (rw groups.ensures (subst (ComputesKey _ key) (sym judge) (always_returns_same _ _ _ (λ a r f' k. search rules)), tt))) in
     let offset = ap (λ (p : Place (ℕ × ℕ)). p.offset) c.new.ensures.place in
     rw (groups.ensures, c.with_offsets.ensures, c.new.ensures.remainder, offset)
