@@ -91,15 +91,15 @@ fn find_all<'a>(index: &'a Index, queries: &[Query], answers: &mut [Answer<'a>])
     ensures found { All (λ query. HoldsAt (IsAnswer index.now) answers.new query.number) queries.now }
 {
     let mut before = 0;
-    let mut last = 0;
+    let mut previous = 0;
     for query in queries {
-        if query.key < last {
+        if query.key < previous {
             before = 0;
         }
-        last = query.key;
-        let found = places_from(index, before, last);
+        previous = query.key;
+        let found = places_from(index, before, query.key);
         before = found.before;
-        answers[query.number] = Answer::new(last, found.places);
+        answers[query.number] = Answer::new(query.key, found.places);
     }
 }
 

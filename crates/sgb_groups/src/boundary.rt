@@ -24,6 +24,7 @@ impl<'a, T, J: Judge<T>, W: Way> SliceGroups<'a, T, J, W> {
         ensures callable { IsCallableBy (W.allowed T) J.Judge (groups_of self.new) }
     {
         self.skip_front(place);
+        // (the proof goes by the two arms)
         match self.next_at(End::Front) {
             Some(rest) => rest,
             None => &[],
@@ -37,6 +38,9 @@ impl<'a, T, J: Judge<T> + Drop, W: Way> SliceGroups<'a, T, J, W> {
     /// Cut there, the two parts have the groups of the whole, so that they can be walked apart. It costs one call of these groups,
     /// from the element before `index` on, and asks nothing at 0 or beyond the remainder. `str::ceil_char_boundary` does this for
     /// characters. Binary and exponential groups need a grouped slice.
+    ///
+    /// The closure must be callable along all that remains. To ask less, cut first: `LinearGroup::new(&slice[index - 1..])`, and add
+    /// the length of its first group to `index - 1`.
     ///
     /// ```
     /// let slice = [1, 1, 1, 3, 3, 2];

@@ -242,6 +242,7 @@ impl<'a, T, J: Judge<T>, W: Way> SliceGroupsMut<'a, T, J, W> {
         ensures gives { GivesMut (W.asks T J J.Judge) end self.old result self.new }
         ensures callable { IsCallableBy (W.allowed T) J.Judge (groups_of_mut self.new) }
     {
+        // `is_empty` lends the slice once more, which the borrow check refuses.
         if self.slice.len() == 0 {
             return None;
         }

@@ -233,6 +233,7 @@ impl<'a, J: TextJudge> LinearStrGroupsMut<'a, J> {
         ensures gives { GivesTextMut J.Judge end self.old result self.new }
         ensures callable { IsCallableBy AreNeighbours J.Judge (in_characters (text_groups_of_mut self.new)) }
     {
+        // `is_empty` lends the bytes once more, of which the prover then knows less.
         if self.bytes.len() == 0 {
             return None;
         }

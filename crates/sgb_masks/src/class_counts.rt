@@ -107,10 +107,8 @@ impl ClassCounts {
         requires { (k : AsciiClass) → count_of k self + 1 < 2 ^ 64 }
         ensures { (k : AsciiClass) → count_of k result ≡ count_of k self + begins k before class }
     {
-        if let Some(last) = before {
-            if last == class {
-                return self;
-            }
+        if before == Some(class) {
+            return self;
         }
         let mut counts = self;
         match class {

@@ -53,7 +53,7 @@ fn cut<T, M: Masks<T>>(slice: &[T], at: usize) -> u64
     }
 }
 
-/// The mask of sixteen pairs more, those from the place `at` on.
+/// The mask of sixteen pairs more, those from the place `at` on. Contracts alone read where the known part begins.
 #[inline(always)]
 fn grown<T, M: Masks<T>>(slice: &[T], _low: usize, at: usize, mask: u64) -> u64
     requires after { _low ≤ at }
@@ -65,7 +65,8 @@ fn grown<T, M: Masks<T>>(slice: &[T], _low: usize, at: usize, mask: u64) -> u64
     (mask >> 16) | (M::cuts(slice, at) << 48)
 }
 
-/// The mask of sixteen pairs more, those from the place `at` on, where the others begin.
+/// The mask of sixteen pairs more, those from the place `at` on, where the others begin. Contracts alone read where the known
+/// part ends.
 #[inline(always)]
 fn grown_back<T, M: Masks<T>>(slice: &[T], _high: usize, at: usize, mask: u64) -> u64
     requires before { at + 16 < _high }

@@ -137,8 +137,7 @@ pub(crate) fn count_before<T, K, S: Test<K>, F: FnMut(&T) -> K>(
 /// refused, where there are such elements.
 ///
 /// A call that gives n asks at most `2 * digits(n + 1) + 1` questions, whatever it is answered, and none of an empty slice. The
-/// predicate must be callable on each element, in whatever state earlier calls left it. It is given up;
-/// `exponential_partition_point_ref` says what it comes back as.
+/// predicate must be callable on each element, in whatever state earlier calls left it. It is given up.
 ///
 /// ```
 /// exponential_partition_point(&[1, 2, 3, 5, 8, 13, 21], |&x| x < 5); // 3

@@ -54,22 +54,20 @@ impl<T: Copy> StreamGroups<T> {
         ensures kept { kept_of self.new ≡ last_after (kept_of self.old) block.now }
     {
         let (first, last) = ends(block)?;
-        match self.kept.replace(*last) {
-            Some(before) => Some((before, *first)),
-            None => None,
-        }
+        let before = self.kept.replace(*last)?;
+        Some((before, *first))
     }
 
     /// The parts that the block has of the groups by a predicate. When the block comes, it is called on the last element
-    /// before and the block's first; on neighbours in the block, as you take the parts. Over all blocks that is one linear
-    /// walk.
+    /// before and the block's first; on neighbours in the block, as you take the parts. So over all blocks it is called as
+    /// often as in one linear walk (`laws::streams_count`).
     ///
     /// The block has come then, whether or not its parts are taken.
     #[inline]
     pub fn parts_by<'a, P: FnMut(&T, &T) -> bool>(
         &mut self,
         block: &'a [T],
-        predicate: P,
+        mut predicate: P,
     ) -> Parts<LinearGroupBy<'a, T, P>>
         requires { P.IsAlwaysCallable predicate }
         ensures kept { kept_of self.new ≡ last_after (kept_of self.old) block.now }
@@ -82,7 +80,6 @@ impl<T: Copy> StreamGroups<T> {
         ensures computes { (p : T → T → Bool) → ComputesOnPairs P.FnMut p predicate
             → ComputesBy AreNeighbours (by_predicate P.FnMut) (groups_of (groups_in result)) p }
     {
-        let mut predicate = predicate;
         let pair = self.across(block);
         let begins = begins_by(&mut predicate, pair);
         Parts {
@@ -103,10 +100,7 @@ impl<T: Copy + PartialEq> StreamGroups<T> {
         ensures callable { IsCallableBy AreNeighbours (by_equality T.eq) (groups_of (groups_in result)) }
         ensures computes { ComputesBy AreNeighbours (by_equality T.eq) (groups_of (groups_in result)) T.eq }
     {
-        let goes_on = match self.across(block) {
-            Some((before, first)) => before == first,
-            None => false,
-        };
+        let goes_on = self.across(block).is_some_and(|(before, first)| before == first);
         Parts::new(!goes_on, LinearGroup::new(block))
     }
 }
@@ -121,10 +115,7 @@ impl<T: Lanes + Copy> StreamGroups<T> {
         ensures callable { IsCallableBy AreNeighbours (by_number T.eq) (numbers.groups_of (groups_in result)) }
         ensures computes { ComputesBy AreNeighbours (by_number T.eq) (numbers.groups_of (groups_in result)) T.eq }
     {
-        let goes_on = match self.across(block) {
-            Some((before, first)) => before == first,
-            None => false,
-        };
+        let goes_on = self.across(block).is_some_and(|(before, first)| before == first);
         Parts::new(!goes_on, LinearNumberGroup::new(block))
     }
 }
@@ -143,10 +134,9 @@ impl StreamGroups<u8> {
         ensures computes { ComputesBy AreNeighbours (by_class C.class_of C.Class.eq) (numbers.groups_of (groups_in result))
             (on C.class_of C.Class.eq) }
     {
-        let goes_on = match self.across(block) {
-            Some((before, first)) => C::class(before) == C::class(first),
-            None => false,
-        };
+        let goes_on = self
+            .across(block)
+            .is_some_and(|(before, first)| C::class(before) == C::class(first));
         Parts::new(!goes_on, LinearClassGroup::new(block))
     }
 }
@@ -162,7 +152,7 @@ impl<K: PartialEq + Drop> StreamGroups<K> {
     pub fn parts_by_key<'a, T, F: FnMut(&T) -> K>(
         &mut self,
         block: &'a [T],
-        key: F,
+        mut key: F,
     ) -> Parts<LinearGroupByKey<'a, T, F, K>>
         requires { F.IsAlwaysCallable key }
         ensures remainder { (groups_of (groups_in result)).remainder ≡ block.now }
@@ -176,7 +166,6 @@ impl<K: PartialEq + Drop> StreamGroups<K> {
         ensures computes { (k : T → K) → ComputesKey F.FnMut k key
             → ComputesBy AreNeighbours (by_key F.FnMut K.eq) (groups_of (groups_in result)) (λ x y. K.eq (k x) (k y)) }
     {
-        let mut key = key;
         let begins = self.begins_by_key(block, &mut key);
         Parts {
             begins,
@@ -203,7 +192,7 @@ impl<K: PartialEq + Drop> StreamGroups<K> {
         let first_key = key_of(key, first);
         let last_key = key_of(key, last);
         match self.kept.replace(last_key) {
-            Some(before) => !(before == first_key),
+            Some(before) => before != first_key,
             None => true,
         }
     }

@@ -131,6 +131,11 @@ pub fn parts<'a, T, F: Drop, K>(groups: LinearGroupByKeyMut<'a, T, F, K>) -> &'a
     groups.into_parts().0
 }
 
+pub fn cuts<'a, T: PartialEq>(slice: &'a [T]) -> (usize, Option<&'a [T]>) {
+    let place = LinearGroup::new(slice).boundary(1);
+    (place, LinearGroup::new(slice).shards(2).next())
+}
+
 // Groups of elements that live longer are groups of these.
 pub fn shorter_lived<'a, 'b: 'a>(
     groups: LinearGroup<'a, &'static str>,

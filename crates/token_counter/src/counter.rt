@@ -32,8 +32,8 @@ pub fn count_tokens<R: Read>(alloc: Global, input: &mut R) -> io::Result<ClassCo
 fn exact(counts: ClassCounts) -> io::Result<ClassCounts>
     ensures { IfOk result (λ same. (same ≡ counts) × ((class : AsciiClass) → count_of class counts < 2 ^ 64 - 1)) }
 {
-    let bytes = counts.letters.max(counts.digits);
-    if bytes.max(counts.spaces).max(counts.others) == usize::MAX {
+    let most = counts.letters.max(counts.digits).max(counts.spaces).max(counts.others);
+    if most == usize::MAX {
         return Err(Error::new(
             ErrorKind::InvalidData,
             "there are too many tokens to be counted",

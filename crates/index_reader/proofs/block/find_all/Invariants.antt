@@ -6,6 +6,6 @@ abbrev pub invariant-loop-query : goal.invariant-loop-query
 invariant-loop-query l = record {
   keys : map (λ answer. answer.key) l.answers ≡ map (λ answer. answer.key) l.initial.answers;
   before : l.before ≤ length l.index;
-  passed : All (λ entry. entry.key < l.last) (take l.before l.index);
+  passed : All (λ entry. entry.key < l.previous) (take l.before l.index);
   found : All (λ query. HoldsAt (IsAnswer l.index) l.answers query.number) (take l.query-index l.queries);
 }

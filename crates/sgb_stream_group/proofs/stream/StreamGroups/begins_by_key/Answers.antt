@@ -1,4 +1,4 @@
-use Rattle.std.proofs.Common.{◌≡◌, not, ap, refl, sym, ◌∙◌, None, Some}
+use Rattle.std.proofs.Common.{◌≡◌, ap, refl, sym, ◌∙◌, None, Some}
 use Rattle.sgb_stream_group.proofs.Ends.{kept_mapped}
 use Rattle.sgb_stream_group.specs.Streams.{CallsTwice, kept_of}
 use Rattle.sgb_stream_group.proofs.stream.StreamGroups.begins_by_key.Goals as goal
@@ -19,7 +19,7 @@ returns-in-Some-replace-clause-asks g c =
     let last = c.key_of-last_key.ensures.called in
     let calls : CallsTwice _ _ _ _ _ = record { between = _; first_key = _; last_key = _; first_call = first; last_call = last } in
     let kept : kept_of c.args.self.now ≡ Some c.in-Some-replace.before = sym c.replace.ensures.value ∙ c.in-Some-replace.is in
-    rw (c.in-Some.ensures.0, c.in-Some.ensures.1, kept) (calls, ap not c.eq.ensures, c.replace.ensures.after)
+    rw (c.in-Some.ensures.0, c.in-Some.ensures.1, kept) (calls, c.ne.ensures, c.replace.ensures.after)
 
 pub returns-clause-asks : goal.returns-clause-asks
 returns-clause-asks g c =
