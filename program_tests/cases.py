@@ -115,6 +115,7 @@ CASES = [
     *((name, ["\udcff"], b"", 2, b"", b"%s: an argument is not UTF-8\n" % name.encode()) for name in NAMES),
     # of a hundred lines of a file each is complained of, and the others are counted
     ("run_length_coder", ["decode"], b"\n" * 100, 1, b"", said("run_length_coder", *hundred(NO_RUN))),
+    ("run_length_coder", ["decode"], b"\n" * 102, 1, b"", said("run_length_coder", *hundred(NO_RUN)) + b"run_length_coder: -: 2 more lines are left out\n"),
     ("grouped_report", [], b"\n" * 101, 1, b"total: 0\n", said("grouped_report", *hundred(NO_COMMA)) + b"grouped_report: -: 1 more line is left out\n"),
     (
         "table_join", [], (b"\n" * 101, b"\n" * 112), 1, b"",
