@@ -26,7 +26,7 @@ def tokens(*counts):
     return b"runs of letters: %d\nruns of digits: %d\nruns of white space: %d\nruns of other bytes: %d\n" % counts
 
 
-NAMES = ["run_length_coder", "uniq_count", "token_counter", "grouped_report", "table_join", "index_reader"]
+NAMES = ["run_length_coder", "token_counter", "grouped_report", "table_join", "index_reader"]
 NO_RUN = b"it is not two numbers with a space between them"
 NO_BYTE = b"its byte is no number up to 255"
 NO_COUNT = b"its count is no number of 64 bits"
@@ -50,8 +50,6 @@ CASES = [
     ("run_length_coder", ["decode"], b"3 97\n1 98\n2 0\n1 255\n", 0, b"aaab\0\0\xff", b""),
     ("run_length_coder", ["decode"], RUNS, 1, b"aacddd", WRONG_RUNS),
     ("run_length_coder", ["decode"], b"65537 7\n1 8\n", 0, b"\x07" * 65537 + b"\x08", b""),
-    ("uniq_count", [], b"", 0, b"", b""),
-    ("uniq_count", [], b"a\na\nb\r\nb\n\n\n\0\n\xff\n\xff", 0, b"2 a\n1 b\r\n1 b\n2 \n1 \0\n2 \xff\n", b""),
     ("token_counter", [], b"", 0, tokens(0, 0, 0, 0), b""),
     ("token_counter", [], b"let x1 = \xe9\xa5\xb0\xff;\r\n\0", 0, tokens(2, 1, 4, 3), b""),
     ("token_counter", [], b"aZ09 \t\n\x0b\x0c\r[`{@/:", 0, tokens(1, 1, 2, 2), b""),
@@ -117,6 +115,7 @@ CASES = [
     *((name, ["\udcff"], b"", 2, b"", b"%s: an argument is not UTF-8\n" % name.encode()) for name in NAMES),
     # of a hundred lines of a file each is complained of, and the others are counted
     ("run_length_coder", ["decode"], b"\n" * 100, 1, b"", said("run_length_coder", *hundred(NO_RUN))),
+    ("run_length_coder", ["decode"], b"\n" * 102, 1, b"", said("run_length_coder", *hundred(NO_RUN)) + b"run_length_coder: -: 2 more lines are left out\n"),
     ("grouped_report", [], b"\n" * 101, 1, b"total: 0\n", said("grouped_report", *hundred(NO_COMMA)) + b"grouped_report: -: 1 more line is left out\n"),
     (
         "table_join", [], (b"\n" * 101, b"\n" * 112), 1, b"",
@@ -160,7 +159,6 @@ AT_ONCE = [
 # Long inputs, and what is written of them.
 LONG = [
     ("run_length_coder", [], b"ab" * 4_000_000, b"1 97\n1 98\n" * 4_000_000),
-    ("uniq_count", [], b"a line\n" * 8_000_000, b"8000000 a line\n"),
     ("grouped_report", [], b"1,1\n2,1\n" * 3_000_000, b"department 1: 3000000\ndepartment 2: 3000000\ntotal: 6000000\n"),
     ("table_join", [], (b"k,v\n" * 2000, b"k,w\n" * 2000), b"k,v,w\n" * 4_000_000),
     # 25 MB and 25 MB
@@ -174,7 +172,7 @@ LONG = [
 # Arguments that are wrong, and what is said of them before the usage. The files that they name do not exist.
 WRONG_ARGUMENTS = [
     *((name, [*words, "-x"], 'unknown argument: "-x"') for name in NAMES for words in ([], ["nofile"])),
-    *((name, ["nofile", "more", "yet"], 'one argument too many: "more"') for name in NAMES[:4]),
+    *((name, ["nofile", "more", "yet"], 'one argument too many: "more"') for name in NAMES[:3]),
     ("run_length_coder", ["decode", "nofile", "more\n"], r'one argument too many: "more\n"'),
     ("index_reader", [], "INDEX is missing"),
     ("index_reader", ["nofile", "nofile", "more\n"], r'one argument too many: "more\n"'),

@@ -71,12 +71,11 @@ module _ (rows : List Row) (place : ℕ) (old : Row) (d : List ℕ) (more : ℕ)
     }
 
 -- their report is written
-pub reports : (name : List ℕ) (a before written after c d : Option (List ℕ)) (rows sums : List Row) (w : Bool)
-    → IfSome a (λ bytes. AreRows name bytes rows w c d) → SaysTheSame rows sums → IsReport sums
-    → Appends before written (flat_map sum_line sums ++ total_line sums) → Keeps written after
-    → IfSome a (λ bytes. Reports name bytes w before after c d)
-reports name None before written after c d rows sums w read same is_report writes keeps = tt
-reports name (Some bytes) before written after c d rows sums w read same is_report writes keeps = record {
+pub reports : (a before written after : Option (List ℕ)) (rows sums : List Row) (w : Bool) → IfSome a (λ bytes. AreRows bytes rows w)
+    → SaysTheSame rows sums → IsReport sums → Appends before written (flat_map sum_line sums ++ total_line sums) → Keeps written after
+    → IfSome a (λ bytes. Reports bytes w before after)
+reports None before written after rows sums w read same is_report writes keeps = tt
+reports (Some bytes) before written after rows sums w read same is_report writes keeps = record {
   rows = rows;
   are_rows = read;
   sums = sums;

@@ -2,4 +2,3 @@ pub mod Departments
 pub mod Input
 pub mod Report
 pub mod Runs
-pub mod Words

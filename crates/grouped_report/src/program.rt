@@ -34,8 +34,7 @@ pub fn run<R: BufRead + Drop, W: Write, E: Write>(
     complaints: &mut E,
 ) -> u8
     ensures whole { result ≡ 0 → IfSome (R.remaining input)
-        (λ bytes. Reports name.now bytes true (W.contents out.old) (W.contents out.new)
-        (E.contents complaints.old) (E.contents complaints.new)) }
+        (λ bytes. Reports bytes true (W.contents out.old) (W.contents out.new)) }
 {
     let done = report_rows(alloc, name, input, out, complaints);
     status_of("grouped_report", done, files, complaints)

@@ -15,10 +15,6 @@ pub enum Problem {
 }
 
 impl fmt::Display for Problem {
-    ghost use Rattle.grouped_report.specs.Words.{words};
-
-    ghost output = { words };
-
     fn fmt<W: fmt::Write>(&self, f: &mut fmt::Formatter<W>) -> fmt::Result {
         match self {
             Problem::NoText => write!(f, "it is not UTF-8"),

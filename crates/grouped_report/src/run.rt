@@ -22,8 +22,7 @@ pub fn report_rows<R: BufRead + Drop, W: Write, E: Write>(
     complaints: &mut E,
 ) -> io::Result<bool>
     ensures { IfOk result (λ is_whole. IfSome (R.remaining input)
-        (λ bytes. Reports name.now bytes is_whole (W.contents out.old) (W.contents out.new)
-        (E.contents complaints.old) (E.contents complaints.new))) }
+        (λ bytes. Reports bytes is_whole (W.contents out.old) (W.contents out.new))) }
 {
     let mut lines = Lines::new(alloc, input);
     let mut sums = Sums::new(alloc);
@@ -43,8 +42,7 @@ fn read_rows<R: BufRead, E: Write>(
 ) -> io::Result<bool>
     requires { lines.old.number ≡ 0 }
     ensures { IfOk result (λ is_whole. (rows : List Row) × SaysTheSame (sums.old ++ rows) sums.new
-        × IfSome (R.remaining lines.old.reader) (λ bytes. AreRows name.now bytes rows is_whole
-        (E.contents complaints.old) (E.contents complaints.new))) }
+        × IfSome (R.remaining lines.old.reader) (λ bytes. AreRows bytes rows is_whole)) }
 {
     let mut omitted = Omitted::none("grouped_report", name);
     for _ in 0..u64::MAX {

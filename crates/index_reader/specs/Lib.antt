@@ -2,4 +2,3 @@ pub mod Answers
 pub mod Blocks
 pub mod Keys
 pub mod Runs
-pub mod Words

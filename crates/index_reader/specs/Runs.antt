@@ -5,7 +5,6 @@ use Rattle.program_parts.specs.Read.{AreRead}
 use Rattle.program_parts.specs.Pairs.{Says, IsNumber}
 use Rattle.index_reader.specs.Keys.{IsAscending, IsWrong, IsWrongQuery, of_key}
 use Rattle.index_reader.specs.Answers.{answer_line}
-use Rattle.index_reader.specs.Words.{source_of_file, words}
 use Rattle.index_reader.specs.declared.entry.Entry.{Entry}
 use Rattle.index_reader.specs.declared.entry.Problem.{Problem}
 
@@ -34,16 +33,13 @@ abbrev pub count_line : List ℕ → List ℕ
 count_line keys = count_text (min (length keys) (2 ^ 64 - 1))
 
 -- The answers are written to the queries that are kept of the lines of the one file, by the entries that are kept of those of the other;
--- each other line is complained of, first those of the index, and `is_whole` says whether there is none.
-pub record Answers (index_name entries queries_name queries : List ℕ) (is_whole : Bool)
-    (before after said_before said_after : Option (List ℕ)) : Type 0
-  where
-    pub index : List Entry
-    pub keys : List ℕ
-    pub are_entries : Bool
-    pub are_queries : Bool
-    pub said : Option (List ℕ)
-    pub reads_index : AreRead SaysEntry IsNoEntry (source_of_file index_name) words entries index are_entries said_before said
-    pub reads_queries : AreRead SaysQuery IsNoQuery (source_of_file queries_name) words queries keys are_queries said said_after
-    pub writes : Appends before after (answers index keys ++ count_line keys)
-    pub whole : is_whole ≡ (are_entries && are_queries)
+-- the other lines are left out, and `is_whole` says whether there is none.
+pub record Answers (entries queries : List ℕ) (is_whole : Bool) (before after : Option (List ℕ)) : Type 0 where
+  pub index : List Entry
+  pub keys : List ℕ
+  pub are_entries : Bool
+  pub are_queries : Bool
+  pub reads_index : AreRead SaysEntry IsNoEntry entries index are_entries
+  pub reads_queries : AreRead SaysQuery IsNoQuery queries keys are_queries
+  pub writes : Appends before after (answers index keys ++ count_line keys)
+  pub whole : is_whole ≡ (are_entries && are_queries)

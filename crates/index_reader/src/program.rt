@@ -39,8 +39,7 @@ pub fn run<I: BufRead + Drop, Q: BufRead + Drop, W: Write, E: Write>(
     complaints: &mut E,
 ) -> u8
     ensures { result ≡ 0 → IfSome (I.remaining index) (λ entries. IfSome (Q.remaining queries)
-        (λ asked. Answers index_name.now entries queries_name.now asked true (W.contents out.old) (W.contents out.new)
-        (E.contents complaints.old) (E.contents complaints.new))) }
+        (λ asked. Answers entries asked true (W.contents out.old) (W.contents out.new))) }
 {
     let done = answer_all(
         alloc,

@@ -3,7 +3,6 @@ ghost use Rattle.std.specs.Prelude.{◌≡◌, ℕ, List, ◌++◌, IfOk, IfSome
 ghost use Rattle.std.specs.Io.KnownBytes.{Appends};
 ghost use Rattle.program_parts.specs.Read.{AreRead};
 ghost use Rattle.index_reader.specs.Runs.{Answers, IsNoEntry, IsNoQuery, SaysEntry, SaysQuery, answers, count_line, count_text};
-ghost use Rattle.index_reader.specs.Words.{source_of_file, words};
 
 use crate::block::{answer_block, answer_if_full};
 use crate::entry::{next_entry, parse_query};
@@ -29,8 +28,7 @@ pub fn answer_all<I: BufRead + Drop, Q: BufRead + Drop, W: Write, E: Write>(
     complaints: &mut E,
 ) -> io::Result<bool>
     ensures { IfOk result (λ is_whole. IfSome (I.remaining index) (λ entries. IfSome (Q.remaining queries)
-        (λ asked. Answers index_name.now entries queries_name.now asked is_whole (W.contents out.old) (W.contents out.new)
-        (E.contents complaints.old) (E.contents complaints.new)))) }
+        (λ asked. Answers entries asked is_whole (W.contents out.old) (W.contents out.new)))) }
 {
     let mut entry_lines = Lines::new(alloc, index);
     let (index, are_entries) = read_index(alloc, index_name, &mut entry_lines, complaints)?;
@@ -55,8 +53,8 @@ fn read_index<R: BufRead, E: Write>(
     complaints: &mut E,
 ) -> io::Result<(Index, bool)>
     requires { lines.old.number ≡ 0 }
-    ensures { IfOk result (λ read. IfSome (R.remaining lines.old.reader) (λ bytes. AreRead SaysEntry IsNoEntry
-        (source_of_file name.now) words bytes read.0 read.1 (E.contents complaints.old) (E.contents complaints.new))) }
+    ensures { IfOk result (λ read. IfSome (R.remaining lines.old.reader)
+        (λ bytes. AreRead SaysEntry IsNoEntry bytes read.0 read.1)) }
 {
     let mut index = Index::new(alloc);
     let mut omitted = Omitted::none("index_reader", name);
@@ -85,8 +83,7 @@ fn answer_queries<R: BufRead, W: Write, E: Write>(
     requires { lines.old.number ≡ 0 }
     ensures { IfOk result (λ is_whole. (keys : List ℕ)
         × Appends (W.contents out.old) (W.contents out.new) (answers index.now keys ++ count_line keys)
-        × IfSome (R.remaining lines.old.reader) (λ bytes. AreRead SaysQuery IsNoQuery
-        (source_of_file name.now) words bytes keys is_whole (E.contents complaints.old) (E.contents complaints.new))) }
+        × IfSome (R.remaining lines.old.reader) (λ bytes. AreRead SaysQuery IsNoQuery bytes keys is_whole)) }
 {
     let mut queries = 0u64;
     let mut keys = Vec::new(alloc);

@@ -3,4 +3,3 @@ pub mod Fed
 pub mod Given
 pub mod KeptSoFar
 pub mod Written
-pub mod Yielded

@@ -1,7 +1,20 @@
 -- What is kept of lines, one after another, and which are left out.
-use Rattle.std.specs.Prelude.{◌≡◌, ℕ, ◌+◌, ◌-◌, ◌^◌, List, [], ◌∷◌, ◌++◌, ◌⊎◌, min, length, Option}
-use Rattle.program_parts.specs.Complaints.{LeftOut}
+use Rattle.std.specs.Prelude.{◌≡◌, ℕ, ◌+◌, ◌-◌, ◌^◌, List, [], ◌∷◌, ◌++◌, ◌⊎◌, min, length, Bool, true, false, Option}
 use Rattle.program_parts.specs.Lines.{GivesLines}
+
+-- A line that is left out: its number, and what is wrong with it.
+pub record LeftOut (P : Type 0) : Type 0 where
+  pub number : ℕ
+  pub problem : P
+
+-- no line is left out
+abbrev pub none_left_out : {P : Type 0} → List (LeftOut P) → Bool
+none_left_out [] = true
+none_left_out (line ∷ lines) = false
+
+-- how many lines are left out, up to the greatest number of 64 bits
+abbrev pub count_of : {P : Type 0} → List (LeftOut P) → ℕ
+count_of lines = min (length lines) (2 ^ 64 - 1)
 
 -- the number that a line has: all behind the line of the greatest number of 64 bits have this one too
 abbrev pub line_number : ℕ → ℕ

@@ -1,8 +1,4 @@
 //! What a program reads: a file that is named, or standard input.
-ghost use Rattle.std.specs.Prelude.{◌≡◌, ◌++◌, flat_map, string_bytes, IfOk, OnOk};
-ghost use Rattle.std.specs.Char.{encode_utf8};
-ghost use Rattle.std.specs.Char.Escape.{escape_default};
-ghost use Rattle.program_parts.specs.Shown.{shown_char, shown_text};
 
 use std::alloc::{AllocError, Global};
 use std::cell::Cell;
@@ -21,9 +17,7 @@ pub struct NamedFile {
 
 impl NamedFile {
     /// The file of this name.
-    pub fn new(alloc: Global, name: &str) -> Result<NamedFile, AllocError>
-        ensures { IfOk result (λ file. string_bytes file.shown ≡ shown_text name.now) }
-    {
+    pub fn new(alloc: Global, name: &str) -> Result<NamedFile, AllocError> {
         Ok(NamedFile {
             name: String::from_str(alloc, name)?,
             shown: shown(alloc, name)?,
@@ -116,36 +110,17 @@ impl<'a> Read for Input<'a> {
     }
 }
 
-// The text as complaints show it.
-fn shown(alloc: Global, text: &str) -> Result<String, AllocError>
-    ensures { IfOk result (λ shown. string_bytes shown ≡ shown_text text.now) }
-{
+// The text as complaints show it: a control character has its code or its letter behind a backslash.
+fn shown(alloc: Global, text: &str) -> Result<String, AllocError> {
     let mut shown = String::new(alloc);
     for character in text.chars() {
-        push_shown(&mut shown, character)?;
+        if character.is_control() {
+            for escaped in character.escape_default() {
+                shown.push(escaped)?;
+            }
+        } else {
+            shown.push(character)?;
+        }
     }
     Ok(shown)
-}
-
-// Adds a character as complaints show it.
-fn push_shown(text: &mut String, character: char) -> Result<(), AllocError>
-    ensures { OnOk result
-        (string_bytes text.new ≡ string_bytes text.old ++ flat_map encode_utf8 (shown_char character)) }
-{
-    if character.is_control() {
-        push_escaped(text, character)
-    } else {
-        text.push(character)
-    }
-}
-
-// Adds a character with its code or its letter behind a backslash.
-fn push_escaped(text: &mut String, character: char) -> Result<(), AllocError>
-    ensures { OnOk result
-        (string_bytes text.new ≡ string_bytes text.old ++ flat_map encode_utf8 (escape_default character)) }
-{
-    for escaped in character.escape_default() {
-        text.push(escaped)?;
-    }
-    Ok(())
 }

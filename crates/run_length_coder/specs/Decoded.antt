@@ -4,7 +4,6 @@ use Rattle.std.specs.Io.KnownBytes.{Appends}
 use Rattle.program_parts.specs.Read.{AreRead}
 use Rattle.run_length_coder.specs.Coding.{copies}
 use Rattle.run_length_coder.specs.Lines.{Says, IsWrong}
-use Rattle.run_length_coder.specs.Words.{source_of_file, words}
 use Rattle.run_length_coder.specs.declared.line.RunError.{RunError}
 use Rattle.run_length_coder.specs.declared.runs.Run.{Run}
 
@@ -15,9 +14,8 @@ SaysRun before line run = Says line run.count run.byte
 abbrev pub IsNoRun : List Run → List ℕ → RunError → Type 0
 IsNoRun before line error = IsWrong line error
 
--- The bytes of the runs that the lines of a file of this name say are written; each other line is complained of, and `are_runs` says
--- whether there is none.
-pub record Decodes (name bytes : List ℕ) (are_runs : Bool) (before after said_before said_after : Option (List ℕ)) : Type 0 where
+-- The bytes of the runs that the lines of a file say are written; the other lines are left out, and `are_runs` says whether there is none.
+pub record Decodes (bytes : List ℕ) (are_runs : Bool) (before after : Option (List ℕ)) : Type 0 where
   pub runs : List Run
-  pub reads : AreRead SaysRun IsNoRun (source_of_file name) words bytes runs are_runs said_before said_after
+  pub reads : AreRead SaysRun IsNoRun bytes runs are_runs
   pub writes : Appends before after (flat_map copies runs)

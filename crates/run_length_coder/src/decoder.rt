@@ -22,8 +22,7 @@ pub fn decode<R: BufRead, W: Write, E: Write>(
     complaints: &mut E,
 ) -> io::Result<bool>
     ensures any { IfOk result (λ are_runs. IfSome (R.remaining input.old)
-        (λ bytes. Decodes name.now bytes are_runs (W.contents out.old) (W.contents out.new)
-        (E.contents complaints.old) (E.contents complaints.new))) }
+        (λ bytes. Decodes bytes are_runs (W.contents out.old) (W.contents out.new))) }
 
     // Of what bytes were coded as, these bytes are written.
     ensures again { (bytes : List ℕ) → All (λ byte. byte < 2 ^ 8) bytes → length bytes < 2 ^ 64

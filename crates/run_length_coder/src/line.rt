@@ -15,10 +15,6 @@ pub enum RunError {
 }
 
 impl fmt::Display for RunError {
-    ghost use Rattle.run_length_coder.specs.Words.{words};
-
-    ghost output = { words };
-
     fn fmt<W: fmt::Write>(&self, f: &mut fmt::Formatter<W>) -> fmt::Result {
         match self {
             RunError::NoRun => write!(f, "it is not two numbers with a space between them"),

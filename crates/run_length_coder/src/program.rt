@@ -46,8 +46,7 @@ pub fn run<R: BufRead, W: Write, E: Write>(
 
     // Of any input, where each line says a run.
     ensures decodes_any { mode ≡ Decode → result ≡ 0 → IfSome (R.remaining input.old)
-        (λ bytes. Decodes name.now bytes true (W.contents out.old) (W.contents out.new)
-        (E.contents complaints.old) (E.contents complaints.new)) }
+        (λ bytes. Decodes bytes true (W.contents out.old) (W.contents out.new)) }
 
     // Of what bytes were coded as.
     ensures decodes { mode ≡ Decode → result ≡ 0
@@ -85,8 +84,7 @@ fn decode_all<R: BufRead, W: Write, E: Write>(
     complaints: &mut E,
 ) -> io::Result<bool>
     ensures any { IfOk result (λ are_runs. IfSome (R.remaining input.old)
-        (λ bytes. Decodes name.now bytes are_runs (W.contents out.old) (W.contents out.new)
-        (E.contents complaints.old) (E.contents complaints.new))) }
+        (λ bytes. Decodes bytes are_runs (W.contents out.old) (W.contents out.new))) }
     ensures again { (bytes : List ℕ) → All (λ byte. byte < 2 ^ 8) bytes → length bytes < 2 ^ 64
         → R.remaining input.old ≡ Some (coded bytes)
         → IfOk result (λ are_runs. IsTrue are_runs × Appends (W.contents out.old) (W.contents out.new) bytes) }

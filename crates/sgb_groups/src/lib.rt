@@ -5,7 +5,6 @@
 pub mod boundary;
 mod by_equality;
 mod by_key;
-mod by_number;
 mod by_predicate;
 pub mod debug;
 pub mod groups;

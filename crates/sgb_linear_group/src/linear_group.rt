@@ -5,7 +5,6 @@ use sgb_groups::debug::{DebugNames, Names};
 use sgb_groups::groups::SliceGroups;
 use sgb_groups::groups_mut::SliceGroupsMut;
 use sgb_groups::way::Way;
-use sgb_numbers::number_judge::NumberJudge;
 use sgb_split::end::End;
 use sgb_split::judge::{EqualityJudge, Judge, KeyJudge, PredicateJudge};
 
@@ -56,18 +55,6 @@ pub type LinearGroupByKey<'a, T, F, K> = LinearGroups<'a, T, KeyJudge<F, K>>;
 /// ```
 pub type LinearGroupMut<'a, T> = LinearGroupsMut<'a, T, EqualityJudge>;
 
-/// An iterator over the groups of equal numbers of a slice for writing, found by vectors. A call takes time by the length of its
-/// group; how many comparisons that are is not counted.
-///
-/// ```
-/// let mut array = [1, 1, 2, 3, 3];
-/// let mut groups = LinearNumberGroupMut::new(&mut array);
-/// if let Some(group) = groups.next() {
-///     group.fill(7); // array is [7, 7, 2, 3, 3]
-/// }
-/// ```
-pub type LinearNumberGroupMut<'a, T> = LinearGroupsMut<'a, T, NumberJudge>;
-
 /// An iterator over the groups of a slice by a predicate for writing. The predicate is asked about neighbours, the left one
 /// first, as they are when the call is made: for a group of g elements g times, or g - 1 times where nothing remains after it.
 ///
@@ -100,7 +87,7 @@ pub type LinearGroupByKeyMut<'a, T, F, K> = LinearGroupsMut<'a, T, KeyJudge<F, K
 /// A call asks about the neighbouring pairs of the remainder from its end on, the left element first from both ends, up
 /// to the first pair that the judge refuses. So a group of g elements costs g questions, or g - 1 if nothing remains after
 /// it. A list of calls asks about no pair twice. A call reads the elements that it asks about and no others, and so takes time
-/// by its questions. `NumberJudge` alone answers for many pairs at once, and may read a vector beyond the group.
+/// by its questions.
 pub type LinearGroups<'a, T, J> = SliceGroups<'a, T, J, Linear>;
 
 /// An iterator over the groups of a slice for writing, that asks what `LinearGroups` asks.

@@ -6,4 +6,3 @@ mod SignedBits
 pub mod Asked
 pub mod Scanned
 pub mod Vectors
-pub mod Judged

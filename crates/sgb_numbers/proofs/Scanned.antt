@@ -1,18 +1,13 @@
 -- A scan that compares with the element at the end finds the first pair of neighbours that differs: equality is symmetric and transitive.
-use Rattle.std.proofs.Common.{◌≡◌, ℕ, ◌+◌, ◌-◌, ◌<◌, ◌≤◌, Bool, true, false, not, List, [], ◌∷◌, length, get_or, ◌⊎◌, inl, inr}
+use Rattle.std.proofs.Common.{◌≡◌, ℕ, ◌+◌, ◌-◌, ◌<◌, ◌≤◌, Bool, true, false, not, List, length, get_or, ◌⊎◌, inl, inr}
 use Rattle.std.proofs.Common.{sym, ap, ◌∙◌, subst, arith, ⊎_elim}
 use Rattle.std.proofs.lemmas.Bool.{cases_lt, false_from_ne_true, false≢true}
-use Rattle.std.proofs.lemmas.List.{get_or_default, length-reverse}
+use Rattle.std.proofs.lemmas.List.{length-reverse}
 use Rattle.std.specs.Cmp.{IsPartialEquivalence}
-use Rattle.std.specs.Prelude.{reverse, slice_range}
-use Rattle.sgb_split.specs.declared.end.End.TheVariants.{Front, Back}
-use Rattle.sgb_split.specs.declared.judge.Judge.{Ghosts}
-use Rattle.sgb_split.specs.Questions.{IsRun, questions}
-use Rattle.sgb_numbers.specs.Numbers.{AreLike, IsFirstLen, IsLastLen}
-use Rattle.sgb_numbers.specs.Numbers.{differs, AreSame, IsFirstEnd, IsLastStart}
+use Rattle.std.specs.Prelude.{reverse}
+use Rattle.sgb_numbers.specs.Numbers.{differs, AreLike, AreSame}
 use Rattle.sgb_numbers.proofs.Pairs.{differs_or}
-use Rattle.sgb_numbers.proofs.Reversed.{at_reverse, like_reverse, differs_reverse, same_reverse}
-use Rattle.sgb_numbers.proofs.Asked.{asked_front, asked_back}
+use Rattle.sgb_numbers.proofs.Reversed.{at_reverse, like_reverse}
 
 module _ {T : Type 0} (eq : T → T → Bool) (xs : List T) where
   abbrev pub is_cut : ℕ → Type 0
@@ -80,60 +75,3 @@ module _ {T : Type 0} (eq : T → T → Bool) (xs : List T) (laws : IsPartialEqu
       scanned_cut eq (reverse xs) laws e _ (length xs - start) here_back (omega arith) (omega (arith, length-reverse xs)) like_back
       (omega (arith, length-reverse xs))
       (ap (λ x. eq x e) (at_reverse xs (length xs - start) (start - 1) e (omega arith)) ∙ unlike)
-
--- what a scan of a part finds, as the end of the part's first or last group
-module _ {T : Type 0} (eq : T → T → Bool) (laws : IsPartialEquivalence eq) (xs : List T) (low high n : ℕ) (inside : high ≤ length xs)
-    (d : T) where
-  read : (p : ℕ) (e : T) → p < length xs → get_or xs p d ≡ get_or xs p e
-  read p e l = get_or_default xs p d e l
-
-  first_end : IsFirstLen eq xs low high n → IsFirstEnd eq xs low high (low + n)
-  first_end r =
-      let e = get_or xs low d in
-      let here = read low e (omega (arith, r.nonempty, r.within, inside)) in
-      let order : low + 1 ≤ low + n = omega (arith, r.nonempty) in
-      let within : low + n ≤ length xs = omega (arith, r.within, inside) in
-      record {
-        nonempty = omega (arith, r.nonempty);
-        within = r.within;
-        same = scanned_same eq xs laws e low (low + n) here order within (r.like d);
-        differ =
-            λ more. scanned_cut eq xs laws e low (low + n) here order within (r.like d) (omega (arith, more, inside))
-            (ap (λ y. eq y e) (sym (read (low + n) e (omega (arith, more, inside)))) ∙ r.unlike d more);
-      }
-
-  last_start : IsLastLen eq xs low high n → IsLastStart eq xs low high (high - n)
-  last_start r =
-      let e = get_or xs (high - 1) d in
-      let within : high - 1 < length xs = omega (arith, r.nonempty, r.within, inside) in
-      let here = read (high - 1) e within in
-      let order : high - n ≤ high - 1 = omega (arith, r.nonempty, r.within) in
-      record {
-        nonempty = omega (arith, r.nonempty, r.within);
-        within = omega (arith, r.within);
-        same = same_reverse eq laws.symm xs _ _ _ _ (omega (arith, within)) (omega (arith, r.within, within))
-            (scanned_back_same eq xs laws e (high - n) (high - 1) here order within (r.like d));
-        differ =
-            λ more. sym (differs_reverse eq laws.symm xs (high - n - 1) _ (omega (arith, more, within)))
-            ∙ scanned_back_cut eq xs laws e (high - n) (high - 1) here order within (r.like d) (omega (arith, more))
-            (ap (λ y. eq y e) (sym (read (high - n - 1) e (omega (arith, more, inside)))) ∙ r.unlike d (omega (arith, more)));
-      }
-
--- and as the questions that it stands for
-module _ {T J : Type 0} (eq : T → T → Bool) (laws : IsPartialEquivalence eq) (g : Ghosts J T) (j : J) (asks : (q : T × T) → g.may_ask j q)
-    (tells : (q : T × T) → g.answers j q (eq q.0 q.1) j) where
-  pub first_run_in : (xs : List T) (low high : ℕ) → low < high → high ≤ length xs → (n : ℕ) → IsFirstLen eq xs low high n
-      → IsRun g.may_ask g.answers j (questions Front (slice_range xs low high) n) j
-  first_run_in [] low high nonempty inside n r = absurd (omega (arith, nonempty, inside))
-  first_run_in (x ∷ xs) low high nonempty inside n r =
-      subst (λ (k : ℕ). IsRun g.may_ask g.answers j (questions Front (slice_range (x ∷ xs) low high) k) j)
-      {x = low + n - low} {y = n} (omega arith)
-      (asked_front eq g j asks tells (x ∷ xs) low high nonempty inside (low + n) (first_end eq laws (x ∷ xs) low high n inside x r))
-
-  pub last_run_in : (xs : List T) (low high : ℕ) → low < high → high ≤ length xs → (n : ℕ) → IsLastLen eq xs low high n
-      → IsRun g.may_ask g.answers j (questions Back (slice_range xs low high) n) j
-  last_run_in [] low high nonempty inside n r = absurd (omega (arith, nonempty, inside))
-  last_run_in (x ∷ xs) low high nonempty inside n r =
-      subst (λ (k : ℕ). IsRun g.may_ask g.answers j (questions Back (slice_range (x ∷ xs) low high) k) j)
-      {x = high - (high - n)} {y = n} (omega (arith, r.within))
-      (asked_back eq g j asks tells (x ∷ xs) low high nonempty inside (high - n) (last_start eq laws (x ∷ xs) low high n inside x r))

@@ -3,12 +3,9 @@ ghost use Rattle.std.specs.Prelude.{refl};
 
 use crate::lanes::Lanes;
 use crate::masks::{MaskJudge, Masks};
-use crate::scans::{first_like, last_like};
 use sgb_split::judge::Judge;
 
-/// Asks `==` of numbers, and answers for many neighbouring pairs at once. It may always be asked.
-///
-/// Its answers are those of `==`. It counts nothing: how often it compares, no contract says.
+/// Asks `==` of numbers. It may always be asked, and counts nothing: how often it compares, no contract says.
 #[derive(Drop)]
 pub struct NumberJudge {}
 
@@ -22,16 +19,6 @@ impl<T: Lanes> Judge<T> for NumberJudge {
     #[inline]
     fn ask(&mut self, first: &T, second: &T) -> bool {
         <NumberJudge as Masks<T>>::same(first, second)
-    }
-
-    #[inline]
-    fn first_len(&mut self, slice: &[T], low: usize, high: usize) -> usize {
-        first_like(slice, low, high)
-    }
-
-    #[inline]
-    fn last_len(&mut self, slice: &[T], low: usize, high: usize) -> usize {
-        last_like(slice, low, high)
     }
 }
 

@@ -62,7 +62,7 @@ pub use sgb_groups::shards::Shards;
 pub use sgb_linear_group::best::{partition_best_by, partition_best_by_key};
 pub use sgb_linear_group::linear_group::{
     LinearGroup, LinearGroupBy, LinearGroupByKey, LinearGroupByKeyMut, LinearGroupByMut,
-    LinearGroupMut, LinearNumberGroupMut,
+    LinearGroupMut,
 };
 pub use sgb_linear_str_group::by_equality::{LinearStrGroup, LinearStrGroupMut};
 pub use sgb_linear_str_group::by_key::{LinearStrGroupByKey, LinearStrGroupByKeyMut};

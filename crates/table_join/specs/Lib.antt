@@ -1,3 +1,4 @@
+pub mod Excerpts
 pub mod Input
 pub mod Joined
 pub mod Joins
@@ -5,4 +6,3 @@ pub mod Kinds
 pub mod Rows
 pub mod Runs
 pub mod Tables
-pub mod Words

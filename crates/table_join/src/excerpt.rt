@@ -1,5 +1,5 @@
 //! Long texts in complaints.
-ghost use Rattle.table_join.specs.Words.{IsExcerpt};
+ghost use Rattle.table_join.specs.Excerpts.{IsExcerpt};
 
 use std::fmt;
 
@@ -27,10 +27,6 @@ impl<'a> Excerpt<'a> {
 }
 
 impl<'a> fmt::Display for Excerpt<'a> {
-    ghost use Rattle.table_join.specs.Words.{excerpt_words};
-
-    ghost output = { excerpt_words };
-
     fn fmt<W: fmt::Write>(&self, f: &mut fmt::Formatter<W>) -> fmt::Result {
         write!(f, "{:?}", self.shown)?;
         if self.is_cut {

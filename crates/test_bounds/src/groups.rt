@@ -85,9 +85,8 @@ pub fn by_stateless_key<T, F: Fn(&T) -> K, K: PartialEq + Drop>(
     let _ = ys.exponential_group_by_key_mut(g);
 }
 
-pub fn of_numbers<T: Lanes>(xs: &[T], mut ys: &mut [T]) {
+pub fn of_numbers<T: Lanes>(xs: &[T]) {
     let _ = xs.linear_number_group();
-    let _ = ys.linear_number_group_mut();
 }
 
 pub fn classes_by_method<C: ByteClasses>(bytes: &[u8]) {

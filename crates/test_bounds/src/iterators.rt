@@ -21,12 +21,11 @@ fn crosses_threads<W: Send + Sync>(_value: &W) {}
 
 pub fn of_elements<'a, T: PartialEq, N: Lanes>(
     equal: (&LinearGroup<'a, T>, &LinearGroupMut<'a, T>),
-    numbers: (&LinearNumberGroup<'a, N>, &LinearNumberGroupMut<'a, N>),
+    numbers: &LinearNumberGroup<'a, N>,
 ) {
     is_read::<T, _>(equal.0);
     is_written::<T, _>(equal.1);
-    is_read::<N, _>(numbers.0);
-    is_written::<N, _>(numbers.1);
+    is_read::<N, _>(numbers);
 }
 
 pub fn of_classes<'a, C: ByteClasses>(bytes: &'a [u8]) -> LinearClassGroup<'a, C> {

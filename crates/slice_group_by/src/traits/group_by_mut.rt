@@ -3,7 +3,6 @@ ghost use Rattle.std.specs.Prelude.{◌≡◌, Bool};
 ghost use Rattle.sgb_split.specs.Calls.{ComputesBy, IsCallableBy};
 ghost use Rattle.std.specs.Fn.{ComputesOnPairs, ComputesKey};
 ghost use Rattle.sgb_split.specs.Judges.{by_predicate, predicate_judge, by_key, key_judge, by_equality};
-ghost use Rattle.sgb_numbers.specs.Numbers.{by_number};
 ghost use Rattle.sgb_split.specs.Split.{IsGrouped, AreApart, AreNeighbours};
 ghost use Rattle.sgb_split.specs.Linear.{IsSettled};
 ghost use Rattle.sgb_search.specs.Searching.{IsSettledApart};
@@ -15,10 +14,7 @@ use sgb_binary_group::binary_group::{BinaryGroupByKeyMut, BinaryGroupByMut, Bina
 use sgb_exponential_group::exponential_group::{
     ExponentialGroupByKeyMut, ExponentialGroupByMut, ExponentialGroupMut,
 };
-use sgb_linear_group::linear_group::{
-    LinearGroupByKeyMut, LinearGroupByMut, LinearGroupMut, LinearNumberGroupMut,
-};
-use sgb_numbers::lanes::Lanes;
+use sgb_linear_group::linear_group::{LinearGroupByKeyMut, LinearGroupByMut, LinearGroupMut};
 
 /// Groups of neighbouring elements, for writing.
 ///
@@ -82,20 +78,6 @@ pub trait GroupByMut<T>: AsMutSlice<T> {
         ensures loans { NothingOut result.loans.root result.loans }
     {
         LinearGroupMut::new(self.as_mut_slice())
-    }
-
-    /// Groups of equal numbers, found by vectors: those of `linear_group_mut`. They ask no closure. See
-    /// `LinearNumberGroupMut`.
-    #[inline]
-    fn linear_number_group_mut(&mut self) -> LinearNumberGroupMut<'_, T>
-    where
-        T: Lanes,
-        ensures remainder { result.remainder ≡ Self.elements self.entry.now }
-        ensures callable { IsCallableBy AreNeighbours (by_number T.eq) (groups_of_mut result) }
-        ensures settled { IsSettled (by_number T.eq) (groups_of_mut result) T.eq }
-        ensures loans { NothingOut result.loans.root result.loans }
-    {
-        LinearNumberGroupMut::new(self.as_mut_slice())
     }
 
     /// Groups by a key, found by halving: equal keys should stand side by side. At most `digits(n - 1)` questions where n

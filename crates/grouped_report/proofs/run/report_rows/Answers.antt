@@ -6,6 +6,6 @@ returns g c =
     let (rows, same, read) = c.in_ok-is_whole.ensures in
     let report = c.in_ok-report.ensures in
     let sums = c.in_ok-report.field-0.items in
-    reports _ _ _ _ _ _ _ rows sums c.in_ok-is_whole.is_whole (rw c.new-lines.ensures.reader at read)
+    reports _ _ _ _ rows sums c.in_ok-is_whole.is_whole (rw c.new-lines.ensures.reader at read)
     (same_then rows _ sums (rw c.new-sums.ensures at same) report.same) report.report
     (rw c.deref.ensures.value at c.in_ok-write_report.ensures) c.in_ok-flush.ensures.bytes

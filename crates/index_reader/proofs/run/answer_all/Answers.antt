@@ -9,6 +9,6 @@ returns g c =
       | then-are_entries w ↦ rw w.if-are_entries.true w.result-is
       | else-are_entries w ↦ w.result-is ∙ rw w.if-are_entries.false refl
     ] in
-    answered _ _ _ _ _ _ _ _ _ _ c.in_ok-index.index c.in_ok-index.are_entries c.in_ok-are_queries.are_queries c.if-are_entries.result
+    answered _ _ _ _ _ c.in_ok-index.index c.in_ok-index.are_entries c.in_ok-are_queries.are_queries c.if-are_entries.result
     (rw c.new-entry_lines.ensures.reader at c.in_ok-index.ensures) whole
     (rw c.new-query_lines.ensures.reader at c.in_ok-are_queries.ensures) c.in_ok-flush.ensures.bytes

@@ -1,11 +1,10 @@
-use Rattle.std.proofs.Common.{arith, refl, ◌∙◌, ◌∷◌, [], ◌++◌, length-append}
+use Rattle.std.proofs.Common.{arith, refl, ◌∷◌, [], ◌++◌, length-append}
 use Rattle.std.proofs.KnownBytes.{Appends-nil}
 use Rattle.program_parts.proofs.Appended.{appends_both}
 use Rattle.program_parts.proofs.Given.{none_found, some_found}
 use Rattle.program_parts.proofs.KeptSoFar.{none_so_far, one_kept, one_left, are_read}
 use Rattle.index_reader.proofs.Answered.{answers_both, then_more}
 use Rattle.index_reader.specs.Runs.{SaysQuery, IsNoQuery, answers, count_line}
-use Rattle.index_reader.specs.Words.{words}
 use Rattle.index_reader.proofs.run.answer_queries.Goals as goal
 use Rattle.index_reader.proofs.run.answer_queries.Goals.{in-Ok+in_ok-answer_if_full-in-Ok+in_ok-push-in-Ok, in-Err+in_ok-say-in-Err}
 
@@ -13,14 +12,13 @@ pub loop-init : goal.loop-init
 loop-init g c = (
   [],
   Appends-nil _,
-  c.none-omitted.ensures.source,
   rw c.new-keys.ensures.items refl,
-  rw (c.requires, c.none-omitted.ensures.count, c.new-keys.ensures.items) (none_so_far SaysQuery IsNoQuery _ words _ _),
+  rw (c.requires, c.none-omitted.ensures, c.new-keys.ensures.items) (none_so_far SaysQuery IsNoQuery _),
 )
 
 pub returns-then-not-branch : goal.returns-then-not-branch
 returns-then-not-branch g c =
-    let (done, writes, named, queries, s) = c.loop.invariant in
+    let (done, writes, queries, s) = c.loop.invariant in
     let keys = done ++ c.loop.keys.items in
     let index = c.args.index.now in
     let last = rw c.deref.ensures.value at c.in_ok-answer_block.ensures in
@@ -28,13 +26,12 @@ returns-then-not-branch g c =
     let end = none_found _ c.in_ok-advance.field-0 c.in_ok-advance.ensures.found c.if-not-branch.true in (
       keys,
       appends_both _ _ _ (answers index keys) (count_line keys) all (rw queries at c.in_ok-write_count.ensures),
-      rw c.is_empty.ensures
-          (are_read SaysQuery IsNoQuery _ words _ _ _ _ _ _ keys c.loop.omitted.count s end (rw named at c.in_ok-finish.ensures)),
+      rw c.is_empty.ensures (are_read SaysQuery IsNoQuery _ _ _ keys c.loop.omitted.count s end),
     )
 
 pub loop-preserved : goal.loop-preserved
 loop-preserved g c =
-    let (done, writes, named, queries, s) = c.loop.invariant in
+    let (done, writes, queries, s) = c.loop.invariant in
     let keys = done ++ c.loop.keys.items in
     let found = c.in_ok-advance.ensures in
     let some = some_found _ c.in_ok-advance.field-0 found.found c.if-not-branch.false in
@@ -46,24 +43,20 @@ loop-preserved g c =
           let key = w.in-Ok.key in
           let (more, split, wrote) = w.in_ok-answer_if_full-in-Ok.ensures in
           let same = then_more done more _ c.loop.keys.items _ key split w.in_ok-push-in-Ok.ensures.items in
-          rw (w.out-is, w.complaints-is, w.queries-is, w.omitted-is, w.keys-is) (
+          rw (w.out-is, w.queries-is, w.omitted-is, w.keys-is) (
             done ++ more,
             answers_both c.args.index.now done more _ _ _ writes wrote,
-            named,
             (let added = w.saturating_add-queries.ensures in
                 rw same (omega (arith, queries, added, length-append keys (key ∷ [])))),
-            rw same (one_kept SaysQuery IsNoQuery _ words _ _ _ _ _ _ _ keys count line s some found.line found.rest counts key
+            rw same (one_kept SaysQuery IsNoQuery _ _ _ _ _ keys count line s some found.line found.rest counts key
                 (rw c.deref-in-loop.ensures.value at w.in-Ok.ensures.read)),
           )
       | in-Err+in_ok-say-in-Err w ↦
-          let said = w.in_ok-say-in-Err.ensures in
-          rw (w.out-is, w.complaints-is, w.queries-is, w.omitted-is, w.keys-is) (
+          rw (w.out-is, w.queries-is, w.omitted-is, w.keys-is) (
             done,
             writes,
-            said.source ∙ named,
             queries,
-            one_left SaysQuery IsNoQuery _ words _ _ _ _ _ _ _ keys count line s some found.line found.rest counts _ w.in-Err.problem _
-                (rw c.deref-in-loop.ensures.value at w.in-Err.ensures.wrong)
-                said.count (rw named at said.said) said.silent,
+            one_left SaysQuery IsNoQuery _ _ _ _ _ keys count line s some found.line found.rest counts w.in-Err.problem _
+                (rw c.deref-in-loop.ensures.value at w.in-Err.ensures.wrong) w.in_ok-say-in-Err.ensures,
           )
     ]

@@ -1,10 +1,8 @@
-use Rattle.std.proofs.Common.{◌≡◌, List, flat_map}
+use Rattle.std.proofs.Common.{List, flat_map}
 use Rattle.std.specs.Io.KnownBytes.{Appends}
 use Rattle.program_parts.proofs.KeptSoFar.{KeptSoFar}
-use Rattle.program_parts.specs.Complaints.{source_of}
 use Rattle.run_length_coder.specs.Coding.{copies}
 use Rattle.run_length_coder.specs.Decoded.{SaysRun, IsNoRun}
-use Rattle.run_length_coder.specs.Words.{source_of_file, words}
 use Rattle.run_length_coder.specs.declared.runs.Run.{Run}
 use Rattle.run_length_coder.proofs.Decoding.{DecodesCoded}
 use Rattle.run_length_coder.proofs.decoder.decode.Given as goal
@@ -16,6 +14,5 @@ invariant-loop g l =
     let old = g.W.Write.contents l.initial.out in
     let new = g.W.Write.contents l.out in
     ((runs : List Run) × Appends old new (flat_map copies runs)
-    × KeptSoFar SaysRun IsNoRun (source_of_file l.name) words before left l.lines.number (g.E.Write.contents l.initial.complaints)
-    (g.E.Write.contents l.complaints) runs l.omitted.count)
-    × (source_of l.omitted ≡ source_of_file l.name) × DecodesCoded before left old new l.omitted.count
+    × KeptSoFar SaysRun IsNoRun before left l.lines.number runs l.omitted.count)
+    × DecodesCoded before left old new l.omitted.count

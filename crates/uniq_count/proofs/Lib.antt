@@ -1,2 +1,0 @@
-pub mod LinesCut
-pub mod LineGroups
