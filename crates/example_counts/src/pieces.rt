@@ -1,9 +1,8 @@
 //! What the pieces of a slice share with the slice: as many as `dedup` leaves, and the same from a descending slice by halving.
 ghost use Rattle.std.specs.Prelude.{◌≡◌, ◌≤◌, ℕ, true, count_by, length, map, nat_eq, take, IfOk, IfSome, IsSome};
 ghost use Rattle.std.specs.List.{AllByRecursion, Contains, dedup, filter};
-ghost use Rattle.std.specs.List.Sorted.{IsStrictlySortedBy};
 ghost use Rattle.std.specs.Ordering.{flip_args, nat_cmp};
-ghost use Rattle.slice_group_by.specs.Search.{NeverDescends};
+ghost use Rattle.slice_group_by.specs.Search.{AlwaysAscends, NeverDescends};
 ghost use Rattle.slice_group_by.specs.Split.{split};
 ghost use Rattle.slice_group_by.specs.JoinKinds.{has_partner};
 ghost use Rattle.example_counts.specs.Keys.{by_key, key, same_key};
@@ -63,12 +62,12 @@ pub fn rows_by_key(alloc: Global, rows: &[Entry]) -> Result<Vec<(u32, usize)>, A
     groups.map(|(key, group)| (key, group.len())).collect(alloc)
 }
 
-/// The key of each group of rows that ascend by their keys, in a vector: the keys of the rows, each once, and each less than those
-/// after it.
+/// The key of each group of rows that ascend by their keys, in a vector: the keys of the rows, each once, and each less than the
+/// next.
 pub fn keys_once(alloc: Global, rows: &[Entry]) -> Result<Vec<u32>, AllocError>
     requires { NeverDescends nat_cmp (map key rows.now) }
     ensures all { IfOk result (λ keys. keys.items ≡ dedup nat_eq (map key rows.now)) }
-    ensures once { IfOk result (λ keys. IsStrictlySortedBy nat_cmp keys.items) }
+    ensures once { IfOk result (λ keys. AlwaysAscends nat_cmp keys.items) }
 {
     pieces_by_key::<Entry, u32>();
     pieces_have_keys::<Entry, u32>();

@@ -3,8 +3,7 @@
 ghost use Rattle.std.specs.Prelude.{◌≡◌, ◌++◌, List, map, IfOk};
 ghost use Rattle.std.specs.List.Sorted.{IsPermutation};
 ghost use Rattle.std.specs.declared.cmp.Ordering.{Ordering};
-ghost use Rattle.slice_group_by.specs.EitherOrBoth.{EitherOrBoth};
-ghost use Rattle.slice_group_by.specs.Merge.{lefts, rights, IsMerge};
+ghost use Rattle.slice_group_by.specs.Merge.{Part, lefts, rights, IsMerge};
 ghost use Rattle.slice_group_by.specs.Search.{NeverDescends};
 ghost use Rattle.example_joins.specs.Names.{shown_groups};
 
@@ -37,7 +36,7 @@ fn sides<'a, A: Compares<B>, B>(
     left: &'a [A],
     right: &'a [B],
 ) -> Result<Vec<(&'a [A], &'a [B])>, AllocError>
-    ensures { (ps : List (EitherOrBoth (List A) (List B))) → IsMerge A.order left.now right.now ps
+    ensures { (ps : List (Part A B)) → IsMerge A.order left.now right.now ps
         → IfOk result (λ sides. map shown_groups sides.items ≡ map (λ p. (lefts p, rights p)) ps) }
 {
     parts_or_empty::<A, B>();

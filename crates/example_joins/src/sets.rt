@@ -2,10 +2,11 @@
 ghost use Rattle.std.specs.Prelude.{◌≡◌, ◌↔◌, ℕ, ◌+◌, length, nat_eq, not, ◌⊎◌, IfOk};
 ghost use Rattle.std.specs.List.{Contains, filter, list_any};
 ghost use Rattle.std.specs.Ordering.{nat_cmp};
-ghost use Rattle.slice_group_by.specs.JoinKinds.{AlwaysAscends, has_partner};
+ghost use Rattle.slice_group_by.specs.Search.{AlwaysAscends};
+ghost use Rattle.slice_group_by.specs.JoinKinds.{has_partner};
 
 use slice_group_by::MergeJoinBy;
-use slice_group_by::laws::{partners_are_equal, sees_merge_in_order, unions_ascend};
+use slice_group_by::laws::{partners_are_equal, sees_merge_in_order, sets_ascend};
 use std::alloc::{AllocError, Global};
 
 /// The numbers that stand on the left or on the right.
@@ -17,7 +18,7 @@ pub fn union(alloc: Global, left: &[u32], right: &[u32]) -> Result<Vec<u32>, All
     ensures size { IfOk result (λ v. length v.items + length (filter (has_partner nat_cmp left.now) right.now)
         ≡ length left.now + length right.now) }
 {
-    unions_ascend::<u32>();
+    sets_ascend::<u32>();
     let join = MergeJoinBy::new(left, right, |x: &u32, y: &u32| x.cmp(y));
     sees_merge_in_order(&join);
     join.flat_map(|part| part.once()).copied().collect(alloc)
@@ -29,7 +30,7 @@ pub fn intersection(alloc: Global, left: &[u32], right: &[u32]) -> Result<Vec<u3
     requires right { AlwaysAscends nat_cmp right.now }
     ensures { IfOk result (λ v. v.items ≡ filter (λ x. list_any (nat_eq x) right.now) left.now) }
 {
-    unions_ascend::<u32>();
+    sets_ascend::<u32>();
     partners_are_equal::<u32, u32, u32>();
     let join = MergeJoinBy::new(left, right, |x: &u32, y: &u32| x.cmp(y));
     sees_merge_in_order(&join);
@@ -44,7 +45,7 @@ pub fn difference(alloc: Global, left: &[u32], right: &[u32]) -> Result<Vec<u32>
     requires right { AlwaysAscends nat_cmp right.now }
     ensures { IfOk result (λ v. v.items ≡ filter (λ x. not (has_partner nat_cmp right.now x)) left.now) }
 {
-    unions_ascend::<u32>();
+    sets_ascend::<u32>();
     let join = MergeJoinBy::new(left, right, |x: &u32, y: &u32| x.cmp(y));
     sees_merge_in_order(&join);
     join.flat_map(|part| part.alone()).copied().collect(alloc)
@@ -62,7 +63,7 @@ pub fn symmetric_difference(
     ensures all { IfOk result (λ v. (x : ℕ) → Contains v.items x
         ↔ ((Contains left.now x × (Contains right.now x → ⊥)) ⊎ (Contains right.now x × (Contains left.now x → ⊥)))) }
 {
-    unions_ascend::<u32>();
+    sets_ascend::<u32>();
     let left_alone = difference(alloc, left, right)?;
     let right_alone = difference(alloc, right, left)?;
     union(alloc, &left_alone, &right_alone)
@@ -75,7 +76,7 @@ pub fn subset(alloc: Global, left: &[u32], right: &[u32]) -> Result<Vec<u32>, Al
     requires within { (x : ℕ) → Contains left.now x → Contains right.now x }
     ensures { IfOk result (λ v. v.items ≡ left.now) }
 {
-    unions_ascend::<u32>();
+    sets_ascend::<u32>();
     partners_are_equal::<u32, u32, u32>();
     intersection(alloc, left, right)
 }

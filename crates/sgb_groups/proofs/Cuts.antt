@@ -8,7 +8,7 @@ use Rattle.std.specs.Prelude.{option_copied, slice_range}
 use Rattle.std.specs.Borrow.{Bor}
 use Rattle.sgb_split.specs.declared.end.End.{End}
 use Rattle.sgb_split.specs.declared.end.End.TheVariants.{Front, Back}
-use Rattle.sgb_split.specs.Calls.{CallAt, IsGroupAt, Place, between, place_after}
+use Rattle.sgb_split.specs.Calls.{CallAt, IsGroupAt, Place, part_between, place_after}
 use Rattle.sgb_split.proofs.Lists.Between.{between_places}
 use Rattle.sgb_split.proofs.Lists.Ranges.{length-range}
 use Rattle.sgb_groups.specs.declared.groups.SliceGroups.{SliceGroups}
@@ -30,7 +30,7 @@ within_place xs n l = grind (arith, nat_tests)
 
 -- the part between two places that lie in order in the list
 pub part_is : {T : Type 0} (xs : List T) (low high : ℕ) → low ≤ high → high ≤ length xs
-    → between (lies_within xs) xs low high ≡ slice_range xs low high
+    → part_between (lies_within xs) xs low high ≡ slice_range xs low high
 part_is xs low high order inside =
     between_places (lies_within xs) xs low high
     (record { order = order; low_is = within_place xs low (omega arith); high_is = within_place xs high inside })
@@ -69,14 +69,14 @@ module _ {T J : Type 0} (asks : End → List T → ℕ → J → J → Type 0) (
   cut_of a b = slice_range xs a b
 
   asked_of : (e : End) (group : List T) → n ≡ length group → asks e (cut_of low high) n j k
-      → asks e (between (lies_within xs) xs low high) (length group) j k
+      → asks e (part_between (lies_within xs) xs low high) (length group) j k
   asked_of e group is asked =
       subst (λ (ys : List T). asks e ys (length group) j k) (sym (part_is xs low high (omega arith) inside))
       (subst (λ (m : ℕ). asks e (cut_of low high) m j k) is asked)
 
   pub front_cut : asks Front (cut_of low high) n j k
-      → IsGroupAt asks Front (record { remainder = between (lies_within xs) xs low high; judge = j }) (cut_of low (low + n))
-      (record { remainder = between (lies_within xs) xs (low + n) high; judge = k })
+      → IsGroupAt asks Front (record { remainder = part_between (lies_within xs) xs low high; judge = j }) (cut_of low (low + n))
+      (record { remainder = part_between (lies_within xs) xs (low + n) high; judge = k })
   front_cut asked =
       let len : n ≡ length (cut_of low (low + n)) = omega (arith, length-range xs low (low + n) (omega arith) (omega arith)) in
       record {
@@ -88,8 +88,8 @@ module _ {T J : Type 0} (asks : End → List T → ℕ → J → J → Type 0) (
       }
 
   pub back_cut : asks Back (cut_of low high) n j k
-      → IsGroupAt asks Back (record { remainder = between (lies_within xs) xs low high; judge = j }) (cut_of (high - n) high)
-      (record { remainder = between (lies_within xs) xs low (high - n); judge = k })
+      → IsGroupAt asks Back (record { remainder = part_between (lies_within xs) xs low high; judge = j }) (cut_of (high - n) high)
+      (record { remainder = part_between (lies_within xs) xs low (high - n); judge = k })
   back_cut asked =
       let len : n ≡ length (cut_of (high - n) high) = omega (arith, length-range xs (high - n) high (omega arith) inside) in
       record {

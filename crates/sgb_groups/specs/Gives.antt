@@ -2,7 +2,7 @@
 use Rattle.std.specs.Prelude.{◌≡◌, ℕ, Bool, List, [], length, Option, MatchOption, nat_le, min}
 use Rattle.std.specs.Option.{option_copied_mut}
 use Rattle.std.specs.Borrow.{Bor, MutBor}
-use Rattle.sgb_split.specs.Calls.{Groups, Place, place_after, between, CallAt, IsGroupAt}
+use Rattle.sgb_split.specs.Calls.{Groups, Place, place_after, part_between, CallAt, IsGroupAt}
 use Rattle.sgb_split.specs.declared.end.End.{End}
 use Rattle.sgb_loans.specs.Loans.{GroupsMut, HandsOut}
 use Rattle.sgb_groups.specs.declared.groups.SliceGroups.{SliceGroups}
@@ -14,7 +14,7 @@ lies_within xs place = nat_le place (length xs)
 -- what contracts see of an iterator for reading: the elements that it has not handed out yet, which lie between its two places,
 -- and its judge
 abbrev pub groups_of : {T J W : Type 0} → SliceGroups T J W → Groups T J
-groups_of s = record { remainder = between (lies_within s.slice.now) s.slice.now s.low s.high; judge = s.judge }
+groups_of s = record { remainder = part_between (lies_within s.slice.now) s.slice.now s.low s.high; judge = s.judge }
 
 -- the slice that it was made of, and where the remainder begins in it: behind all that calls at the front have taken off
 abbrev pub place_of : {T J W : Type 0} → SliceGroups T J W → Place T

@@ -7,7 +7,7 @@ use Rattle.std.specs.Str.{chars, IsUtf8}
 use Rattle.sgb_split.specs.declared.judge.Judge.{Ghosts}
 use Rattle.sgb_split.specs.declared.end.End.{End}
 use Rattle.sgb_split.specs.Split.{put_at}
-use Rattle.sgb_split.specs.Calls.{IsGroupAt, Groups, Place, place_after, between}
+use Rattle.sgb_split.specs.Calls.{IsGroupAt, Groups, Place, place_after, part_between}
 use Rattle.sgb_split.specs.Linear.{IsSettled, LinearQuestions}
 use Rattle.sgb_linear_str_group.specs.declared.text_groups.LinearStrGroups.{LinearStrGroups}
 
@@ -28,7 +28,7 @@ lies_between_characters text place =
 
 -- the part of a text from `low` up to `high`, where both lie between characters and in this order, and else the empty text
 abbrev pub text_between : List ℕ → ℕ → ℕ → List ℕ
-text_between text = between (lies_between_characters text) text
+text_between text = part_between (lies_between_characters text) text
 
 -- what contracts see of an iterator for reading: the bytes that it has not handed out yet, and its judge
 abbrev pub text_groups_of : {J : Type 0} → LinearStrGroups J → TextGroups J

@@ -5,6 +5,6 @@ use Rattle.sgb_masks.specs.declared.ascii_classes.AsciiClass.{AsciiClass}
 use Rattle.sgb_masks.specs.declared.class_counter.ClassCounter.{ClassCounter}
 
 -- it has counted their groups, each class up to the greatest number, and knows the class of the last byte
-pub record HasCounted (counter : ClassCounter) (bytes : List ℕ) : Type 0 where
+pub record HasTaken (counter : ClassCounter) (bytes : List ℕ) : Type 0 where
   pub counts : (class : AsciiClass) → count_of class counter.counts ≡ min (class_count class None bytes) (2 ^ 64 - 1)
   pub last : counter.last ≡ class_after None bytes

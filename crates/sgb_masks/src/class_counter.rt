@@ -2,7 +2,7 @@
 ghost use Rattle.std.specs.Prelude.{◌≡◌, ℕ, ◌+◌, ◌-◌, ◌^◌, List, [], ◌++◌, None, min};
 ghost use Rattle.sgb_masks.specs.declared.ascii_classes.AsciiClass.{AsciiClass};
 ghost use Rattle.sgb_masks.specs.Counted.{class_count, count_of};
-ghost use Rattle.sgb_masks.specs.Counters.{HasCounted};
+ghost use Rattle.sgb_masks.specs.Counters.{HasTaken};
 
 use crate::ascii_classes::AsciiClass;
 use crate::class_counts::{ClassCounts, class_after, class_counts_add_up, count_classes};
@@ -24,7 +24,7 @@ pub struct ClassCounter {
 impl ClassCounter {
     /// No byte has come yet.
     pub fn new() -> ClassCounter
-        ensures { HasCounted result [] }
+        ensures { HasTaken result [] }
     {
         ClassCounter {
             counts: count_classes(None, &[]),
@@ -35,7 +35,7 @@ impl ClassCounter {
     /// Takes the next block, by `count_classes`: 64 bytes at a time.
     #[inline]
     pub fn push(&mut self, block: &[u8])
-        ensures { (bytes : List ℕ) → HasCounted self.old bytes → HasCounted self.new (bytes ++ block.now) }
+        ensures { (bytes : List ℕ) → HasTaken self.old bytes → HasTaken self.new (bytes ++ block.now) }
     {
         class_counts_add_up();
         self.counts = self.counts.saturating_add(count_classes(self.last, block));
@@ -45,7 +45,7 @@ impl ClassCounter {
     /// How many groups of each class the bytes have that have come: at most `usize::MAX`, even if there are more.
     #[inline]
     pub fn counts(&self) -> ClassCounts
-        ensures { (bytes : List ℕ) (class : AsciiClass) → HasCounted self.now bytes
+        ensures { (bytes : List ℕ) (class : AsciiClass) → HasTaken self.now bytes
             → count_of class result ≡ min (class_count class None bytes) (2 ^ 64 - 1) }
     {
         self.counts

@@ -46,6 +46,10 @@ module _ {T : Type 0} (ord : T → Ordering) (xs : List T) where
 abbrev pub NeverDescends : {T : Type 0} → (T → T → Ordering) → List T → Type 0
 NeverDescends cmp xs = AllByRecursion (λ q. cmp q.0 q.1 ≢ Greater) (neighbours xs)
 
+-- each element of the list is below the next: for an order, what `IsStrictlySortedBy` of the standard library says
+abbrev pub AlwaysAscends : {T : Type 0} → (T → T → Ordering) → List T → Type 0
+AlwaysAscends cmp xs = AllByRecursion (λ q. cmp q.0 q.1 ≡ Less) (neighbours xs)
+
 -- how a key stands to those from low up to high
 abbrev pub between : {K : Type 0} → (K → K → Ordering) → K → K → K → Ordering
 between cmp low high k = cond (is_lt (cmp k low)) Less (cond (is_gt (cmp k high)) Greater Equal)

@@ -148,10 +148,6 @@ module _ {T : Type 0} where
   outward [] = []
   outward (x ∷ xs) = beside x xs
 
-  -- the search of a call that takes the first g elements, from the state j of the judge to the state k: all but the first are found
-  abbrev pub SearchRun : {J : Type 0} → List T → Ghosts J T → SearchCost → J → ℕ → J → Type 0
-  SearchRun xs judge cost j g k = Searches judge.may_ask judge.answers (outward xs) as_ordering cost 0 j (Err (g - 1)) k
-
 module _ {T : Type 0} (xs : List T) where
   -- by p the first g elements, one or more, end at a local boundary: the innermost agrees with the outermost, and the element beyond does
   -- not
@@ -167,6 +163,6 @@ module _ {T J : Type 0} (g : Ghosts J T) where
     pub computes : ComputesBy AreApart g s p
     pub grouped : IsGrouped p s.remainder
 
-  -- the questions of a search for the end of the n elements that the call takes, which read from the call's end
+  -- the search of a call that takes n elements, which read from the call's end: all but the outermost are found
   abbrev pub SearchQuestions : SearchCost → End → List T → ℕ → J → J → Type 0
-  SearchQuestions cost e xs n j k = SearchRun (from e xs) g cost j n k
+  SearchQuestions cost e xs n j k = Searches g.may_ask g.answers (outward (from e xs)) as_ordering cost 0 j (Err (n - 1)) k

@@ -7,8 +7,8 @@
 //! - `Ranges`: where a slice parts, and the range of equal elements.
 #![tactic(auto)]
 
+pub mod equal_places;
 pub mod gallop;
 pub mod laws;
 pub mod partition;
-pub mod places;
 pub mod search;

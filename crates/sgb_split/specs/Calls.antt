@@ -34,8 +34,8 @@ pub record StandsAt {T : Type 0} (p : Place T) (part : List T) : Type 0 where
 
 -- the part of a list from the place `low` up to the place `high`, where these stand in this order and pass a test, as whether they lie
 -- in the list, and else the empty list: what `get` gives
-unfoldable pub between : {T : Type 0} → (ℕ → Bool) → List T → ℕ → ℕ → List T
-between is_place xs low high = if nat_le low high && (is_place low && is_place high) then slice_range xs low high else []
+unfoldable pub part_between : {T : Type 0} → (ℕ → Bool) → List T → ℕ → ℕ → List T
+part_between is_place xs low high = if nat_le low high && (is_place low && is_place high) then slice_range xs low high else []
 
 -- no more groups come than elements remain
 abbrev pub groups_to_come : {T J : Type 0} → Groups T J → Count

@@ -9,7 +9,7 @@ use Rattle.sgb_split.proofs.Splits.Joined.{split_joins}
 use Rattle.sgb_split.proofs.Splits.Split.{split_begins}
 use Rattle.sgb_stream_group.specs.declared.parts.Parts.{Parts}
 use Rattle.sgb_stream_group.specs.Streams.{across, as_parts, begins_at, both, last_after, or_before}
-use Rattle.sgb_stream_group.specs.Streams.{GivesPart, with_part, with_parts}
+use Rattle.sgb_stream_group.specs.Streams.{GivesBlockPart, with_part, with_parts}
 use Rattle.sgb_stream_group.proofs.Ends.{not_not, first_mapped, last_mapped}
 
 module _ {A : Type 0} where
@@ -86,19 +86,19 @@ module _ {A : Type 0} (p : A → A → Bool) where
 
 -- what calls give
 module _ {I X A : Type 0} (gives : I → Option X → I → Type 0) (shows : X → List A) where
-  pub yields_under : (s t : Parts I) (parts : List (Bool × X)) → Yields (GivesPart gives) s parts t
+  pub yields_under : (s t : Parts I) (parts : List (Bool × X)) → Yields (GivesBlockPart gives) s parts t
       → Yields gives s.groups (map (λ x. x.1) parts) t.groups
   yields_under s t [] y = ap (λ (q : Parts I). q.groups) y
   yields_under s t (x ∷ xs) y = (y.0.groups, y.1.0, yields_under y.0 t xs y.2)
 
-  all_begin : (s t : Parts I) (parts : List (Bool × X)) → s.begins ≡ true → Yields (GivesPart gives) s parts t
+  all_begin : (s t : Parts I) (parts : List (Bool × X)) → s.begins ≡ true → Yields (GivesBlockPart gives) s parts t
       → map (λ x. (x.0, shows x.1)) parts ≡ map {B = Bool × List A} (λ h. (true, h)) (map shows (map (λ x. x.1) parts))
   all_begin s t [] b y = refl
   all_begin s t (x ∷ xs) b y =
       ap (λ l. (x.0, shows x.1) ∷ l) (all_begin y.0 t xs y.1.1.1 y.2)
       ∙ ap (λ f. (f, shows x.1) ∷ map {B = Bool × List A} (λ h. (true, h)) (map shows (map (λ z. z.1) xs))) (y.1.1.0 ∙ b)
 
-  pub flags : (s t : Parts I) (parts : List (Bool × X)) → Yields (GivesPart gives) s parts t
+  pub flags : (s t : Parts I) (parts : List (Bool × X)) → Yields (GivesBlockPart gives) s parts t
       → map (λ x. (x.0, shows x.1)) parts ≡ as_parts s.begins (map shows (map (λ x. x.1) parts))
   flags s t [] y = refl
   flags s t (x ∷ xs) y =

@@ -79,8 +79,8 @@ abbrev pub groups_in : {I : Type 0} → Parts I → I
 groups_in s = s.groups
 
 -- what a call gives: a group of the block, with whether it begins there, which all but the first do
-abbrev pub GivesPart : {I X : Type 0} → (I → Option X → I → Type 0) → Parts I → Option (Bool × X) → Parts I → Type 0
-GivesPart gives s part t =
+abbrev pub GivesBlockPart : {I X : Type 0} → (I → Option X → I → Type 0) → Parts I → Option (Bool × X) → Parts I → Type 0
+GivesBlockPart gives s part t =
     gives s.groups (option_map (λ x. x.1) part) t.groups
     × MatchOption part (t.begins ≡ s.begins) (λ x. (x.0 ≡ s.begins) × (t.begins ≡ true))
 

@@ -16,11 +16,11 @@ pub struct Parts<I> {
 impl<I: Iterator> Iterator for Parts<I> {
     type Item = (bool, I::Item);
 
-    ghost use Rattle.sgb_stream_group.specs.Streams.{GivesPart};
+    ghost use Rattle.sgb_stream_group.specs.Streams.{GivesBlockPart};
 
     ghost can_next = { λ s. I.can_next s.groups };
 
-    ghost next_gives = { GivesPart I.next_gives };
+    ghost next_gives = { GivesBlockPart I.next_gives };
 
     ghost remaining = { λ s. I.remaining s.groups };
 

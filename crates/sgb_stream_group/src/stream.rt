@@ -100,7 +100,9 @@ impl<T: Copy + PartialEq> StreamGroups<T> {
         ensures callable { IsCallableBy AreNeighbours (by_equality T.eq) (groups_of (groups_in result)) }
         ensures computes { ComputesBy AreNeighbours (by_equality T.eq) (groups_of (groups_in result)) T.eq }
     {
-        let goes_on = self.across(block).is_some_and(|(before, first)| before == first);
+        let goes_on = self
+            .across(block)
+            .is_some_and(|(before, first)| before == first);
         Parts::new(!goes_on, LinearGroup::new(block))
     }
 }
@@ -115,7 +117,9 @@ impl<T: Lanes + Copy> StreamGroups<T> {
         ensures callable { IsCallableBy AreNeighbours (by_number T.eq) (numbers.groups_of (groups_in result)) }
         ensures computes { ComputesBy AreNeighbours (by_number T.eq) (numbers.groups_of (groups_in result)) T.eq }
     {
-        let goes_on = self.across(block).is_some_and(|(before, first)| before == first);
+        let goes_on = self
+            .across(block)
+            .is_some_and(|(before, first)| before == first);
         Parts::new(!goes_on, LinearNumberGroup::new(block))
     }
 }

@@ -75,11 +75,11 @@ pub use sgb_masks::class_counter::ClassCounter;
 pub use sgb_masks::class_counts::{ClassCounts, count_classes};
 pub use sgb_merge_join::{EitherOrBoth, JoinablePrefixes, MergeJoinBy, Side, joinable_prefixes};
 pub use sgb_numbers::lanes::Lanes;
-pub use sgb_search::partition::exponential_partition_point;
-pub use sgb_search::places::{
+pub use sgb_search::equal_places::{
     exponential_equal_places, exponential_equal_places_by, exponential_equal_places_by_key,
     exponential_equal_places_by_ref,
 };
+pub use sgb_search::partition::exponential_partition_point;
 pub use sgb_search::search::{
     exponential_search, exponential_search_by, exponential_search_by_key,
     exponential_search_by_key_ref, exponential_search_by_ref,

@@ -4,7 +4,7 @@ use Rattle.std.proofs.lemmas.Bool.Decides.{nat_tests}
 use Rattle.std.proofs.lemmas.List.{take-take, drop-take, drop-drop}
 use Rattle.std.proofs.Math.Seq.{take-length}
 use Rattle.std.specs.Prelude.{◌&&◌, slice_range, nat_le}
-use Rattle.sgb_split.specs.Calls.{between}
+use Rattle.sgb_split.specs.Calls.{part_between}
 use Rattle.sgb_split.proofs.Lists.Ranges.{length-range}
 
 -- both places pass the test, in order
@@ -23,8 +23,8 @@ module _ {T : Type 0} (is_place : ℕ → Bool) (xs : List T) (low high : ℕ) w
   pass_places : test ≡ true → ArePlaces is_place low high
   pass_places e = record { order = grind (arith, nat_tests); low_is = grind (arith, nat_tests); high_is = grind (arith, nat_tests) }
 
-  pub between_places : ArePlaces is_place low high → between is_place xs low high ≡ slice_range xs low high
-  unfolding between
+  pub between_places : ArePlaces is_place low high → part_between is_place xs low high ≡ slice_range xs low high
+  unfolding part_between
   between_places places = ap (λ b. cond b (slice_range xs low high) []) (places_pass places)
 
   either : (b : Bool) → test ≡ b → 0 < length (cond b (slice_range xs low high) []) → ArePlaces is_place low high
@@ -32,8 +32,8 @@ module _ {T : Type 0} (is_place : ℕ → Bool) (xs : List T) (low high : ℕ) w
   either false e l = absurd (omega arith)
 
   -- an element lies between them only where both pass
-  pub places_between : 0 < length (between is_place xs low high) → ArePlaces is_place low high
-  unfolding between
+  pub places_between : 0 < length (part_between is_place xs low high) → ArePlaces is_place low high
+  unfolding part_between
   places_between l = either _ refl l
 
   empty_unless : (b : Bool) → test ≡ b → (ArePlaces is_place low high → high ≤ low) → cond b (slice_range xs low high) [] ≡ []
@@ -43,20 +43,20 @@ module _ {T : Type 0} (is_place : ℕ → Bool) (xs : List T) (low high : ℕ) w
   empty_unless false e h = refl
 
   -- nothing lies between them where they do not pass, or are one place
-  pub between_empty : (ArePlaces is_place low high → high ≤ low) → between is_place xs low high ≡ []
-  unfolding between
+  pub between_empty : (ArePlaces is_place low high → high ≤ low) → part_between is_place xs low high ≡ []
+  unfolding part_between
   between_empty h = empty_unless _ refl h
 
 -- a list is the part between its ends
 pub between_ends : {T : Type 0} (is_place : ℕ → Bool) (xs : List T) → is_place 0 ≡ true → is_place (length xs) ≡ true
-    → between is_place xs 0 (length xs) ≡ xs
+    → part_between is_place xs 0 (length xs) ≡ xs
 between_ends is_place xs start_is end_is =
     between_places is_place xs 0 (length xs) (record { order = omega arith; low_is = start_is; high_is = end_is })
     ∙ ap (λ (n : ℕ). take n xs) {x = length xs - 0} {y = length xs} (omega arith) ∙ take-length xs
 
 -- the part r between two places of the list, which is not empty
 module _ {T : Type 0} (is_place : ℕ → Bool) (xs : List T) (lie_within : (n : ℕ) → is_place n ≡ true → n ≤ length xs)
-    (low high : ℕ) (r : List T) (is : r ≡ between is_place xs low high) (more : 0 < length r) where
+    (low high : ℕ) (r : List T) (is : r ≡ part_between is_place xs low high) (more : 0 < length r) where
   pub are_places : ArePlaces is_place low high
   are_places = places_between is_place xs low high (omega (arith, ap length is, more))
 
@@ -73,13 +73,13 @@ module _ {T : Type 0} (is_place : ℕ → Bool) (xs : List T) (lie_within : (n :
 
   -- it is cut after its first n elements
   module _ (n : ℕ) (inside : n ≤ length r) (middle : is_place (low + n) ≡ true) where
-    pub part_before : between is_place xs low (low + n) ≡ take n r
+    pub part_before : part_between is_place xs low (low + n) ≡ take n r
     part_before =
         between_places is_place xs low (low + n) (record { order = omega arith; low_is = are_places.low_is; high_is = middle })
         ∙ ap (λ (k : ℕ). take k (drop low xs)) {x = (low + n) - low} {y = n} (omega arith)
         ∙ sym (ap (take n) is_range ∙ take-take n (high - low) (drop low xs) (omega (arith, ends_at, inside)))
 
-    pub part_after : between is_place xs (low + n) high ≡ drop n r
+    pub part_after : part_between is_place xs (low + n) high ≡ drop n r
     part_after =
         between_places is_place xs (low + n) high
         (record { order = omega (arith, ends_at, inside); low_is = middle; high_is = are_places.high_is })

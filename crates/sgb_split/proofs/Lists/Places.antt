@@ -4,7 +4,7 @@ use Rattle.std.proofs.Common.{length, take, drop, length-append, sym, ap, ◌∙
 use Rattle.std.proofs.Math.Seq.{take-append_seam, drop-append_seam}
 use Rattle.std.proofs.lemmas.List.{take-take, drop-take, drop-drop}
 use Rattle.std.specs.Prelude.{slice_range}
-use Rattle.sgb_split.specs.Calls.{Place, StandsAt, between}
+use Rattle.sgb_split.specs.Calls.{Place, StandsAt, part_between}
 use Rattle.sgb_split.proofs.Lists.Between.{is_range, ends_at, are_places}
 
 -- an empty part stands everywhere
@@ -18,7 +18,7 @@ empty_stands xs k l =
 -- the part between two places stands at an offset that is the lower place where that passes the test
 module _ {T : Type 0} (is_place : ℕ → Bool) (xs : List T) (lie_within : (n : ℕ) → is_place n ≡ true → n ≤ length xs) (low high k : ℕ)
     (inside : k ≤ length xs) (here : is_place low ≡ true → k ≡ low) where
-  pub stands : (part : List T) → part ≡ between is_place xs low high → StandsAt (record { input = xs; offset = k }) part
+  pub stands : (part : List T) → part ≡ part_between is_place xs low high → StandsAt (record { input = xs; offset = k }) part
   stands [] e = empty_stands xs k inside
   stands (x ∷ part) e =
       let places = are_places is_place xs lie_within low high (x ∷ part) e (omega arith) in

@@ -7,12 +7,11 @@ use Rattle.std.proofs.lemmas.List.{length-map, map-id}
 use Rattle.std.proofs.lemmas.Simd.{map-map}
 use Rattle.std.proofs.lemmas.List.Sums.{sum_by-cons, sum_by-append}
 use Rattle.std.specs.List.{AllByRecursion, Contains, dedup, dedup_from, filter}
-use Rattle.std.specs.List.Sorted.{IsStrictlySortedBy}
 use Rattle.std.specs.Cmp.{IsTotalOrder, IsPartialEquivalence, per_alike, tied_itself}
 use Rattle.std.specs.Ordering.{is_eq}
 use Rattle.std.specs.declared.cmp.Ordering.{Ordering}
 use Rattle.std.specs.declared.cmp.Ordering.TheVariants.{Less, Equal}
-use Rattle.sgb_search.specs.Search.{NeverDescends}
+use Rattle.sgb_search.specs.Search.{AlwaysAscends, NeverDescends}
 use Rattle.sgb_split.specs.Split.{IsAccepted, concat, first, without_first, put_before, split}
 use Rattle.sgb_split.proofs.Lists.AllByRecursion.{all_contains, all_each}
 use Rattle.sgb_split.proofs.Lists.Contained.{contains_cases, contains_head, contains_tail}
@@ -284,30 +283,23 @@ module _ {K : Type 0} (cmp : K → K → Ordering) (o : IsTotalOrder cmp) (eq : 
       ∙ ap (map (λ k. (k, filter (λ y. eq (key y) k) xs))) (keys_once eq key xs)
 
   -- the keys of the first elements ascend as the pieces do
-  heads_above : (k : K) (gs : List (List T)) (ys : List T) → map first gs ≡ map Some ys → AllByRecursion (IsAbove cmp key k) gs
-      → AllByRecursion (λ l. cmp k l ≡ Less) (map key ys)
-  heads_above k gs [] h a = tt
-  heads_above k [] (y ∷ ys) h a = absurd (cc h)
-  heads_above k ([] ∷ gs) (y ∷ ys) h a = absurd a.0
-  heads_above k ((x ∷ xs) ∷ gs) (y ∷ ys) h a =
-      let head : x ≡ y = cc h in
-      let tail : map first gs ≡ map Some ys = cc h in
-      (subst (λ z. cmp k (key z) ≡ Less) head a.0, heads_above k gs ys tail a.1)
-
-  heads_climb : (gs : List (List T)) (ys : List T) → map first gs ≡ map Some ys → Ascends cmp key gs → IsStrictlySortedBy cmp (map key ys)
-  unfolding IsStrictlySortedBy
+  heads_climb : (gs : List (List T)) (ys : List T) → map first gs ≡ map Some ys → Ascends cmp key gs → AlwaysAscends cmp (map key ys)
   heads_climb gs [] h a = tt
-  heads_climb [] (y ∷ ys) h a = absurd (cc h)
-  heads_climb ([] ∷ gs) (y ∷ ys) h a = absurd a
-  heads_climb ((x ∷ xs) ∷ gs) (y ∷ ys) h a =
+  heads_climb gs (y ∷ []) h a = tt
+  heads_climb [] (y ∷ z ∷ ys) h a = absurd (cc h)
+  heads_climb (g ∷ []) (y ∷ z ∷ ys) h a = absurd (cc h)
+  heads_climb ([] ∷ (g ∷ gs)) (y ∷ z ∷ ys) h a = absurd (cc h)
+  heads_climb ((x ∷ xs) ∷ ([] ∷ gs)) (y ∷ z ∷ ys) h a = absurd (cc h)
+  heads_climb ((x ∷ xs) ∷ ((w ∷ ws) ∷ gs)) (y ∷ z ∷ ys) h a =
       let head : x ≡ y = cc h in
-      let tail : map first gs ≡ map Some ys = cc h in (
-        subst (λ z. AllByRecursion (λ l. cmp (key z) l ≡ Less) (map key ys)) head (heads_above (key x) gs ys tail a.0),
-        heads_climb gs ys tail a.1,
+      let next : w ≡ z = cc h in
+      let tail : map first ((w ∷ ws) ∷ gs) ≡ map Some (z ∷ ys) = cc h in (
+        subst (λ v. cmp (key v) (key z) ≡ Less) head (subst (λ v. cmp (key x) (key v) ≡ Less) next a.0.0),
+        heads_climb ((w ∷ ws) ∷ gs) (z ∷ ys) tail a.1,
       )
 
   pub firsts_climb : IsPartialEquivalence eq → (xs : List T) → NeverDescends cmp (map key xs)
-      → IsStrictlySortedBy cmp (map key (dedup same xs))
+      → AlwaysAscends cmp (map key (dedup same xs))
   firsts_climb per xs h =
       heads_climb (split same xs) (dedup same xs) (firsts same (by_keys eq per key) xs) (split_ascends cmp key o eq ties xs h)
 

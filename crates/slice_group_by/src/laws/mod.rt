@@ -53,7 +53,7 @@ pub use sgb_groups::shards::sees_shards;
 pub use sgb_merge_join::laws::{
     always_compares, joins_find_partners, joins_go_on, merge_parts_join, merges_ask, merges_count,
     merges_interleave, one_merge, partners_are_equal, parts_or_empty, sees_merge,
-    sees_merge_by_keys, sees_merge_in_order, semi_joins_are_filters, unions_ascend,
+    sees_merge_by_keys, sees_merge_in_order, semi_joins_are_filters, sets_ascend,
 };
 pub use sgb_search::laws::{
     ascending_is_grouped, ascending_is_searchable, range_places, searchable_is_partitioned,

@@ -2,10 +2,9 @@
 ghost use Rattle.std.specs.Prelude.{◌≡◌, ℕ, ◌<◌, Bool, false, true, List, length, flat_map, get_or, map, replicate, sum_by};
 ghost use Rattle.std.specs.Prelude.{Some, slice_get};
 ghost use Rattle.std.specs.List.{AllByRecursion, Contains, dedup, filter};
-ghost use Rattle.std.specs.List.Sorted.{IsStrictlySortedBy};
 ghost use Rattle.std.specs.declared.cmp.Ordering.TheVariants.{Less};
 ghost use Rattle.sgb_linear_group.specs.Best.{best_of_each};
-ghost use Rattle.sgb_search.specs.Search.{NeverDescends};
+ghost use Rattle.sgb_search.specs.Search.{AlwaysAscends, NeverDescends};
 ghost use Rattle.sgb_split.specs.Split.{first, split};
 ghost use Rattle.slice_group_by.specs.Dedup.{counted};
 ghost use Rattle.slice_group_by.specs.Keyed.{keyed};
@@ -23,7 +22,7 @@ pub fn pieces_by_key<T, K: Ord>()
         → slice_get (split (λ a b. K.eq (key a) (key b)) xs) j ≡ Some h → Contains g x → Contains h y
         → K.cmp (key x) (key y) ≡ Less }
     ensures firsts { (key : T → K) (xs : List T) → NeverDescends K.cmp (map key xs)
-        → IsStrictlySortedBy K.cmp (map key (dedup (λ a b. K.eq (key a) (key b)) xs)) }
+        → AlwaysAscends K.cmp (map key (dedup (λ a b. K.eq (key a) (key b)) xs)) }
     ensures each { (key : T → K) (xs g : List T) (x : T) → NeverDescends K.cmp (map key xs)
         → Contains (split (λ a b. K.eq (key a) (key b)) xs) g → Contains g x → g ≡ filter (λ y. K.eq (key y) (key x)) xs }
     ensures keyed { (key : T → K) (xs : List T) → NeverDescends K.cmp (map key xs)

@@ -9,7 +9,7 @@ ghost use Rattle.sgb_split.specs.Judges.{IsRun};
 ghost use Rattle.sgb_split.specs.Split.{concat, last, neighbours, split};
 ghost use Rattle.sgb_split.specs.declared.end.End.TheVariants.{Front};
 ghost use Rattle.sgb_stream_group.specs.declared.parts.Parts.{Parts};
-ghost use Rattle.sgb_stream_group.specs.Streams.{AsksEnds, GivesPart, across, add_part, add_values, of_nonempty};
+ghost use Rattle.sgb_stream_group.specs.Streams.{AsksEnds, GivesBlockPart, across, add_part, add_values, of_nonempty};
 ghost use Rattle.sgb_stream_group.specs.Streams.{as_parts, begins_at, begins_of, change_last, groups_in};
 ghost use Rattle.sgb_stream_group.specs.Streams.{last_after, pair_list, with_part, with_parts};
 ghost use Rattle.slice_group_by.specs.Counts.{RaisesJust};
@@ -28,15 +28,15 @@ use sgb_stream_group::parts::Parts;
 /// `kept` says which element the stream keeps. A loop that keeps more than `parts_fold` says keeps it of `with_parts`
 /// of the parts so far: `turn` and `goes_on` say what a part more changes, and each is `nonempty`.
 pub fn parts_join<Q: GroupQueue>(_parts: &Parts<Q>)
-    ensures whole { (s : Parts Q) (parts : List (Bool × Q.Item)) → Drains (GivesPart (Q.gives Front)) s parts
+    ensures whole { (s : Parts Q) (parts : List (Bool × Q.Item)) → Drains (GivesBlockPart (Q.gives Front)) s parts
         → concat (map (λ x. Q.shows x.1) parts) ≡ Q.remainder (groups_in s) }
-    ensures begin { (s t : Parts Q) (parts : List (Bool × Q.Item)) → Yields (GivesPart (Q.gives Front)) s parts t
+    ensures begin { (s t : Parts Q) (parts : List (Bool × Q.Item)) → Yields (GivesBlockPart (Q.gives Front)) s parts t
         → map (λ x. (x.0, Q.shows x.1)) parts ≡ as_parts (begins_of s) (map (λ x. Q.shows x.1) parts) }
     ensures block { (p : Q.Element → Q.Element → Bool) (before block : List Q.Element)
         (s : Parts Q) (parts : List (Bool × Q.Item))
         → Q.is_settled (groups_in s) p → Q.remainder (groups_in s) ≡ block
         → begins_of s ≡ begins_at p (across (last before) block)
-        → Drains (GivesPart (Q.gives Front)) s parts
+        → Drains (GivesBlockPart (Q.gives Front)) s parts
         → with_parts (split p before) (map (λ x. (x.0, Q.shows x.1)) parts) ≡ split p (before ++ block) }
     ensures count { (test : List Q.Element → Bool)
         → ((group part : List Q.Element) → group ≢ [] → test (group ++ part) ≡ test group)
@@ -44,7 +44,7 @@ pub fn parts_join<Q: GroupQueue>(_parts: &Parts<Q>)
         (s : Parts Q) (parts : List (Bool × Q.Item))
         → Q.is_settled (groups_in s) p → Q.remainder (groups_in s) ≡ block
         → begins_of s ≡ begins_at p (across (last before) block)
-        → Drains (GivesPart (Q.gives Front)) s parts
+        → Drains (GivesBlockPart (Q.gives Front)) s parts
         → count_by test (split p (before ++ block))
         ≡ count_by test (split p before) + count_by (λ x. x.0 && test (Q.shows x.1)) parts }
     ensures kept { (before block : List Q.Element) → last (before ++ block) ≡ last_after (last before) block }
@@ -53,7 +53,7 @@ pub fn parts_join<Q: GroupQueue>(_parts: &Parts<Q>)
         ≡ with_part (with_parts groups (map (λ x. (x.0, Q.shows x.1)) parts)) (part.0, Q.shows part.1) }
     ensures goes_on { (closed : List (List Q.Element)) (group part : List Q.Element)
         → with_part (closed ++ group ∷ []) (false, part) ≡ closed ++ (group ++ part) ∷ [] }
-    ensures nonempty { (s t : Parts Q) (part : Bool × Q.Item) → GivesPart (Q.gives Front) s (Some part) t
+    ensures nonempty { (s t : Parts Q) (part : Bool × Q.Item) → GivesBlockPart (Q.gives Front) s (Some part) t
         → Q.shows part.1 ≢ [] }
 {}
 
@@ -69,7 +69,7 @@ pub fn parts_fold<Q: GroupQueue, V>(_parts: &Parts<Q>)
         → values ≡ map first (split p before)
         → Q.is_settled (groups_in s) p → Q.remainder (groups_in s) ≡ block
         → begins_of s ≡ begins_at p (across (last before) block)
-        → Drains (GivesPart (Q.gives Front)) s parts
+        → Drains (GivesBlockPart (Q.gives Front)) s parts
         → fold (λ values x. add_part first more values (x.0, Q.shows x.1)) values parts
         ≡ map first (split p (before ++ block)) }
     ensures nonempty { (first : Q.Element → List Q.Element → V) (more : V → List Q.Element → V)
@@ -79,7 +79,7 @@ pub fn parts_fold<Q: GroupQueue, V>(_parts: &Parts<Q>)
         → values ≡ flat_map (of_nonempty first) (split p before)
         → Q.is_settled (groups_in s) p → Q.remainder (groups_in s) ≡ block
         → begins_of s ≡ begins_at p (across (last before) block)
-        → Drains (GivesPart (Q.gives Front)) s parts
+        → Drains (GivesBlockPart (Q.gives Front)) s parts
         → fold (λ values x. add_values (of_nonempty first) more values (x.0, Q.shows x.1)) values parts
         ≡ flat_map (of_nonempty first) (split p (before ++ block)) }
 {}
@@ -112,7 +112,7 @@ pub fn streams_count<T, J: Judge<T>, S: Judged<T, J, Linear>>(_parts: &Parts<S>)
         → IsRun J.may_ask J.answers j (map (λ q. (q, answer)) (pair_list (across (last before) block)))
         (S.groups (groups_in s)).judge
         → (S.groups (groups_in s)).remainder ≡ block
-        → Yields (GivesPart (S.GroupQueue.gives Front)) s parts t → (S.groups (groups_in t)).remainder ≡ []
+        → Yields (GivesBlockPart (S.GroupQueue.gives Front)) s parts t → (S.groups (groups_in t)).remainder ≡ []
         → (each * (length before - 1) < limit → (counter j).now ≡ each * (length before - 1))
         → ((counter (S.groups (groups_in t)).judge).ghost_name ≡ (counter j).ghost_name)
         × (each * (length (before ++ block) - 1) < limit
@@ -133,7 +133,7 @@ pub fn streams_count_keys<
         (parts : List (Bool × S.Item))
         → AsksEnds F.FnMut K.eq block f before begins after (S.groups (groups_in s)).judge.func
         → (S.groups (groups_in s)).remainder ≡ block
-        → Yields (GivesPart (S.GroupQueue.gives Front)) s parts t → (S.groups (groups_in t)).remainder ≡ []
+        → Yields (GivesBlockPart (S.GroupQueue.gives Front)) s parts t → (S.groups (groups_in t)).remainder ≡ []
         → (each * (2 * elements) < limit → (counter f).now ≡ each * (2 * elements))
         → ((counter (S.groups (groups_in t)).judge.func).ghost_name ≡ (counter f).ghost_name)
         × (each * (2 * (elements + length block)) < limit

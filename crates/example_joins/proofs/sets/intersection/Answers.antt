@@ -9,8 +9,8 @@ use Rattle.example_joins.proofs.sets.intersection.Goals as goal
 
 pub returns : goal.returns
 returns c =
-    let seen = c.sees_merge_in_order.ensures.merge _ _ _ _ c.new-join.ensures.sides (c.unions_ascend.ensures.never _ c.requires.left)
-    (c.unions_ascend.ensures.never _ c.requires.right) (always_returns_same _ _ _ (λ a r f' k. search rules)) in
+    let seen = c.sees_merge_in_order.ensures.merge _ _ _ _ c.new-join.ensures.sides (c.sets_ascend.ensures.never _ c.requires.left)
+    (c.sets_ascend.ensures.never _ c.requires.right) (always_returns_same _ _ _ (λ a r f' k. search rules)) in
     let equal = ap (λ p. filter p c.args.left.now) (c.partners_are_equal.ensures.any (λ x. x) (λ y. y) c.args.right.now) in
     subst (λ l. IfOk c.collect.result (λ v. v.items ≡ l)) (seen.3 ∙ equal) (items_from_collect _ c.collect.ensures.ran
     (YieldsList-from_copied (YieldsList-at c.copied.ensures.source

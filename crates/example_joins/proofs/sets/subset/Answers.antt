@@ -10,7 +10,7 @@ pub returns : goal.returns
 returns c =
     let left = c.args.left.now in
     let right = c.args.right.now in
-    let sets = c.unions_ascend.ensures in
+    let sets = c.sets_ascend.ensures in
     let common = sets.common exact_unsigned left right in
     let ascends = sets.filtered (has_partner nat_cmp right) left c.requires.left in
     let same = sets.same exact_unsigned _ left ascends c.requires.left

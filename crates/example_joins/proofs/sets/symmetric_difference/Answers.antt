@@ -5,7 +5,7 @@ use Rattle.example_joins.proofs.sets.symmetric_difference.Goals as goal
 
 pub returns-clause-all : goal.returns-clause-all
 returns-clause-all c =
-    let alone = c.unions_ascend.ensures.without exact_unsigned in
+    let alone = c.sets_ascend.ensures.without exact_unsigned in
     IfOk-weaker c.union.result _ _
     (λ v all x.
     let either = rw (c.deref.ensures.value, c.deref-2.ensures.value, c.in_ok-left_alone.ensures, c.in_ok-right_alone.ensures) at (all x) in

@@ -7,12 +7,13 @@ use Rattle.std.proofs.lemmas.Iterator.Consumers.{YieldsList-at, YieldsList-from_
 use Rattle.std.proofs.lemmas.Iterator.Adapters.{YieldsList-from_flat_map}
 use Rattle.std.proofs.lemmas.Map.Lookups.{exact_unsigned}
 use Rattle.std.proofs.lemmas.Result.{IfOk-weaker}
-use Rattle.slice_group_by.specs.JoinKinds.{AlwaysAscends, has_partner, once}
+use Rattle.slice_group_by.specs.Search.{AlwaysAscends}
+use Rattle.slice_group_by.specs.JoinKinds.{has_partner, once}
 use Rattle.example_joins.proofs.sets.union.Goals as goal
 
 pub returns : goal.returns
 returns c =
-    let law = c.unions_ascend.ensures in
+    let law = c.sets_ascend.ensures in
     let seen = c.sees_merge_in_order.ensures.merge _ _ _ _ c.new-join.ensures.sides (law.never _ c.requires.left)
     (law.never _ c.requires.right) (always_returns_same _ _ _ (λ a r f' k. search rules)) in
     let items = items_from_collect _ c.collect.ensures.ran (YieldsList-from_copied (YieldsList-at c.copied.ensures.source

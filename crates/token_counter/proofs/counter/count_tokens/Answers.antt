@@ -4,7 +4,7 @@ use Rattle.std.proofs.lemmas.Grind.{common_steps}
 use Rattle.std.proofs.KnownBytes.{Consumes-nil, Consumes-trans, Consumes-whole}
 use Rattle.slice_group_by.specs.AsciiClass.{AsciiClass}
 use Rattle.slice_group_by.specs.Counted.{count_of}
-use Rattle.slice_group_by.specs.Counters.{HasCounted}
+use Rattle.slice_group_by.specs.Counters.{HasTaken}
 use Rattle.token_counter.specs.Tokens.{token_count}
 use Rattle.token_counter.proofs.counter.count_tokens.Goals as goal
 
@@ -17,7 +17,7 @@ loop-preserved g c =
     let same : c.deref.result.now ≡ c.read_block.new.buffer = grind (arith, common_steps) in (
       _,
       Consumes-trans _ _ _ text _ read c.in_ok-len.ensures.bytes.0,
-      subst (λ buffer. HasCounted c.push.new.self (text ++ take c.in_ok-len.len buffer)) same (c.push.ensures text counted),
+      subst (λ buffer. HasTaken c.push.new.self (text ++ take c.in_ok-len.len buffer)) same (c.push.ensures text counted),
       room,
     )
 

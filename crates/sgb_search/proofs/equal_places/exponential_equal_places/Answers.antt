@@ -1,7 +1,7 @@
 use Rattle.std.proofs.Common.{rules}
 use Rattle.sgb_split.proofs.Questions.Runs.{answers_same}
 use Rattle.sgb_search.proofs.Searches.Ascending.{ascends_itself}
-use Rattle.sgb_search.proofs.places.exponential_equal_places.Goals as goal
+use Rattle.sgb_search.proofs.equal_places.exponential_equal_places.Goals as goal
 
 pub returns-clause-local : goal.returns-clause-local
 returns-clause-local g c =

@@ -1,6 +1,6 @@
 use Rattle.sgb_search.proofs.Searches.Ascending.{ascends}
 use Rattle.sgb_search.proofs.Searches.Partitions.{range_at}
-use Rattle.sgb_search.proofs.places.exponential_equal_places_by_key.Goals as goal
+use Rattle.sgb_search.proofs.equal_places.exponential_equal_places_by_key.Goals as goal
 
 pub returns-clause-range : goal.returns-clause-range
 returns-clause-range g c key by up =

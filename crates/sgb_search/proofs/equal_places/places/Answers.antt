@@ -8,7 +8,7 @@ use Rattle.sgb_search.specs.Search.{IsLocalBoundary}
 use Rattle.sgb_search.specs.Ranges.{AsksPartition}
 use Rattle.sgb_split.proofs.Questions.OnElements.{callable_on_fewer, computes_on_fewer}
 use Rattle.sgb_search.proofs.Searches.SearchRuns.{may_go_on, answers_go_on}
-use Rattle.sgb_search.proofs.places.places.Goals as goal
+use Rattle.sgb_search.proofs.equal_places.places.Goals as goal
 
 -- a list that is split at the place n
 module _ {T : Type 0} (xs front rest : List T) (n : ℕ) (taken : front ≡ take n xs) (left : rest ≡ drop n xs) where
