@@ -1,6 +1,6 @@
 //! Two slices of any one type merged into one. The borrow checker does not cover a join whose two sides have one type
 //! parameter, so `sides` has two, and a trait of ours for how they compare.
-ghost use Rattle.std.specs.Prelude.{◌≡◌, ◌++◌, List, map, IfOk};
+ghost use Rattle.std.specs.Prelude.{◌≡◌, ◌++◌, List, flat_map, map, IfOk};
 ghost use Rattle.std.specs.List.Sorted.{IsPermutation};
 ghost use Rattle.std.specs.declared.cmp.Ordering.{Ordering};
 ghost use Rattle.slice_group_by.specs.Merge.{Part, lefts, rights, IsMerge};
@@ -51,6 +51,8 @@ fn sides<'a, A: Compares<B>, B>(
 pub fn merge<T: Ord + Copy>(alloc: Global, left: &[T], right: &[T]) -> Result<Vec<T>, AllocError>
     requires left { NeverDescends T.cmp left.now }
     requires right { NeverDescends T.cmp right.now }
+    ensures parts { IfOk result (λ merged. (ps : List (EitherOrBoth (List T) (List T)))
+        × IsMerge T.cmp left.now right.now ps × (merged.items ≡ flat_map (λ p. lefts p ++ rights p) ps)) }
     ensures ascends { IfOk result (λ merged. NeverDescends T.cmp merged.items) }
     ensures same { IfOk result (λ merged. IsPermutation (left.now ++ right.now) merged.items) }
 {

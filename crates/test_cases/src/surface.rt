@@ -1,7 +1,9 @@
 //! What the methods are called on, a caller's own holder too, and how much an iterator takes.
+ghost use Rattle.std.specs.Prelude.{◌≡◌};
 ghost use Rattle.std.specs.Vec.{with_items};
 
 use sgb_split::judge::EqualityJudge;
+use slice_group_by::loans::{Ended, resolve_in};
 use slice_group_by::{
     AsMutSlice, BinaryGroupByKeyMut, Elements, ExponentialGroupByKey, GroupBy, GroupByMut,
     LinearGroup, LinearGroupMut, LinearStrGroup, LinearStrGroupMut, StrGroupBy, StrGroupByMut,
@@ -48,6 +50,20 @@ fn mark_groups(row: &mut Row) -> usize {
     count
 }
 
+// Writes an element that is lent.
+fn marked(part: &mut [u32]) -> Ended<'_, u32>
+    ensures { result.name ≡ part.entry.ghost_name }
+{
+    if let Some(first) = part.first_mut() {
+        *first = 8;
+    }
+    Ended::of(part)
+}
+
+fn mark_first(row: &mut Row) {
+    resolve_in(row, |part| marked(part));
+}
+
 #[test]
 fn an_own_holder_is_asked_once(rt: HostRuntime) -> Result<(), Fail> {
     let mut row = Row {
@@ -57,6 +73,9 @@ fn an_own_holder_is_asked_once(rt: HostRuntime) -> Result<(), Fail> {
     assert_eq!(rt; mark_groups(&mut row), 2);
     assert!(rt; row.elems.as_slice() == [7, 1, 7, 2].as_slice());
     assert_eq!(rt; row.asked.get(), 2);
+    mark_first(&mut row);
+    assert!(rt; row.elems.as_slice() == [8, 1, 7, 2].as_slice());
+    assert_eq!(rt; row.asked.get(), 3);
     Ok(())
 }
 

@@ -1,4 +1,4 @@
-//! Groups of texts, for reading and for writing, case by case.
+//! Groups of texts, for reading and for writing, case by case; first the Rust crate's tests, under their names.
 ghost use Rattle.std.specs.Prelude.{◌<◌};
 ghost use Rattle.std.specs.Str.{IsUtf8};
 
@@ -17,17 +17,20 @@ const EASY_GROUPS: [&str; 4] = ["aaaa", "bbbbb", "aa", "cccc"];
 
 const EASY_GROUPS_REV: [&str; 4] = ["cccc", "aa", "bbbbb", "aaaa"];
 
-fn str_easy() -> bool {
-    gives(LinearStrGroup::new(EASY), &EASY_GROUPS)
+#[test]
+fn str_easy(rt: HostRuntime) {
+    assert!(rt; gives(LinearStrGroup::new(EASY), &EASY_GROUPS));
 }
 
-fn str_rev_easy() -> bool {
-    gives(LinearStrGroup::new(EASY).rev(), &EASY_GROUPS_REV)
+#[test]
+fn str_rev_easy(rt: HostRuntime) {
+    assert!(rt; gives(LinearStrGroup::new(EASY).rev(), &EASY_GROUPS_REV));
 }
 
-fn str_kanji() -> bool {
+#[test]
+fn str_kanji(rt: HostRuntime) {
     let groups = LinearStrGroup::new("包包饰饰与与钥钥匙匙扣扣");
-    gives(groups, &["包包", "饰饰", "与与", "钥钥", "匙匙", "扣扣"])
+    assert!(rt; gives(groups, &["包包", "饰饰", "与与", "钥钥", "匙匙", "扣扣"]));
 }
 
 // Characters of Chinese, Japanese and Korean, by their blocks.
@@ -52,34 +55,30 @@ fn both_cjk_or_neither(a: char, b: char) -> bool {
 
 const ASCII_CJK: &str = "abc包包bbccdd饰饰";
 
-fn str_ascii_cjk() -> bool {
+#[test]
+fn str_ascii_cjk(rt: HostRuntime) {
     let groups = LinearStrGroupBy::new(ASCII_CJK, both_cjk_or_neither);
-    gives(groups, &["abc", "包包", "bbccdd", "饰饰"])
-}
-
-fn str_rev_ascii_cjk() -> bool {
-    let groups = LinearStrGroupBy::new(ASCII_CJK, both_cjk_or_neither);
-    gives(groups.rev(), &["饰饰", "bbccdd", "包包", "abc"])
-}
-
-fn str_mut_easy() -> bool {
-    let mut bytes = *b"aaaabbbbbaacccc";
-    let wanted = EASY_GROUPS.map(|group| group.as_bytes());
-    gives_mut(LinearStrGroupMut::new(&mut bytes), &wanted)
-}
-
-fn str_mut_rev_easy() -> bool {
-    let mut bytes = *b"aaaabbbbbaacccc";
-    let wanted = EASY_GROUPS_REV.map(|group| group.as_bytes());
-    gives_mut(LinearStrGroupMut::new(&mut bytes).rev(), &wanted)
+    assert!(rt; gives(groups, &["abc", "包包", "bbccdd", "饰饰"]));
 }
 
 #[test]
-fn by_name(rt: HostRuntime) {
-    assert!(rt; str_easy() && str_rev_easy());
-    assert!(rt; str_kanji());
-    assert!(rt; str_ascii_cjk() && str_rev_ascii_cjk());
-    assert!(rt; str_mut_easy() && str_mut_rev_easy());
+fn str_rev_ascii_cjk(rt: HostRuntime) {
+    let groups = LinearStrGroupBy::new(ASCII_CJK, both_cjk_or_neither);
+    assert!(rt; gives(groups.rev(), &["饰饰", "bbccdd", "包包", "abc"]));
+}
+
+#[test]
+fn str_mut_easy(rt: HostRuntime) {
+    let mut bytes = *b"aaaabbbbbaacccc";
+    let wanted = EASY_GROUPS.map(|group| group.as_bytes());
+    assert!(rt; gives_mut(LinearStrGroupMut::new(&mut bytes), &wanted));
+}
+
+#[test]
+fn str_mut_rev_easy(rt: HostRuntime) {
+    let mut bytes = *b"aaaabbbbbaacccc";
+    let wanted = EASY_GROUPS_REV.map(|group| group.as_bytes());
+    assert!(rt; gives_mut(LinearStrGroupMut::new(&mut bytes).rev(), &wanted));
 }
 
 fn is_digit(c: char) -> bool {

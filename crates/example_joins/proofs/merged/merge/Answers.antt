@@ -27,6 +27,10 @@ all g c =
           ∙ sym (c.loop-part.invariant ∙ ap (flat_map (λ q. q.0.now ++ q.1.now)) seen),
     )
 
+pub returns-clause-parts : goal.returns-clause-parts
+returns-clause-parts g c =
+    let k = all g c in (k.0, k.1, sym k.2)
+
 pub returns-clause-ascends : goal.returns-clause-ascends
 returns-clause-ascends g c =
     let k = all g c in
