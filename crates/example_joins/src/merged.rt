@@ -51,7 +51,7 @@ fn sides<'a, A: Compares<B>, B>(
 pub fn merge<T: Ord + Copy>(alloc: Global, left: &[T], right: &[T]) -> Result<Vec<T>, AllocError>
     requires left { NeverDescends T.cmp left.now }
     requires right { NeverDescends T.cmp right.now }
-    ensures parts { IfOk result (λ merged. (ps : List (EitherOrBoth (List T) (List T)))
+    ensures parts { IfOk result (λ merged. (ps : List (Part T T))
         × IsMerge T.cmp left.now right.now ps × (merged.items ≡ flat_map (λ p. lefts p ++ rights p) ps)) }
     ensures ascends { IfOk result (λ merged. NeverDescends T.cmp merged.items) }
     ensures same { IfOk result (λ merged. IsPermutation (left.now ++ right.now) merged.items) }

@@ -15,13 +15,12 @@ pub trait Masks<T> {
     fn same(first: &T, second: &T) -> bool
         ensures { result ≡ same first.now second.now };
 
-    /// Which of sixteen elements from the place `at` on are not the same as `one`: bit k is set for that at `at + k`.
+    /// As `Lanes::unlike`: which of sixteen are not the same as `one`.
     fn unlike(one: &T, slice: &[T], at: usize) -> u64
         requires { at + 16 ≤ length slice.now }
         ensures { result ≡ mask_l (map (λ y. not (same y one.now)) (chunk at 16 slice.now)) };
 
-    /// Which of sixteen neighbouring pairs from the place `at` on differ: bit k is set for the elements at `at + k`
-    /// and the next.
+    /// As `Lanes::cuts`: which of sixteen neighbouring pairs differ.
     fn cuts(slice: &[T], at: usize) -> u64
         requires { at + 16 < length slice.now }
         ensures { result ≡ mask_l (chunk at 16 (boundaries same slice.now)) };
