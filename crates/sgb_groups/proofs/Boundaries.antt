@@ -7,8 +7,7 @@ use Rattle.std.proofs.lemmas.Bool.{leb-false}
 use Rattle.std.proofs.lemmas.List.{append-nil, length-append, take-append-drop, take_at, drop_at, take_all, drop-drop, length-take-le, length-drop}
 use Rattle.std.proofs.Math.Seq.{take-add}
 use Rattle.std.proofs.Math.ListN.{drop_of_length-le}
-use Rattle.std.specs.List.{AllByRecursion}
-use Rattle.sgb_split.specs.Split.{IsAccepted, IsRefusedAcross, IsSplit, concat, first, neighbours, put_before, split}
+use Rattle.sgb_split.specs.Split.{IsAccepted, IsSplit, concat, first, put_before, split}
 use Rattle.sgb_split.specs.Seams.{is_accepted_across}
 use Rattle.sgb_split.proofs.Splits.Joined.{joined_count, piece_alone}
 use Rattle.sgb_split.proofs.Splits.Split.{refused_after, split_begins, split_is, split_only}

@@ -11,13 +11,11 @@ ghost use Rattle.sgb_search.specs.Ranges.{IsRangeAt};
 ghost use Rattle.sgb_search.specs.Search.{IsLessEqualGreater, NeverDescends, between};
 
 /// A list that ascends by a key is grouped for equality of that key (`by_key`), and one that ascends for equality of its elements
-/// (`by_itself`). So is one that descends (`descending_by_key`, `descending`).
+/// (`by_itself`). So is one that descends (`descending`).
 pub fn ascending_is_grouped<T, K: Ord>()
     ensures by_key { (key : T → K) (xs : List T) → NeverDescends K.cmp (map key xs)
         → IsGrouped (λ x y. K.eq (key x) (key y)) xs }
     ensures by_itself { (xs : List K) → NeverDescends K.cmp xs → IsGrouped K.eq xs }
-    ensures descending_by_key { (key : T → K) (xs : List T) → NeverDescends (flip_args K.cmp) (map key xs)
-        → IsGrouped (λ x y. K.eq (key x) (key y)) xs }
     ensures descending { (xs : List K) → NeverDescends (flip_args K.cmp) xs → IsGrouped K.eq xs }
 {}
 
@@ -34,11 +32,9 @@ pub fn ascending_is_searchable<T, K: Ord>()
 {}
 
 /// In a list whose answers are `Less`, then `Equal`, then `Greater` (`ascending_is_searchable`), the elements that are `Less` come
-/// first, and so do those that are not `Greater`. A search for a partition point by either test finds where they end.
+/// first. A search for a partition point by this test finds where they end.
 pub fn searchable_is_partitioned<T>()
-    ensures less { (ord : T → Ordering) (xs : List T) → IsLessEqualGreater ord xs → IsPartitionedBy (λ x. is_lt (ord x)) xs }
-    ensures not_greater { (ord : T → Ordering) (xs : List T) → IsLessEqualGreater ord xs
-        → IsPartitionedBy (λ x. is_le (ord x)) xs }
+    ensures { (ord : T → Ordering) (xs : List T) → IsLessEqualGreater ord xs → IsPartitionedBy (λ x. is_lt (ord x)) xs }
 {}
 
 /// Where the equal elements stand, in a list whose answers are `Less`, then `Equal`, then `Greater`: behind as many as are `Less`

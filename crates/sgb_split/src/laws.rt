@@ -60,18 +60,16 @@ pub fn always_callable_key<T, F: FnMut(&T) -> K, K: PartialEq + Drop>()
 {}
 
 /// A key function that may be called on each element of a slice may be asked about its neighbouring pairs (`along`), and about every
-/// two different places in both orders (`apart`). It may also be called on each element of a part of the slice.
+/// two different places in both orders (`apart`).
 pub fn callable_on_elements<T, F: FnMut(&T) -> K, K: PartialEq + Drop>()
     ensures along { (xs : List T) (func : F) → IsCallableOn F.FnMut xs func
         → IsCallableBy AreNeighbours (by_key F.FnMut K.eq) (record { remainder = xs; judge = key_judge func }) }
     ensures apart { (xs : List T) (func : F) → IsCallableOn F.FnMut xs func
         → IsCallableBy AreApart (by_key F.FnMut K.eq) (record { remainder = xs; judge = key_judge func }) }
-    ensures part { (before part after : List T) (func : F) → IsCallableOn F.FnMut (before ++ (part ++ after)) func
-        → IsCallableOn F.FnMut part func }
 {}
 
 /// If a key function computes a key of each element of a slice, the judge by key answers whether those keys are equal, of neighbouring
-/// pairs (`along`) and of every two different places (`apart`). It also computes the key of each element of a part of the slice.
+/// pairs (`along`) and of every two different places (`apart`).
 pub fn computes_on_elements<T, F: FnMut(&T) -> K, K: PartialEq + Drop>()
     ensures along { (xs : List T) (key : T → K) (func : F) → ComputesOn F.FnMut xs key func
         → ComputesBy AreNeighbours (by_key F.FnMut K.eq)
@@ -79,16 +77,12 @@ pub fn computes_on_elements<T, F: FnMut(&T) -> K, K: PartialEq + Drop>()
     ensures apart { (xs : List T) (key : T → K) (func : F) → ComputesOn F.FnMut xs key func
         → ComputesBy AreApart (by_key F.FnMut K.eq)
         (record { remainder = xs; judge = key_judge func }) (λ x y. K.eq (key x) (key y)) }
-    ensures part { (before part after : List T) (key : T → K) (func : F)
-        → ComputesOn F.FnMut (before ++ (part ++ after)) key func → ComputesOn F.FnMut part key func }
 {}
 
 /// For a function that its calls leave unchanged, such as a closure that captures nothing by `&mut`. If it may be called on each
-/// element now, it may be called on them in every later state (`elements`). A judge by its keys may then be asked about neighbouring
-/// pairs (`along`) and about every two different places (`apart`). The reference names the function's type.
+/// element now, a judge by its keys may be asked about neighbouring pairs (`along`) and about every two different places (`apart`).
+/// The reference names the function's type.
 pub fn callable_unchanged<T, F: FnMut(&T) -> K, K: PartialEq + Drop>(_f: &F)
-    ensures elements { (xs : List T) (f : F) → ((g h : F) (x : T) (k : K) → CalledAt F.FnMut g x k h → h ≡ g)
-        → ((x : T) → Contains xs x → TakesAt F.FnMut f x) → IsCallableOn F.FnMut xs f }
     ensures along { (xs : List T) (f : F) → ((g h : F) (x : T) (k : K) → CalledAt F.FnMut g x k h → h ≡ g)
         → ((x : T) → Contains xs x → TakesAt F.FnMut f x)
         → IsCallableBy AreNeighbours (by_key F.FnMut K.eq) (record { remainder = xs; judge = key_judge f }) }
@@ -161,17 +155,9 @@ pub fn callable_unchanged_char_key<F: FnMut(char) -> K, K: PartialEq + Drop>(_f:
         (record { remainder = cs; judge = char_key_judge f }) }
 {}
 
-/// Equality may be asked about every slice, answers what `==` says, and counts: in every state of its judge.
+/// The judge by `==` counts its questions.
 pub fn equality_judges<T: PartialEq>()
-    ensures callable { (xs : List T) (j : EqualityJudge)
-        → IsCallableBy AreNeighbours (by_equality T.eq) (record { remainder = xs; judge = j }) }
-    ensures settled { (xs : List T) (j : EqualityJudge)
-        → ComputesBy AreNeighbours (by_equality T.eq) (record { remainder = xs; judge = j }) T.eq }
-    ensures callable_apart { (xs : List T) (j : EqualityJudge)
-        → IsCallableBy AreApart (by_equality T.eq) (record { remainder = xs; judge = j }) }
-    ensures computes_apart { (xs : List T) (j : EqualityJudge)
-        → ComputesBy AreApart (by_equality T.eq) (record { remainder = xs; judge = j }) T.eq }
-    ensures counts { (j k : EqualityJudge) (n : ℕ) → IsRunOf (by_equality T.eq).may_ask (by_equality T.eq).answers n j k
+    ensures { (j k : EqualityJudge) (n : ℕ) → IsRunOf (by_equality T.eq).may_ask (by_equality T.eq).answers n j k
         → k.asked ≡ j.asked + n }
 {}
 

@@ -30,11 +30,6 @@ module _ {A : Type 0} where
   with_parts_more gs [] part = refl
   with_parts_more gs (x ∷ xs) part = with_parts_more (with_part gs x) xs part
 
-  pub onto_open : (closed : List (List A)) (g part : List A) → with_part (closed ++ g ∷ []) (false, part) ≡ closed ++ (g ++ part) ∷ []
-  onto_open [] g part = refl
-  onto_open (h ∷ []) g part = refl
-  onto_open (h ∷ k ∷ ks) g part = ap (λ l. h ∷ l) (onto_open (k ∷ ks) g part)
-
 module _ {A : Type 0} (p : A → A → Bool) where
   -- a first piece more, of which it is known whether it goes on with the last piece before
   joined : (b c : Bool) (k h : List A) (hs : List (List A)) → c ≡ not b

@@ -84,11 +84,6 @@ module _ {A : Type 0} (reads : A → Ordering) where
   answered_right qs rs i o w = (w.0, Contains-append_right qs rs (i, w.0) w.1, w.2)
 
   module _ (qs : List (ℕ × A)) (both : Bool) (low high : ℕ) where
-    -- a search ends between its ends
-    pub place_after : (r : Result ℕ ℕ) → Tells reads qs both low high r → low ≤ answer_place r
-    place_after (Ok i) t = t.0.0
-    place_after (Err i) t = t.0
-
     pub place_within : (r : Result ℕ ℕ) → Tells reads qs both low high r → answer_place r ≤ high
     place_within (Ok i) t = omega (arith, t.0.1)
     place_within (Err i) t = t.1

@@ -1,6 +1,6 @@
 -- What the pieces of a list share with the list, and with each other.
 use Rattle.std.specs.Prelude.{◌≡◌, ◌≢◌, ℕ, ◌+◌, ◌⊎◌, Bool, true, false, cond, List, [], ◌∷◌, ◌++◌, length, get_or, map, flat_map, replicate, sum_by, Some}
-use Rattle.std.proofs.Common.{zero, suc, refl, sym, ap, ◌∙◌, subst, length-append, arith, inl, inr}
+use Rattle.std.proofs.Common.{zero, suc, refl, sym, ap, ◌∙◌, subst, arith, inl, inr}
 use Rattle.std.proofs.lemmas.List.{append-nil}
 use Rattle.std.proofs.lemmas.List.Elements.{filter-append}
 use Rattle.std.proofs.lemmas.List.{length-map, map-id}
@@ -24,13 +24,6 @@ use Rattle.slice_group_by.proofs.Joins.FirstGroups.{IsAbove, Ascends, split_asce
 use Rattle.slice_group_by.proofs.Joins.JoinPairs.{EachLater, IsUniform, compared_alike, split_uniform}
 
 module _ {T : Type 0} where
-  lengths_of : (gs : List (List T)) → sum_by length gs ≡ length (concat gs)
-  lengths_of [] = refl
-  lengths_of (g ∷ gs) = sum_by-cons length g gs ∙ ap (λ n. length g + n) (lengths_of gs) ∙ sym (length-append g (concat gs))
-
-  pub lengths : (p : T → T → Bool) (xs : List T) → sum_by length (split p xs) ≡ length xs
-  lengths p xs = lengths_of (split p xs) ∙ ap length (split_is p xs).covers
-
   sums_of : (f : T → ℕ) (gs : List (List T)) → sum_by (λ g. sum_by f g) gs ≡ sum_by f (concat gs)
   sums_of f [] = refl
   sums_of f (g ∷ gs) =
@@ -61,14 +54,6 @@ module _ {T : Type 0} where
 
     pub piece_copied : (xs g : List T) (x : T) → Contains (split p xs) g → first g ≡ Some x → g ≡ replicate (length g) x
     piece_copied xs g x c = copies g x (all_contains (IsAccepted p) (split p xs) g (split_is p xs).accepted c)
-
-    each_copied : (gs : List (List T)) → AllByRecursion (IsAccepted p) gs
-        → AllByRecursion (λ g. (x : T) → first g ≡ Some x → g ≡ replicate (length g) x) gs
-    each_copied [] a = tt
-    each_copied (g ∷ gs) a = (λ x. copies g x a.0, each_copied gs a.1)
-
-    pub pieces_copied : (xs : List T) → AllByRecursion (λ g. (x : T) → first g ≡ Some x → g ≡ replicate (length g) x) (split p xs)
-    pieces_copied xs = each_copied (split p xs) (split_is p xs).accepted
 
     each_back : (d : T) (gs : List (List T)) → AllByRecursion (IsAccepted p) gs → map (λ g. replicate (length g) (get_or g 0 d)) gs ≡ gs
     each_back d [] a = refl

@@ -2,8 +2,7 @@
 use Rattle.std.proofs.Common.{◌≡◌, ℕ, ◌+◌, ◌-◌, ◌*◌, ◌<◌, ◌≤◌, Bool, true, List, [], ◌∷◌, length, Option, Some, subst, ap, refl, arith, ◌∙◌}
 use Rattle.std.proofs.Math.Nat.{mul-le-mul_left}
 use Rattle.std.specs.Iterator.{Yields}
-use Rattle.std.specs.Iterator.Adapters.{rev_source, rev_steps, map_source}
-use Rattle.std.specs.declared.iter.Rev.{Rev}
+use Rattle.std.specs.Iterator.Adapters.{map_source}
 use Rattle.std.specs.declared.iter.Map.{Map}
 use Rattle.std.proofs.lemmas.Iterator.{maps}
 use denote.Param.Members.{Mut}
@@ -121,12 +120,6 @@ module _ {Q I : Type 0} (steps : Q → Option I → Q → Type 0) (asked : Q →
   yields_ask q t [] y =
       subst (λ x. AsksWithin asked due exact q x) y (asks_nothing asked due exact none q)
   yields_ask q t (x ∷ xs) y = asks_add asked due exact more q y.0 t (asks q (Some x) y.0 y.1) (yields_ask y.0 t xs y.2)
-
--- what an adapter gives comes of what its source gives
-pub yields_rev : {S A : Type 0} (steps : S → Option A → S → Type 0) (s : Rev S) (xs : List A) (t : Rev S)
-    → Yields (rev_steps steps) s xs t → Yields steps (rev_source s) xs (rev_source t)
-yields_rev steps s [] t y = ap rev_source y
-yields_rev steps s (x ∷ xs) t y = (rev_source y.0, y.1, yields_rev steps y.0 xs t y.2)
 
 pub yields_map : {S A F R : Type 0} (steps : S → Option A → S → Type 0) (g : Mut F (A × Unit {0}) R) (s : Map S F) (ys : List R)
     (t : Map S F)

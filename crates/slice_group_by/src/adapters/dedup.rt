@@ -1,7 +1,6 @@
 //! The length and the first element of each group.
-ghost use Rattle.std.specs.Prelude.{◌≡◌, ℕ, Bool, List, length, map, nat_eq, IfSome, if◌then◌else◌};
-ghost use Rattle.std.specs.Borrow.{Bor};
-ghost use Rattle.std.specs.Iterator.{Drains, UpTo};
+ghost use Rattle.std.specs.Prelude.{◌≡◌, Bool, length, nat_eq, IfSome, if◌then◌else◌};
+ghost use Rattle.std.specs.Iterator.{UpTo};
 ghost use Rattle.std.specs.Iterator.SizeHint.{IsWithinCount};
 ghost use Rattle.std.proofs.lemmas.Iterator.{YieldsList};
 ghost use Rattle.sgb_split.specs.Split.{from, split};
@@ -43,12 +42,9 @@ pub fn dedup_with_count<'a, T: 'a, Q: SliceQueue<'a, T>>(groups: Q) -> DedupWith
 /// What a loop or an adapter sees of the lengths and first elements of groups that are settled for a test: those of the
 /// pieces of the split, in order, and from the back in reverse.
 pub fn sees_counts<'a, T: 'a, Q: SliceQueue<'a, T>>(_groups: &DedupWithCount<'a, T, Q>)
-    ensures pieces { (p : T → T → Bool) (e : End) (s : DedupWithCount T Q) → Q.GroupQueue.is_settled (counted_groups s) p
+    ensures { (p : T → T → Bool) (e : End) (s : DedupWithCount T Q) → Q.GroupQueue.is_settled (counted_groups s) p
         → YieldsList (GivesCounted Q.GroupQueue.gives e) (λ x. (x.0, x.1.now)) s
         (counted (from e (split p (Q.GroupQueue.remainder (counted_groups s))))) }
-    ensures whole { (p : T → T → Bool) (e : End) (s : DedupWithCount T Q) (items : List (ℕ × Bor T))
-        → Q.GroupQueue.is_settled (counted_groups s) p → Drains (GivesCounted Q.GroupQueue.gives e) s items
-        → map (λ x. (x.0, x.1.now)) items ≡ counted (from e (split p (Q.GroupQueue.remainder (counted_groups s)))) }
 {}
 
 impl<'a, T: 'a, Q: Offsets + SliceQueue<'a, T> + Drop> Iterator for DedupWithCount<'a, T, Q> {

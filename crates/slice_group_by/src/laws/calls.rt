@@ -1,5 +1,5 @@
 //! What calls on a queue of groups give: one, a list of them, and all that a loop or an adapter makes.
-ghost use Rattle.std.specs.Prelude.{◌≡◌, ◌≢◌, ◌+◌, ◌-◌, ◌<◌, ◌≤◌, Bool, List, [], ◌∷◌, ◌++◌, length, map, reverse, count_by};
+ghost use Rattle.std.specs.Prelude.{◌≡◌, ◌+◌, ◌<◌, ◌≤◌, Bool, List, [], ◌∷◌, ◌++◌, length, map, reverse, count_by};
 ghost use Rattle.std.specs.Prelude.{Option, None, Some, option_map, is_some};
 ghost use Rattle.std.specs.Iterator.{Yields, Drains};
 ghost use Rattle.std.specs.Iterator.Adapters.{rev_source, rev_steps};
@@ -7,11 +7,10 @@ ghost use Rattle.std.specs.declared.iter.Rev.{Rev};
 ghost use Rattle.std.proofs.lemmas.Iterator.{YieldsList};
 ghost use Rattle.std.specs.List.{Contains};
 ghost use Rattle.sgb_split.specs.Split.{from, put_at, first, last, without, concat, IsAccepted, split};
-ghost use Rattle.sgb_split.specs.Judges.{AsksWithin};
 ghost use Rattle.sgb_split.specs.declared.end.End.{End};
 ghost use Rattle.sgb_split.specs.declared.end.End.TheVariants.{Front, Back};
-ghost use Rattle.slice_group_by.specs.Walk.{Partition, IsChain};
-ghost use Rattle.slice_group_by.specs.Queue.{after_pops, pops, pushed_at};
+ghost use Rattle.slice_group_by.specs.Walk.{IsChain};
+ghost use Rattle.slice_group_by.specs.Queue.{pushed_at};
 
 use crate::laws::queue::GroupQueue;
 
@@ -97,13 +96,8 @@ pub fn groups_join<Q: GroupQueue>(_queue: &Q)
         → concat (from e (map Q.shows groups)) ≡ Q.remainder q }
 {}
 
-/// How many groups come, whatever the judge answers: no more than elements go, at least one before nothing remains of a
-/// nonempty remainder, and as many calls as there are elements leave nothing.
+/// How many groups come, whatever the judge answers: no more than elements go.
 pub fn groups_still_come<Q: GroupQueue>(_queue: &Q)
-    ensures most { (q t : Q) (ends : List End) (out : List (Option Q.Item)) → IsChain Q.gives q ends out t
+    ensures { (q t : Q) (ends : List End) (out : List (Option Q.Item)) → IsChain Q.gives q ends out t
         → count_by is_some out + length (Q.remainder t) ≤ length (Q.remainder q) }
-    ensures least { (q t : Q) (ends : List End) (out : List (Option Q.Item)) → IsChain Q.gives q ends out t
-        → Q.remainder q ≢ [] → Q.remainder t ≡ [] → 0 < count_by is_some out }
-    ensures fewer { (q t : Q) (ends : List End) (out : List (Option Q.Item)) → IsChain Q.gives q ends out t
-        → length (Q.remainder t) ≤ length (Q.remainder q) - length ends }
 {}

@@ -1,10 +1,8 @@
 //! Laws of the families of groups beside each other.
 ghost use Rattle.std.specs.Prelude.{◌≡◌, Bool, List, length, Option, Some, map, option_map};
 ghost use Rattle.sgb_split.specs.Calls.{ComputesBy};
-ghost use Rattle.std.specs.Borrow.{Bor};
 ghost use Rattle.sgb_split.specs.Split.{from, split, AreApart};
 ghost use Rattle.std.specs.Fn.{ComputesOnPairs};
-ghost use Rattle.std.specs.Iterator.{Drains};
 ghost use Rattle.std.specs.Slice.Iter.{chunk_by_rest, chunk_by_callee};
 ghost use Rattle.std.specs.declared.slice.ChunkBy.{ChunkBy};
 ghost use Rattle.std.proofs.lemmas.Iterator.{YieldsList};
@@ -34,26 +32,18 @@ pub fn families_agree<T, Q: GroupQueue<Element = T>, R: GroupQueue<Element = T>>
 {}
 
 /// The standard library agrees. If a predicate computes a test, `chunk_by` gives the pieces of the one split by its own contract, from
-/// both ends. So its chunks are the groups of every queue that is settled for the test, such as `LinearGroupBy` by that predicate.
+/// both ends. By `sees_pieces` so does every queue that is settled for the test, such as `LinearGroupBy` by that predicate.
 pub fn chunk_by_agrees<T, F: FnMut(&T, &T) -> bool, Q: GroupQueue<Element = T>>(
     _chunks: &ChunkBy<'_, T, F>,
     _queue: &Q,
 )
-    ensures pieces { (p : T → T → Bool) (e : End) (s : ChunkBy T F) → ComputesOnPairs F.FnMut p (chunk_by_callee s)
+    ensures { (p : T → T → Bool) (e : End) (s : ChunkBy T F) → ComputesOnPairs F.FnMut p (chunk_by_callee s)
         → YieldsList (chunk_calls F.FnMut e) (λ chunk. chunk.now) s (from e (split p (chunk_by_rest s))) }
-    ensures groups { (p : T → T → Bool) (e : End) (s : ChunkBy T F) (q : Q) (chunks : List (Bor (List T)))
-        (groups : List Q.Item)
-        → ComputesOnPairs F.FnMut p (chunk_by_callee s) → Q.is_settled q p → Q.remainder q ≡ chunk_by_rest s
-        → Drains (chunk_calls F.FnMut e) s chunks → Drains (Q.gives e) q groups
-        → map (λ chunk. chunk.now) chunks ≡ map Q.shows groups }
 {}
 
 /// On any slice, grouped or not, if the judge depends only on its arguments: a call of binary or exponential groups gives a group
-/// that ends at a local boundary of the remainder, read from the call's end. The judge is then as before.
+/// that ends at a local boundary of the remainder, read from the call's end.
 pub fn groups_end_locally<T, J: Judge<T>, S: GroupSearch, G: Judged<T, J, Search<S>>>(_groups: &G)
-    ensures ends { (p : T → T → Bool) (e : End) (s t : G) (group : G.Item) → ComputesBy AreApart J.Judge (G.groups s) p
+    ensures { (p : T → T → Bool) (e : End) (s t : G) (group : G.Item) → ComputesBy AreApart J.Judge (G.groups s) p
         → G.GroupQueue.gives e s (Some group) t → IsLocalEnd (from e (G.groups s).remainder) p (length (G.GroupQueue.shows group)) }
-    ensures computes { (p : T → T → Bool) (e : End) (s t : G) (group : G.Item)
-        → ComputesBy AreApart J.Judge (G.groups s) p → G.GroupQueue.gives e s (Some group) t
-        → ComputesBy AreApart J.Judge (G.groups t) p }
 {}

@@ -1,8 +1,7 @@
 //! Laws of the pieces of a list.
 ghost use Rattle.std.specs.Prelude.{◌≡◌, ℕ, ◌<◌, Bool, false, true, List, length, flat_map, get_or, map, replicate, sum_by};
-ghost use Rattle.std.specs.Prelude.{Some, slice_get};
+ghost use Rattle.std.specs.Prelude.{Some};
 ghost use Rattle.std.specs.List.{AllByRecursion, Contains, dedup, filter};
-ghost use Rattle.std.specs.declared.cmp.Ordering.TheVariants.{Less};
 ghost use Rattle.sgb_linear_group.specs.Best.{best_of_each};
 ghost use Rattle.sgb_search.specs.Search.{AlwaysAscends, NeverDescends};
 ghost use Rattle.sgb_split.specs.Split.{first, split};
@@ -11,16 +10,11 @@ ghost use Rattle.slice_group_by.specs.Keyed.{keyed};
 
 /// In a list that ascends by a key:
 ///
-/// - `ascend`: the pieces ascend strictly. Each element of a piece has a lesser key than each of a later one, so no key has two pieces.
-/// - `firsts`: so do the keys of their first elements, which `dedup` leaves (`pieces_have_keys`).
+/// - `firsts`: the keys of the first elements of the pieces, which `dedup` leaves (`pieces_have_keys`), ascend strictly.
 /// - `each`: a piece holds all elements of its key. A filter of the list by the key of any of its elements gives the piece.
 /// - `keyed`, `by_first`: the pieces with their keys, as `sees_keys` has them, are the keys in order, each once, and with each all
 ///   elements that have it.
 pub fn pieces_by_key<T, K: Ord>()
-    ensures ascend { (key : T → K) (xs : List T) → NeverDescends K.cmp (map key xs)
-        → (i j : ℕ) (g h : List T) (x y : T) → i < j → slice_get (split (λ a b. K.eq (key a) (key b)) xs) i ≡ Some g
-        → slice_get (split (λ a b. K.eq (key a) (key b)) xs) j ≡ Some h → Contains g x → Contains h y
-        → K.cmp (key x) (key y) ≡ Less }
     ensures firsts { (key : T → K) (xs : List T) → NeverDescends K.cmp (map key xs)
         → AlwaysAscends K.cmp (map key (dedup (λ a b. K.eq (key a) (key b)) xs)) }
     ensures each { (key : T → K) (xs g : List T) (x : T) → NeverDescends K.cmp (map key xs)
@@ -42,8 +36,6 @@ pub fn equal_pieces_are_copies<T>()
         → map (λ g. replicate (length g) (get_or g 0 d)) (split p xs) ≡ split p xs }
     ensures decode { (p : T → T → Bool) → ((x y : T) → p x y ≡ true → x ≡ y) → (xs : List T)
         → flat_map (λ r. replicate r.0 r.1) (counted (split p xs)) ≡ xs }
-    ensures each { (p : T → T → Bool) → ((x y : T) → p x y ≡ true → x ≡ y) → (xs : List T)
-        → AllByRecursion (λ g. (x : T) → first g ≡ Some x → g ≡ replicate (length g) x) (split p xs) }
 {}
 
 /// The keys of pieces by keys, in whatever list. With the elements themselves as keys these are the pieces by `==`.
@@ -66,10 +58,9 @@ pub fn pieces_have_keys<T, K: PartialEq>()
         → Contains (split (λ a b. K.eq (key a) (key b)) xs) g → Contains g x → Contains g y → K.eq (key x) (key y) ≡ true }
 {}
 
-/// The pieces of a list have its length together, and a sum over them is the sum over the list.
+/// A sum over the pieces of a list is the sum over the list.
 pub fn pieces_add_up<T>()
-    ensures lengths { (p : T → T → Bool) (xs : List T) → sum_by length (split p xs) ≡ length xs }
-    ensures sums { (p : T → T → Bool) (f : T → ℕ) (xs : List T) → sum_by (λ g. sum_by f g) (split p xs) ≡ sum_by f xs }
+    ensures { (p : T → T → Bool) (f : T → ℕ) (xs : List T) → sum_by (λ g. sum_by f g) (split p xs) ≡ sum_by f xs }
 {}
 
 /// What `partition_best_by` keeps if `worse` is an order: what is not worse is transitive, and of two elements at most one is worse.

@@ -33,7 +33,6 @@ pub fn sorts_ascend<T, K: Ord>()
     ensures by_itself { (xs : List K) → IsSorted K.cmp xs → NeverDescends K.cmp xs }
     ensures by_key { (key : T → K) (xs : List T) → IsSortedByKey key K.cmp xs → NeverDescends K.cmp (map key xs) }
     ensures sorted { (xs : List K) → NeverDescends K.cmp xs → IsSorted K.cmp xs }
-    ensures sorted_by_key { (key : T → K) (xs : List T) → NeverDescends K.cmp (map key xs) → IsSortedByKey key K.cmp xs }
     ensures part { (before part after : List K) → NeverDescends K.cmp (before ++ (part ++ after)) → NeverDescends K.cmp part }
     ensures said_by_key { (key : T → K) (xs : List T) (sorted : Bool)
         → IsAllAdjacentAnswer (λ x y b. b ≡ partial_le K.partial_cmp (key x) (key y)) xs sorted

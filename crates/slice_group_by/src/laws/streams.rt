@@ -1,16 +1,16 @@
 //! Laws of groups that go on over the blocks of a stream.
-ghost use Rattle.std.specs.Prelude.{◌≡◌, ◌≢◌, ℕ, ◌+◌, ◌-◌, ◌*◌, ◌<◌, Bool, true, false, ◌&&◌, List, [], ◌∷◌, ◌++◌};
-ghost use Rattle.std.specs.Prelude.{length, Option, None, Some, count_by, flat_map, map, option_map, slice_index_or, slice_set};
+ghost use Rattle.std.specs.Prelude.{◌≡◌, ◌≢◌, ℕ, ◌+◌, ◌-◌, ◌*◌, ◌<◌, Bool, ◌&&◌, List, [], ◌∷◌, ◌++◌};
+ghost use Rattle.std.specs.Prelude.{length, Option, Some, count_by, flat_map, map, option_map, slice_index_or, slice_set};
 ghost use Rattle.std.specs.Borrow.{MutBor};
 ghost use Rattle.std.specs.Fn.{CalledAt};
 ghost use Rattle.std.specs.Iterator.{Drains, Yields};
 ghost use Rattle.std.specs.List.{fold};
 ghost use Rattle.sgb_split.specs.Judges.{IsRun};
-ghost use Rattle.sgb_split.specs.Split.{concat, last, neighbours, split};
+ghost use Rattle.sgb_split.specs.Split.{concat, last, split};
 ghost use Rattle.sgb_split.specs.declared.end.End.TheVariants.{Front};
 ghost use Rattle.sgb_stream_group.specs.declared.parts.Parts.{Parts};
 ghost use Rattle.sgb_stream_group.specs.Streams.{AsksEnds, GivesBlockPart, across, add_part, add_values, of_nonempty};
-ghost use Rattle.sgb_stream_group.specs.Streams.{as_parts, begins_at, begins_of, change_last, groups_in};
+ghost use Rattle.sgb_stream_group.specs.Streams.{begins_at, begins_of, change_last, groups_in};
 ghost use Rattle.sgb_stream_group.specs.Streams.{last_after, pair_list, with_part, with_parts};
 ghost use Rattle.slice_group_by.specs.Counts.{RaisesJust};
 
@@ -20,18 +20,15 @@ use sgb_linear_group::linear_group::Linear;
 use sgb_split::judge::{Judge, KeyJudge};
 use sgb_stream_group::parts::Parts;
 
-/// The parts of a block, joined, are the block, and a group begins with each but perhaps the first, whatever the judge
-/// answers: `whole`, `begin`. If it computes a test, the parts make the groups of what has come before and of the
-/// block: `block`, where `before` are the elements before. How many of these pass a test that their first elements
-/// decide, `count` says, part by part.
+/// The parts of a block, joined, are the block, whatever the judge answers: `whole`. If it computes a test, the parts
+/// make the groups of what has come before and of the block: `block`, where `before` are the elements before. How many
+/// of these pass a test that their first elements decide, `count` says, part by part.
 ///
 /// `kept` says which element the stream keeps. A loop that keeps more than `parts_fold` says keeps it of `with_parts`
-/// of the parts so far: `turn` and `goes_on` say what a part more changes, and each is `nonempty`.
+/// of the parts so far: `turn` says what a part more changes, and each is `nonempty`.
 pub fn parts_join<Q: GroupQueue>(_parts: &Parts<Q>)
     ensures whole { (s : Parts Q) (parts : List (Bool × Q.Item)) → Drains (GivesBlockPart (Q.gives Front)) s parts
         → concat (map (λ x. Q.shows x.1) parts) ≡ Q.remainder (groups_in s) }
-    ensures begin { (s t : Parts Q) (parts : List (Bool × Q.Item)) → Yields (GivesBlockPart (Q.gives Front)) s parts t
-        → map (λ x. (x.0, Q.shows x.1)) parts ≡ as_parts (begins_of s) (map (λ x. Q.shows x.1) parts) }
     ensures block { (p : Q.Element → Q.Element → Bool) (before block : List Q.Element)
         (s : Parts Q) (parts : List (Bool × Q.Item))
         → Q.is_settled (groups_in s) p → Q.remainder (groups_in s) ≡ block
@@ -51,8 +48,6 @@ pub fn parts_join<Q: GroupQueue>(_parts: &Parts<Q>)
     ensures turn { (groups : List (List Q.Element)) (parts : List (Bool × Q.Item)) (part : Bool × Q.Item)
         → with_parts groups (map (λ x. (x.0, Q.shows x.1)) (parts ++ part ∷ []))
         ≡ with_part (with_parts groups (map (λ x. (x.0, Q.shows x.1)) parts)) (part.0, Q.shows part.1) }
-    ensures goes_on { (closed : List (List Q.Element)) (group part : List Q.Element)
-        → with_part (closed ++ group ∷ []) (false, part) ≡ closed ++ (group ++ part) ∷ [] }
     ensures nonempty { (s t : Parts Q) (part : Bool × Q.Item) → GivesBlockPart (Q.gives Front) s (Some part) t
         → Q.shows part.1 ≢ [] }
 {}

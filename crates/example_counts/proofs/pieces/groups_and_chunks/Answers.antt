@@ -12,6 +12,6 @@ returns-clause-groups c =
 
 pub returns-clause-chunks : goal.returns-clause-chunks
 returns-clause-chunks c =
-    let chunks = c.chunk_by_agrees.ensures.pieces nat_eq Front c.chunk_by-chunks.result
+    let chunks = c.chunk_by_agrees.ensures nat_eq Front c.chunk_by-chunks.result
     (always_returns_same _ _ _ (λ a r f' k. search rules)) in
     rw c.chunk_by-chunks.ensures.rest at (count_from_yields_List {steps = chunk_by_steps _} _ _ c.count-2.ensures.ran chunks)

@@ -11,7 +11,7 @@ use Rattle.example_counts.proofs.pieces.rows_by_key.Goals as goal
 pub returns : goal.returns
 returns c =
     let groups = c.with_keys-groups in
-    let seen = YieldsList-at c.map.ensures.source (c.sees_keys.ensures.pieces key Front groups.result
+    let seen = YieldsList-at c.map.ensures.source (c.sees_keys.ensures key Front groups.result
     (rw groups.ensures (
       subst (ComputesKey _ key) (sym (ap (λ j. j.func) c.new.ensures.judge)) (always_returns_same _ _ _ (λ a r f' k. search rules)),
       tt,

@@ -11,6 +11,6 @@ returns-clause-found c ascends =
 
 pub returns-clause-keys : goal.returns-clause-keys
 returns-clause-keys c =
-    let k = c.search_counts.ensures.search (λ f. f.0.now) (λ f. f.0.ghost_name) 1 (λ f h x a called. search rules) _ _ _ _ _
+    let k = c.search_counts.ensures (λ f. f.0.now) (λ f. f.0.ghost_name) 1 (λ f h x a called. search rules) _ _ _ _ _
     c.exponential_search_by_key_ref-found.ensures.questions in
     search (rules, arith, k.0, k.1)

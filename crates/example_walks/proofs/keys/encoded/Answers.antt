@@ -10,7 +10,7 @@ use Rattle.example_walks.proofs.keys.encoded.Goals as goal
 pub returns-clause-runs : goal.returns-clause-runs
 returns-clause-runs c =
     let counts = c.dedup_with_count-counts in
-    let seen = YieldsList-at c.map.ensures.source (c.sees_counts.ensures.pieces nat_eq Front counts.result
+    let seen = YieldsList-at c.map.ensures.source (c.sees_counts.ensures nat_eq Front counts.result
     (rw counts.ensures (c.new.ensures.settled tt))) in
     rw (counts.ensures, c.new.ensures.remainder, map-id) at (items_from_collect c.collect.result c.collect.ensures.ran
     (YieldsList-from_map _ (λ run. run) seen c.map.ensures.closure (λ x r q k. search rules)))

@@ -10,11 +10,6 @@ returns-clause-by_key g c = ascending_grouped g.K.Ord.cmp g.met.K.Ord.total g.K.
 pub returns-clause-by_itself : goal.returns-clause-by_itself
 returns-clause-by_itself g c = sorted_grouped g.K.Ord.cmp g.met.K.Ord.total g.K.PartialEq.eq g.met.K.Ord.matches_eq
 
-pub returns-clause-descending_by_key : goal.returns-clause-descending_by_key
-returns-clause-descending_by_key g c =
-    ascending_grouped (flip_args g.K.Ord.cmp) (back_total g.met.K.Ord.total) g.K.PartialEq.eq
-    (ties_back g.K.Ord.cmp g.K.PartialEq.eq g.met.K.Ord.matches_eq g.met.K.Ord.total)
-
 pub returns-clause-descending : goal.returns-clause-descending
 returns-clause-descending g c =
     sorted_grouped (flip_args g.K.Ord.cmp) (back_total g.met.K.Ord.total) g.K.PartialEq.eq

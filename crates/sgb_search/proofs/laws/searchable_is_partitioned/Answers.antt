@@ -1,8 +1,5 @@
-use Rattle.sgb_search.proofs.Searches.Partitions.{less_first, not_greater_first}
+use Rattle.sgb_search.proofs.Searches.Partitions.{less_first}
 use Rattle.sgb_search.proofs.laws.searchable_is_partitioned.Goals as goal
 
-pub returns-clause-less : goal.returns-clause-less
-returns-clause-less g c = less_first
-
-pub returns-clause-not_greater : goal.returns-clause-not_greater
-returns-clause-not_greater g c = not_greater_first
+pub returns : goal.returns
+returns g c = less_first

@@ -1,6 +1,5 @@
-use Rattle.std.proofs.Common.{◌++◌}
 use Rattle.sgb_split.specs.Split.{AreNeighbours, AreApart}
-use Rattle.sgb_split.proofs.Questions.OnElements.{neighbours_contained, apart_contained, part_contained, callable_on_fewer, key_callable_on}
+use Rattle.sgb_split.proofs.Questions.OnElements.{neighbours_contained, apart_contained, key_callable_on}
 use Rattle.sgb_split.proofs.laws.callable_on_elements.Goals as goal
 
 pub returns-clause-along : goal.returns-clause-along
@@ -8,6 +7,3 @@ returns-clause-along g c xs = key_callable_on g.F.FnMut g.K.PartialEq.eq xs (Are
 
 pub returns-clause-apart : goal.returns-clause-apart
 returns-clause-apart g c xs = key_callable_on g.F.FnMut g.K.PartialEq.eq xs (AreApart xs) (apart_contained xs)
-
-pub returns-clause-part : goal.returns-clause-part
-returns-clause-part g c before part after = callable_on_fewer g.F.FnMut (before ++ (part ++ after)) part (part_contained before part after)

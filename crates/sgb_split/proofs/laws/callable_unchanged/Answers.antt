@@ -2,9 +2,6 @@ use Rattle.sgb_split.specs.Split.{AreNeighbours, AreApart}
 use Rattle.sgb_split.proofs.Questions.OnElements.{callable_unchanged, key_callable_on, neighbours_contained, apart_contained}
 use Rattle.sgb_split.proofs.laws.callable_unchanged.Goals as goal
 
-pub returns-clause-elements : goal.returns-clause-elements
-returns-clause-elements g c xs f stays = callable_unchanged g.F.FnMut stays xs f
-
 pub returns-clause-along : goal.returns-clause-along
 returns-clause-along g c xs f stays takes =
     key_callable_on g.F.FnMut g.K.PartialEq.eq xs (AreNeighbours xs) (neighbours_contained xs) f

@@ -1,7 +1,7 @@
 //! Groups by a key, with their keys.
-ghost use Rattle.std.specs.Prelude.{◌≡◌, ◌<◌, Bool, List, length, map, nat_eq, slice_get, Option, Some, IfSome};
+ghost use Rattle.std.specs.Prelude.{◌≡◌, ◌<◌, Bool, length, nat_eq, slice_get, Option, Some, IfSome};
 ghost use Rattle.std.specs.Prelude.{if◌then◌else◌, option_map};
-ghost use Rattle.std.specs.Iterator.{Drains, UpTo};
+ghost use Rattle.std.specs.Iterator.{UpTo};
 ghost use Rattle.std.specs.Iterator.SizeHint.{IsWithinCount};
 ghost use Rattle.std.proofs.lemmas.Iterator.{YieldsList};
 ghost use Rattle.sgb_split.specs.Split.{TakesPiece, from, split};
@@ -89,13 +89,9 @@ pub struct WithKeys<Q> {
 /// Groups of a slice are `is_keyed` if the function, as it is now, computes the key (`ComputesKey`) and what remains fits,
 /// which is what the clause `settled` of `new` takes. For texts `ComputesCharKey` is enough.
 pub fn sees_keys<Q: Keyed>(_groups: &WithKeys<Q>)
-    ensures pieces { (key : Q.Element → Q.Key) (e : End) (s : WithKeys Q) → Q.is_keyed (groups_within s) key
+    ensures { (key : Q.Element → Q.Key) (e : End) (s : WithKeys Q) → Q.is_keyed (groups_within s) key
         → YieldsList (GivesWithKey Q.gives Q.calls_key e) (λ x. (x.0, Q.shows x.1)) s
         (keyed key (from e (split (λ x y. Q.same_key (key x) (key y)) (Q.remainder (groups_within s))))) }
-    ensures whole { (key : Q.Element → Q.Key) (e : End) (s : WithKeys Q) (items : List (Q.Key × Q.Item))
-        → Q.is_keyed (groups_within s) key → Drains (GivesWithKey Q.gives Q.calls_key e) s items
-        → map (λ x. (x.0, Q.shows x.1)) items
-        ≡ keyed key (from e (split (λ x y. Q.same_key (key x) (key y)) (Q.remainder (groups_within s)))) }
 {}
 
 impl<Q: Keyed + Drop> Iterator for WithKeys<Q> {

@@ -8,5 +8,5 @@ use Rattle.slice_group_by.proofs.adapters.offsets.sees_keys_at.Goals as goal
 pub returns : goal.returns
 returns g c key s size stays by = record {
   runs = keys_at _ _ _ g.Q.GroupQueue.gives _ g.Q.Keyed.calls_key g.met.Q.Offsets.takes size stays key s _
-      (split_is _ (g.Q.GroupQueue.remainder (groups_under (groups_within s)))).nonempty (c.sees_keys.ensures.pieces key Front s by).runs;
+      (split_is _ (g.Q.GroupQueue.remainder (groups_under (groups_within s)))).nonempty (c.sees_keys.ensures key Front s by).runs;
 }

@@ -4,16 +4,6 @@ use Rattle.sgb_search.proofs.Searches.SearchQueue.{asked_apart, asked_within, ro
 use Rattle.slice_group_by.proofs.Questions.Counting.{counts_most}
 use Rattle.slice_group_by.proofs.laws.counts.search_asks.Goals as goal
 
-pub returns-clause-asks : goal.returns-clause-asks
-returns-clause-asks g c e s t group h =
-    let at = g.met.G.Judged.call e s (Some group) t h in
-    let run = asked_apart g.J.Judge g.S.GroupSearch.cost e _ _ _ _ at.asked in
-    let room = room_of g.J.Judge g.S.GroupSearch.cost e _ _ _ at in (
-      length at.asked.questions,
-      (run.questions, run.run, run.long),
-      (asked_within g.J.Judge g.S.GroupSearch.cost e _ _ _ _ at.asked at.nonempty room).call,
-    )
-
 pub returns-clause-questions : goal.returns-clause-questions
 returns-clause-questions g c e s t group h =
     let call = (g.met.G.Judged.call e s (Some group) t h).asked in
@@ -24,7 +14,10 @@ returns-clause-counts g c count name each step e s t None h most few =
     let same = (g.met.G.Judged.call e s None t h).1 in
     (ap (λ q. name q.judge) same, ap (λ q. count q.judge) same)
 returns-clause-counts g c count name each step e s t (Some group) h most few =
-    let a = returns-clause-asks g c e s t group h in
-    let k = counts_most g.J.Judge.may_ask g.J.Judge.answers count name each step a.0 (g.G.Judged.groups s).judge
-    (g.G.Judged.groups t).judge a.1 in
-    (k.0, omega (arith, k.1, mul-le-mul_left each a.2, few (length (g.G.GroupQueue.shows group))))
+    let at = g.met.G.Judged.call e s (Some group) t h in
+    let run = asked_apart g.J.Judge g.S.GroupSearch.cost e _ _ _ _ at.asked in
+    let room = room_of g.J.Judge g.S.GroupSearch.cost e _ _ _ at in
+    let within = (asked_within g.J.Judge g.S.GroupSearch.cost e _ _ _ _ at.asked at.nonempty room).call in
+    let k = counts_most g.J.Judge.may_ask g.J.Judge.answers count name each step (length at.asked.questions)
+    (g.G.Judged.groups s).judge (g.G.Judged.groups t).judge (run.questions, run.run, run.long) in
+    (k.0, omega (arith, k.1, mul-le-mul_left each within, few (length (g.G.GroupQueue.shows group))))

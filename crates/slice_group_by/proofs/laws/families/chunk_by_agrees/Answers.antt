@@ -1,22 +1,14 @@
-use Rattle.std.proofs.Common.{sym, ap, ◌∙◌}
+use Rattle.std.proofs.Common.{sym}
 use Rattle.std.specs.Slice.Iter.{chunk_by_rest, chunk_by_callee}
 use Rattle.std.specs.Fn.{ComputesOnPairs}
-use Rattle.sgb_split.specs.Split.{from, split}
 use Rattle.sgb_split.proofs.Lists.Ends.{from-from}
 use Rattle.slice_group_by.specs.Chunks.{chunk_calls}
 use Rattle.slice_group_by.proofs.Queues.Chunks.{chunk_piece}
-use Rattle.slice_group_by.proofs.Queues.Yields.{yields_pieces, drains_settled}
+use Rattle.slice_group_by.proofs.Queues.Yields.{yields_pieces}
 use Rattle.slice_group_by.proofs.laws.families.chunk_by_agrees.Goals as goal
 
-pub returns-clause-pieces : goal.returns-clause-pieces
-returns-clause-pieces g c p e s by = record {
+pub returns : goal.returns
+returns g c p e s by = record {
   runs = yields_pieces (chunk_calls g.F.FnMut) chunk_by_rest (λ chunk. chunk.now) (λ s p. ComputesOnPairs g.F.FnMut p (chunk_by_callee s)) p
       (chunk_piece g.F.FnMut) e s _ by (sym (from-from e _));
 }
-
-pub returns-clause-groups : goal.returns-clause-groups
-returns-clause-groups g c p e s q chunks groups by settled same all whole =
-    drains_settled (chunk_calls g.F.FnMut) chunk_by_rest (λ chunk. chunk.now) (λ s p. ComputesOnPairs g.F.FnMut p (chunk_by_callee s)) p
-    (chunk_piece g.F.FnMut) e s chunks by all
-    ∙ ap (λ xs. from e (split p xs)) (sym same)
-    ∙ sym (drains_settled _ _ _ _ p g.met.Q.GroupQueue.piece e q groups settled whole)

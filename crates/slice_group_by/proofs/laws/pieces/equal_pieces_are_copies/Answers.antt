@@ -1,11 +1,8 @@
-use Rattle.slice_group_by.proofs.Pieces.PiecesOfLists.{piece_copied, pieces_copied, copied_back, decodes}
+use Rattle.slice_group_by.proofs.Pieces.PiecesOfLists.{piece_copied, copied_back, decodes}
 use Rattle.slice_group_by.proofs.laws.pieces.equal_pieces_are_copies.Goals as goal
 
 pub returns-clause-one : goal.returns-clause-one
 returns-clause-one g c = piece_copied
-
-pub returns-clause-each : goal.returns-clause-each
-returns-clause-each g c = pieces_copied
 
 pub returns-clause-copies : goal.returns-clause-copies
 returns-clause-copies g c = copied_back

@@ -1,4 +1,4 @@
-use Rattle.slice_group_by.proofs.Pieces.Adjacent.{ascends_sorted, keys_of_neighbours, neighbours_of_keys, part_ascends}
+use Rattle.slice_group_by.proofs.Pieces.Adjacent.{ascends_sorted, keys_of_neighbours, part_ascends}
 use Rattle.slice_group_by.proofs.Pieces.Adjacent.{sort_ascends, sorted_by_key, sorted_by_key_only}
 use Rattle.slice_group_by.proofs.laws.sorted.sorts_ascend.Goals as goal
 
@@ -11,10 +11,6 @@ returns-clause-by_key g c key xs h =
 
 pub returns-clause-sorted : goal.returns-clause-sorted
 returns-clause-sorted g c xs h = ascends_sorted g.K.Ord.cmp g.met.K.Ord.total (λ x. x) xs h
-
-pub returns-clause-sorted_by_key : goal.returns-clause-sorted_by_key
-returns-clause-sorted_by_key g c key xs h =
-    ascends_sorted g.K.Ord.cmp g.met.K.Ord.total key xs (neighbours_of_keys g.K.Ord.cmp g.met.K.Ord.total key xs h)
 
 pub returns-clause-said_by_key : goal.returns-clause-said_by_key
 returns-clause-said_by_key g c =

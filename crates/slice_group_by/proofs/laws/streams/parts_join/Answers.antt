@@ -4,7 +4,7 @@ use Rattle.std.specs.List.{count_by}
 use Rattle.std.proofs.lemmas.List.Folds.{fold-map}
 use Rattle.sgb_split.specs.Split.{concat, split}
 use Rattle.sgb_split.specs.declared.end.End.TheVariants.{Front}
-use Rattle.sgb_stream_group.specs.Streams.{as_parts, with_parts}
+use Rattle.sgb_stream_group.specs.Streams.{with_parts}
 use Rattle.sgb_stream_group.proofs.JoinedParts as joined
 use Rattle.sgb_stream_group.proofs.FoldedParts.{counted}
 use Rattle.slice_group_by.proofs.Queues.Yields.{drains_parts}
@@ -20,11 +20,6 @@ returns-clause-whole g c s parts drains =
     ap concat (joined.shown_alone (g.Q.GroupQueue.gives Front) shows parts)
     ∙ drains_parts _ _ _ g.met.Q.GroupQueue.part Front s.groups (map (λ x. x.1) parts)
     (t.groups, (j.groups, joined.yields_under gives shows s j parts drains.1.1, drains.1.2.0))
-
-pub returns-clause-begin : goal.returns-clause-begin
-returns-clause-begin g c s t parts y =
-    let shows = g.Q.GroupQueue.shows in
-    joined.flags (g.Q.GroupQueue.gives Front) shows s t parts y ∙ ap (as_parts s.begins) (sym (joined.shown_alone (g.Q.GroupQueue.gives Front) shows parts))
 
 pub returns-clause-block : goal.returns-clause-block
 returns-clause-block g c p before block s parts settled is begins drains =
@@ -45,9 +40,6 @@ pub returns-clause-turn : goal.returns-clause-turn
 returns-clause-turn g c groups parts part =
     let shown : List (Bool × List g.row.Q-Element.Denot) = map (λ (x : Bool × g.row.Q-Item.Denot). (x.0, g.Q.GroupQueue.shows x.1)) parts in
     ap (with_parts groups) (map-append _ parts (part ∷ [])) ∙ joined.with_parts_more groups shown (part.0, g.Q.GroupQueue.shows part.1)
-
-pub returns-clause-goes_on : goal.returns-clause-goes_on
-returns-clause-goes_on g c closed group part = joined.onto_open closed group part
 
 pub returns-clause-nonempty : goal.returns-clause-nonempty
 returns-clause-nonempty g c s t part gives = (g.met.Q.GroupQueue.part Front s.groups _ t.groups gives.0).0
