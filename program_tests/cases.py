@@ -132,10 +132,14 @@ CASES = [
 ]
 
 ROWS = b"".join(b"%08d,a value of some length\n" % key for key in range(780_000))
+HIGHER_ROWS = b"".join(b"%08d,a value of some length\n" % key for key in range(780_000, 1_560_000))
 LONG_ROWS = b"".join(
     b"%06d,%s\n" % (key, b"v" * (60_000 if key * key % 1009 == 1 or key ** 3 % 4001 == 7 else key % 60))
     for key in range(100_000)
 )
+
+# Seven departments in no order.
+DEPARTMENTS = [row ** 3 % 1_000_003 % 7 for row in range(200_000)]
 
 # Files that cannot be read, how they are named, and why.
 UNREADABLE = [("miss\ning\x1b\x7fé", r"miss\ning\u{1b}\u{7f}é", 2), (".", ".", 21)]
@@ -160,9 +164,17 @@ AT_ONCE = [
 LONG = [
     ("run_length_coder", [], b"ab" * 4_000_000, b"1 97\n1 98\n" * 4_000_000),
     ("grouped_report", [], b"1,1\n2,1\n" * 3_000_000, b"department 1: 3000000\ndepartment 2: 3000000\ntotal: 6000000\n"),
+    # more than 16 MB of rows if they were never folded
+    (
+        "grouped_report", [], b"".join(b"%d,1\n" % department for department in DEPARTMENTS),
+        b"".join(b"department %d: %d\n" % (department, DEPARTMENTS.count(department)) for department in range(7)) + b"total: 200000\n",
+    ),
     ("table_join", [], (b"k,v\n" * 2000, b"k,w\n" * 2000), b"k,v,w\n" * 4_000_000),
     # 25 MB and 25 MB
     ("table_join", ["semi"], (ROWS, ROWS), ROWS),
+    # and of keys that lie apart: one table waits for the other
+    ("table_join", ["anti"], (ROWS, HIGHER_ROWS), ROWS),
+    ("table_join", ["anti"], (HIGHER_ROWS, ROWS), HIGHER_ROWS),
     # long lines now and then: 8 MB of memory if each kept its own
     ("table_join", ["semi"], (LONG_ROWS, LONG_ROWS), LONG_ROWS),
     # 16 MB if all keys that are asked for were kept
@@ -171,7 +183,7 @@ LONG = [
 
 # Arguments that are wrong, and what is said of them before the usage. The files that they name do not exist.
 WRONG_ARGUMENTS = [
-    *((name, [*words, "-x"], 'unknown argument: "-x"') for name in NAMES for words in ([], ["nofile"])),
+    *((name, words, 'unknown argument: "-x"') for name in NAMES for words in (["-x"], ["nofile", "-x"], ["-x", "-y"])),
     *((name, ["nofile", "more", "yet"], 'one argument too many: "more"') for name in NAMES[:3]),
     ("run_length_coder", ["decode", "nofile", "more\n"], r'one argument too many: "more\n"'),
     ("index_reader", [], "INDEX is missing"),
