@@ -1,8 +1,8 @@
 -- The laws of calls on a text: those of the list of its characters.
 use Rattle.std.proofs.Common.{◌≡◌, ℕ, Bool, true, List, length, Option, None, Some, refl, ap, ◌∙◌, subst, arith}
-use Rattle.std.specs.Prelude.{option_map, option_copied}
+use Rattle.std.specs.Prelude.{option_map, option_copied, IfSome}
 use Rattle.std.specs.Borrow.{Bor}
-use Rattle.std.specs.Str.{chars}
+use Rattle.std.specs.Str.{chars, IsUtf8}
 use Rattle.std.proofs.lemmas.Str.{chars-nil}
 use Rattle.sgb_split.specs.declared.end.End.{End}
 use Rattle.sgb_split.specs.declared.judge.Judge.{Ghosts}
@@ -61,3 +61,8 @@ module _ {J : Type 0} (g : Ghosts J ℕ) (e : End) where
       → TextCallAt g e (seen s) (option_map bytes r) (seen t) → TakesPart e (seen s).text (option_map bytes r) (seen t).text
   bytes_part seen bytes s None t h = (h.0, ap (λ u. u.text) h.1 ∙ h.0)
   bytes_part seen bytes s (Some x) t h = (λ e. omega (arith, h.nonempty, ap length e), h.cut)
+
+  pub group_utf8 : {Q I : Type 0} (seen : Q → TextGroups J) (bytes : I → List ℕ) (s : Q) (r : Option I) (t : Q)
+      → TextCallAt g e (seen s) (option_map bytes r) (seen t) → IfSome r (λ x. IsUtf8 (bytes x))
+  group_utf8 seen bytes s None t h = tt
+  group_utf8 seen bytes s (Some x) t h = h.group_utf8

@@ -1,6 +1,7 @@
 -- A list that ascends is grouped for equality.
 use Rattle.std.specs.Prelude.{◌≡◌, ◌≢◌, ◌-◌, Bool, true, false, List, [], ◌∷◌, ◌++◌, length, map, Some, slice_get}
-use Rattle.std.proofs.Common.{refl, sym, ap, ◌∙◌, arith}
+use Rattle.std.proofs.Common.{refl, sym, ap, ◌∙◌, arith, subst}
+use Rattle.std.proofs.lemmas.List.{map-id}
 use Rattle.std.specs.List.{AllByRecursion}
 use Rattle.std.specs.Cmp.{IsTotalOrder, upto, tied_itself}
 use Rattle.std.specs.Ordering.{is_eq, is_gt, ordering_reverse}
@@ -12,6 +13,22 @@ use Rattle.sgb_split.proofs.Lists.Order.{turned_around, tied_if_equal, equal_if_
 use Rattle.sgb_split.proofs.Lists.AllByRecursion.{all_of_first, all_of_rest}
 use Rattle.sgb_split.proofs.Lists.Pairs.{neighbours-append}
 use Rattle.sgb_split.proofs.Splits.Grouped.{AgreesIn, grouped_of_parts}
+
+-- what holds of each two elements side by side: of a part of the list, and by keys
+module _ {K : Type 0} (P : K → K → Type 0) where
+  abbrev Along : List K → Type 0
+  Along xs = AllByRecursion (λ q. P q.0 q.1) (neighbours xs)
+
+  pub along_part : (before mid after : List K) → Along (before ++ (mid ++ after)) → Along mid
+  along_part before mid after h =
+      let one = rw (neighbours-append before (mid ++ after)) at h in
+      let two = all_of_rest _ _ (neighbours (mid ++ after)) (all_of_rest _ (neighbours before) _ one) in
+      all_of_first _ (neighbours mid) _ (rw (neighbours-append mid after) at two)
+
+  pub along_keys : {T : Type 0} (key : T → K) (xs : List T) → Along (map key xs) → AllByRecursion (λ q. P (key q.0) (key q.1)) (neighbours xs)
+  along_keys key [] h = tt
+  along_keys key (x ∷ []) h = tt
+  along_keys key (x ∷ y ∷ ys) h = (h.0, along_keys key (y ∷ ys) h.1)
 
 pub not_greater : (r : Ordering) → r ≢ Greater → is_gt r ≡ false
 not_greater Less h = refl
@@ -81,26 +98,11 @@ module _ {K : Type 0} (cmp : K → K → Ordering) (o : IsTotalOrder cmp) (eq : 
         ) in
         (turn x same, (λ t. (turn x same).0 (either y x t), λ k. either x y ((turn x same).1 k)))
 
-    part_ascends : (before mid after : List T) → Ascends (before ++ (mid ++ after)) → Ascends mid
-    part_ascends before mid after h =
-        let one = rw (neighbours-append before (mid ++ after)) at h in
-        let two = all_of_rest _ _ (neighbours (mid ++ after)) (all_of_rest _ (neighbours before) _ one) in
-        all_of_first _ (neighbours mid) _ (rw (neighbours-append mid after) at two)
-
-    by_keys : (xs : List T) → NeverDescends cmp (map key xs) → Ascends xs
-    by_keys [] h = tt
-    by_keys (x ∷ []) h = tt
-    by_keys (x ∷ y ∷ ys) h = (h.0, by_keys (y ∷ ys) h.1)
-
     pub ascending_grouped : (xs : List T) → NeverDescends cmp (map key xs) → IsGrouped equal_keys xs
     ascending_grouped xs h =
         grouped_of_parts equal_keys xs
-        (λ before mid after e. in_part mid (part_ascends before mid after (Rattle.std.proofs.Common.subst Ascends e (by_keys xs h))))
-
-  by_itself : (xs : List K) → NeverDescends cmp xs → NeverDescends cmp (map (λ x. x) xs)
-  by_itself [] h = tt
-  by_itself (x ∷ []) h = tt
-  by_itself (x ∷ y ∷ ys) h = (h.0, by_itself (y ∷ ys) h.1)
+        (λ before mid after e. in_part mid (along_part (λ x y. cmp (key x) (key y) ≢ Greater) before mid after
+        (subst Ascends e (along_keys (λ x y. cmp x y ≢ Greater) key xs h))))
 
   pub sorted_grouped : (xs : List K) → NeverDescends cmp xs → IsGrouped eq xs
-  sorted_grouped xs h = ascending_grouped (λ x. x) xs (by_itself xs h)
+  sorted_grouped xs h = ascending_grouped (λ x. x) xs (subst (NeverDescends cmp) (sym (map-id xs)) h)

@@ -1,5 +1,5 @@
 -- What holds of each two elements side by side, by their places and by the list of neighbours.
-use Rattle.std.specs.Prelude.{◌≡◌, ◌≢◌, ℕ, ◌+◌, ◌<◌, Bool, true, false, List, [], ◌∷◌, ◌++◌, length, Option, Some, map}
+use Rattle.std.specs.Prelude.{◌≡◌, ◌≢◌, ℕ, ◌+◌, ◌<◌, Bool, true, false, List, [], ◌∷◌, length, Option, Some, map}
 use Rattle.std.proofs.Common.{zero, suc, refl, sym, ap, ◌∙◌, arith, subst}
 use Rattle.std.specs.List.{AllByRecursion, IsAllAdjacentAnswer, slice_index_or}
 use Rattle.std.specs.List.Sorted.{IsSortedByKey}
@@ -9,6 +9,7 @@ use Rattle.std.specs.declared.cmp.Ordering.{Ordering}
 use Rattle.std.specs.declared.cmp.Ordering.TheVariants.{Less, Equal, Greater}
 use Rattle.sgb_split.specs.Split.{neighbours}
 use Rattle.sgb_search.specs.Search.{NeverDescends}
+use Rattle.sgb_search.proofs.Searches.AscendingGroups.{along_keys}
 
 module _ {A : Type 0} (P : A → A → Type 0) where
   pub neighbours_by_place : (xs : List A)
@@ -54,22 +55,6 @@ module _ {A : Type 0} (compare : A → A → Option Ordering) (cmp : A → A →
   never_descends_sorted (x ∷ xs) false h all =
       absurd (greater _ _ (h.2 x) _ refl (place_by_neighbours (λ x y. cmp x y ≢ Greater) (x ∷ xs) all h.0 (h.0 + 1) x (omega arith) h.1))
 
--- each part of what never descends
-module _ {A : Type 0} (cmp : A → A → Ordering) where
-  first_ascends : (part after : List A) → NeverDescends cmp (part ++ after) → NeverDescends cmp part
-  first_ascends [] after h = tt
-  first_ascends (x ∷ []) after h = tt
-  first_ascends (x ∷ y ∷ ys) after h = (h.0, first_ascends (y ∷ ys) after h.1)
-
-  last_ascends : (before part : List A) → NeverDescends cmp (before ++ part) → NeverDescends cmp part
-  last_ascends [] part h = h
-  last_ascends (x ∷ []) [] h = tt
-  last_ascends (x ∷ []) (y ∷ ys) h = h.1
-  last_ascends (x ∷ y ∷ ys) part h = last_ascends (y ∷ ys) part h.1
-
-  pub part_ascends : (before part after : List A) → NeverDescends cmp (before ++ (part ++ after)) → NeverDescends cmp part
-  part_ascends before part after h = first_ascends part after (last_ascends before (part ++ after) h)
-
 -- what sorting by a key leaves never descends by it
 module _ {T K : Type 0} (cmp : K → K → Ordering) (total : IsTotalOrder cmp) (key : T → K) where
   not_below : (o r : Ordering) → is_lt o ≡ false → r ≡ ordering_reverse o → r ≢ Greater
@@ -94,12 +79,6 @@ module _ {T K : Type 0} (cmp : K → K → Ordering) (total : IsTotalOrder cmp) 
       not_less _ _ (place_by_neighbours (λ x y. cmp (key x) (key y) ≢ Greater) xs h k (k + 1) d (omega arith) l)
       (total.antisymm (key (slice_index_or xs (k + 1) d)) (key (slice_index_or xs k d)))
 
-  pub neighbours_of_keys : (xs : List T) → NeverDescends cmp (map key xs)
-      → AllByRecursion (λ q. cmp (key q.0) (key q.1) ≢ Greater) (neighbours xs)
-  neighbours_of_keys [] h = tt
-  neighbours_of_keys (x ∷ []) h = tt
-  neighbours_of_keys (x ∷ y ∷ ys) h = (h.0, neighbours_of_keys (y ∷ ys) h.1)
-
   pub keys_of_neighbours : (xs : List T) → AllByRecursion (λ q. cmp (key q.0) (key q.1) ≢ Greater) (neighbours xs)
       → NeverDescends cmp (map key xs)
   keys_of_neighbours [] h = tt
@@ -113,17 +92,13 @@ module _ {T K : Type 0} (compare : K → K → Option Ordering) (cmp : K → K �
       → NeverDescends cmp (map key xs)
   sorted_by_key xs true h e =
       keys_of_neighbours cmp total key xs
-      (neighbours_by_place (λ x y. cmp (key x) (key y) ≢ Greater) xs
-      (λ k j d e l. not_greater compare cmp agree _ _
-      (subst (λ (m : ℕ). partial_le compare (key (slice_index_or xs k d)) (key (slice_index_or xs m d)) ≡ true) {x = k + 1} {y = j}
-      (omega arith) (sym (h k d (omega arith))))))
+      (sorted_never_descends (λ x y. compare (key x) (key y)) (λ x y. cmp (key x) (key y)) (λ x y. agree (key x) (key y)) xs true
+      (λ k d l. sym (h k d l)) e)
   sorted_by_key xs false h e = cc e
 
   pub sorted_by_key_only : (xs : List T) (r : Bool) → IsAllAdjacentAnswer (λ x y b. b ≡ partial_le compare (key x) (key y)) xs r
       → NeverDescends cmp (map key xs) → r ≡ true
   sorted_by_key_only xs true h all = refl
-  sorted_by_key_only [] false h all = absurd (omega (arith, h.1))
-  sorted_by_key_only (x ∷ xs) false h all =
-      absurd (greater compare cmp agree _ _ (sym (h.2 x)) _ refl
-      (place_by_neighbours (λ x y. cmp (key x) (key y) ≢ Greater) (x ∷ xs) (neighbours_of_keys cmp total key (x ∷ xs) all) h.0 (h.0 + 1) x
-      (omega arith) h.1))
+  sorted_by_key_only xs false h all =
+      never_descends_sorted (λ x y. compare (key x) (key y)) (λ x y. cmp (key x) (key y)) (λ x y. agree (key x) (key y)) xs false
+      (h.0, h.1, λ d. sym (h.2 d)) (along_keys (λ x y. cmp x y ≢ Greater) key xs all)

@@ -1,6 +1,6 @@
 -- What the pieces of a list share with the list, and with each other.
 use Rattle.std.specs.Prelude.{◌≡◌, ◌≢◌, ℕ, ◌+◌, ◌⊎◌, Bool, true, false, cond, List, [], ◌∷◌, ◌++◌, length, get_or, map, flat_map, replicate, sum_by, Some}
-use Rattle.std.proofs.Common.{zero, suc, refl, sym, ap, ◌∙◌, subst, arith, inl, inr}
+use Rattle.std.proofs.Common.{zero, suc, refl, sym, ap, ◌∙◌, subst, length-append, arith, inl, inr}
 use Rattle.std.proofs.lemmas.List.{append-nil}
 use Rattle.std.proofs.lemmas.List.Elements.{filter-append}
 use Rattle.std.proofs.lemmas.List.{length-map, map-id}
@@ -24,6 +24,13 @@ use Rattle.slice_group_by.proofs.Joins.FirstGroups.{IsAbove, Ascends, split_asce
 use Rattle.slice_group_by.proofs.Joins.JoinPairs.{EachLater, IsUniform, compared_alike, split_uniform}
 
 module _ {T : Type 0} where
+  lengths_of : (gs : List (List T)) → sum_by length gs ≡ length (concat gs)
+  lengths_of [] = refl
+  lengths_of (g ∷ gs) = sum_by-cons length g gs ∙ ap (λ n. length g + n) (lengths_of gs) ∙ sym (length-append g (concat gs))
+
+  pub lengths : (p : T → T → Bool) (xs : List T) → sum_by length (split p xs) ≡ length xs
+  lengths p xs = lengths_of (split p xs) ∙ ap length (split_is p xs).covers
+
   sums_of : (f : T → ℕ) (gs : List (List T)) → sum_by (λ g. sum_by f g) gs ≡ sum_by f (concat gs)
   sums_of f [] = refl
   sums_of f (g ∷ gs) =

@@ -1,7 +1,8 @@
 //! What the groups of this library say beyond a queue: how their calls ask a judge, what they cut off a text, and what they hand
 //! out for writing. The laws that rest on it are stated once, for reading and writing, slices and texts.
-ghost use Rattle.std.specs.Prelude.{ℕ, List, Option, Some, option_map};
+ghost use Rattle.std.specs.Prelude.{ℕ, List, Option, Some, option_map, IfSome};
 ghost use Rattle.std.specs.Borrow.{GName};
+ghost use Rattle.std.specs.Str.{IsUtf8};
 ghost use Rattle.sgb_split.specs.declared.end.End.{End};
 ghost use Rattle.sgb_split.specs.Split.{TakesPart};
 ghost use Rattle.sgb_split.specs.Calls.{Groups, CallAt};
@@ -33,6 +34,10 @@ pub trait OfText: GroupQueue {
     // A call gives a nonempty outer part of the bytes, or `None` exactly where none remain.
     ghost cuts: { (e : End) (s : Self) (group : Option Self.Item) (t : Self) → Self.GroupQueue.gives e s group t
         → TakesPart e (text s) (option_map bytes group) (text t) };
+
+    // A group is UTF-8 when it is handed out.
+    ghost utf8: { (e : End) (s : Self) (group : Option Self.Item) (t : Self) → Self.GroupQueue.gives e s group t
+        → IfSome group (λ x. IsUtf8 (bytes x)) };
 }
 
 /// Groups for writing: a call hands out a part of the input.

@@ -58,9 +58,10 @@ pub fn pieces_have_keys<T, K: PartialEq>()
         → Contains (split (λ a b. K.eq (key a) (key b)) xs) g → Contains g x → Contains g y → K.eq (key x) (key y) ≡ true }
 {}
 
-/// A sum over the pieces of a list is the sum over the list.
+/// The pieces of a list have its length together, and a sum over them is the sum over the list.
 pub fn pieces_add_up<T>()
-    ensures { (p : T → T → Bool) (f : T → ℕ) (xs : List T) → sum_by (λ g. sum_by f g) (split p xs) ≡ sum_by f xs }
+    ensures lengths { (p : T → T → Bool) (xs : List T) → sum_by length (split p xs) ≡ length xs }
+    ensures sums { (p : T → T → Bool) (f : T → ℕ) (xs : List T) → sum_by (λ g. sum_by f g) (split p xs) ≡ sum_by f xs }
 {}
 
 /// What `partition_best_by` keeps if `worse` is an order: what is not worse is transitive, and of two elements at most one is worse.

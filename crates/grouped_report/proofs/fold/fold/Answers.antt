@@ -59,7 +59,7 @@ module _ (c : In-None) where
 
   total_of : sum_by amount c.loop-group.sums.items ≡ sum_by amount c.args.entries.items
   total_of =
-      ap (sum_by amount) lines ∙ sums_of_lines (split same sorted) ∙ c.pieces_add_up.ensures same amount sorted ∙ permuted amount
+      ap (sum_by amount) lines ∙ sums_of_lines (split same sorted) ∙ c.pieces_add_up.ensures.sums same amount sorted ∙ permuted amount
 
 pub returns-clause-report : goal.returns-clause-report
 returns-clause-report c = ascends (goal.at.returns-clause-report c).In-None

@@ -99,6 +99,9 @@ impl<'a, J: TextJudge> OfText for LinearStrGroups<'a, J> {
 
     ghost cuts = { λ e s group t h. queue.bytes_part J.Judge e text_groups_of (λ x. x.now) s group t
         (queue.call J.Judge e s group t h) };
+
+    ghost utf8 = { λ e s group t h. queue.group_utf8 J.Judge e text_groups_of (λ x. x.now) s group t
+        (queue.call J.Judge e s group t h) };
 }
 
 // What holds of the groups for reading holds of what these show.
@@ -188,6 +191,8 @@ impl<'a, J: TextJudge> OfText for LinearStrGroupsMut<'a, J> {
     ghost bytes = { λ group. group.now };
 
     ghost cuts = { λ e s group t h. queue.bytes_part J.Judge e text_groups_of_mut (λ x. x.now) s group t h.0 };
+
+    ghost utf8 = { λ e s group t h. queue.group_utf8 J.Judge e text_groups_of_mut (λ x. x.now) s group t h.0 };
 }
 
 impl<'a, J: TextJudge> Lends<u8> for LinearStrGroupsMut<'a, J> {

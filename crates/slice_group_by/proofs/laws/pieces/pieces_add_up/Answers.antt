@@ -1,5 +1,8 @@
-use Rattle.slice_group_by.proofs.Pieces.PiecesOfLists.{sums}
+use Rattle.slice_group_by.proofs.Pieces.PiecesOfLists.{lengths, sums}
 use Rattle.slice_group_by.proofs.laws.pieces.pieces_add_up.Goals as goal
 
-pub returns : goal.returns
-returns g c = sums
+pub returns-clause-lengths : goal.returns-clause-lengths
+returns-clause-lengths g c = lengths
+
+pub returns-clause-sums : goal.returns-clause-sums
+returns-clause-sums g c = sums

@@ -1,4 +1,5 @@
-use Rattle.slice_group_by.proofs.Pieces.Adjacent.{ascends_sorted, keys_of_neighbours, part_ascends}
+use Rattle.sgb_search.proofs.Searches.AscendingGroups.{along_part}
+use Rattle.slice_group_by.proofs.Pieces.Adjacent.{ascends_sorted, keys_of_neighbours}
 use Rattle.slice_group_by.proofs.Pieces.Adjacent.{sort_ascends, sorted_by_key, sorted_by_key_only}
 use Rattle.slice_group_by.proofs.laws.sorted.sorts_ascend.Goals as goal
 
@@ -21,4 +22,4 @@ returns-clause-only_by_key g c =
     sorted_by_key_only g.K.PartialOrd.partial_cmp g.K.Ord.cmp g.met.K.Ord.total g.met.K.Ord.matches_partial_cmp
 
 pub returns-clause-part : goal.returns-clause-part
-returns-clause-part g c = part_ascends g.K.Ord.cmp
+returns-clause-part g c = along_part _
