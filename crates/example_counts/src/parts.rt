@@ -6,10 +6,10 @@ ghost use Rattle.slice_group_by.specs.Split.{IsGrouped, split};
 ghost use Rattle.slice_group_by.specs.Seams.{are_accepted, lens_joined};
 ghost use Rattle.example_counts.specs.Longest.{longer};
 
-use slice_group_by::{ExponentialGroup, LinearGroup};
 use slice_group_by::laws::{
     groups_still_come, one_split, pieces_add_up, sees_pieces, sees_shards, splits_join,
 };
+use slice_group_by::{ExponentialGroup, LinearGroup};
 use std::alloc::{AllocError, Global};
 
 // How many groups of equal elements a part has.

@@ -32,7 +32,11 @@ pub fn count_tokens<R: Read>(alloc: Global, input: &mut R) -> io::Result<ClassCo
 fn exact(counts: ClassCounts) -> io::Result<ClassCounts>
     ensures { IfOk result (λ same. (same ≡ counts) × ((class : AsciiClass) → count_of class counts < 2 ^ 64 - 1)) }
 {
-    let most = counts.letters.max(counts.digits).max(counts.spaces).max(counts.others);
+    let most = counts
+        .letters
+        .max(counts.digits)
+        .max(counts.spaces)
+        .max(counts.others);
     if most == usize::MAX {
         return Err(Error::new(
             ErrorKind::InvalidData,
