@@ -1,15 +1,6 @@
 //! Bytes, which are a slice and may be a text.
-use slice_group_by::{GroupByMut, LinearStrGroupByKeyMut, StrGroupByMut};
+use slice_group_by::{LinearStrGroupByKeyMut, StrGroupByMut};
 use std::io;
-
-/// Clears all but the first of each run of bytes.
-pub fn clear_repeats(mut bytes: &mut [u8]) {
-    for run in GroupByMut::linear_group_mut(&mut bytes) {
-        if let Some((_, others)) = run.split_first_mut() {
-            others.fill(0);
-        }
-    }
-}
 
 /// Makes dashes of each run of equal characters that has several bytes, and says whether the bytes were a text.
 pub fn cross_out(mut bytes: &mut [u8]) -> bool {
@@ -37,11 +28,9 @@ pub fn capitalize(bytes: &mut [u8]) {
 
 /// Prints what these give.
 pub fn print_all(rt: &impl Print) -> io::Result<()> {
-    let mut repeats = [5, 5, 5, 6, 5, 5, 7];
-    clear_repeats(&mut repeats);
     let mut words = *b"(na\xc3\xafve x";
     capitalize(&mut words);
     let mut crossed = *b"aa\xc3\xa9b";
     let was_text = (cross_out(&mut crossed), cross_out(&mut [255]));
-    println!(rt; "bytes: {repeats:?} {words:?} {crossed:?} {was_text:?}")
+    println!(rt; "bytes: {words:?} {crossed:?} {was_text:?}")
 }

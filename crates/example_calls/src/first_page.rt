@@ -1,12 +1,6 @@
 //! Both ends of a slice and of a text, for reading and for writing.
-use slice_group_by::{GroupBy, LinearGroupMut, StrGroupBy};
+use slice_group_by::{LinearGroupMut, StrGroupBy};
 use std::io;
-
-/// The last ascending run, and the first of the others.
-pub fn outer_runs<'a>(slice: &'a &[i32]) -> (Option<&'a [i32]>, Option<&'a [i32]>) {
-    let mut runs = slice.linear_group_by(|a, b| a < b);
-    (runs.next_back(), runs.next()) // of [1, 2, 3, 2, 3]: Some([2, 3]), Some([1, 2, 3])
-}
 
 /// Fills the first group and the last, which are out at once.
 pub fn fill_ends(slice: &mut [i32]) {
@@ -29,9 +23,5 @@ pub fn between_ends<'a>(text: &'a &str) -> &'a str {
 pub fn print_all(rt: &impl Print) -> io::Result<()> {
     let mut ends = [1, 2, 1, 3, 3];
     fill_ends(&mut ends);
-    println!(rt;
-        "first page: {:?} {ends:?} {}",
-        outer_runs(&[1, 2, 3, 2, 3].as_slice()),
-        between_ends(&"aaaabbbbb饰饰cccc")
-    )
+    println!(rt; "first page: {ends:?} {}", between_ends(&"aaaabbbbb饰饰cccc"))
 }

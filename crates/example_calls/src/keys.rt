@@ -1,7 +1,5 @@
 //! Groups by a key, each with its key.
-use slice_group_by::{
-    GroupAdapters, LinearGroupByKey, LinearGroupByKeyMut, LinearStrGroupByKeyMut,
-};
+use slice_group_by::{GroupAdapters, LinearGroupByKey, LinearGroupByKeyMut};
 use std::alloc::{AllocError, Global};
 use std::io;
 
@@ -45,33 +43,14 @@ pub fn write_hours(events: &mut [(u32, u32)]) {
     }
 }
 
-/// Writes over the numbers of a text.
-pub fn mask_numbers(text: &mut [u8; 12]) {
-    if std::str::from_utf8(text).is_err() {
-        return;
-    }
-    for (is_number, group) in LinearStrGroupByKeyMut::new(
-        text,
-        |c| c.is_ascii_digit(),
-    ).with_keys()
-    {
-        if is_number {
-            group.fill(b'#');
-        }
-    }
-}
-
 /// Prints what these give.
 pub fn print_all(rt: &(impl Print + AllocGlobal)) -> io::Result<()> {
     let mut events = [(3599, 0), (3600, 0), (7200, 0), (7201, 0)];
     write_hours(&mut events);
-    let mut text = *b"no 31 of 365";
-    mask_numbers(&mut text);
     println!(rt;
-        "keys: {:?} {:?} {:?} {events:?} {:?}",
+        "keys: {:?} {:?} {:?} {events:?}",
         keyed(rt.alloc(), &[(7, 1), (7, 2), (8, 3), (7, 4)])?,
         means(rt.alloc(), &[(7, 1), (7, 3), (8, 5)])?,
-        index_of(rt.alloc(), &[(7, 1), (7, 2), (8, 3)])?,
-        std::str::from_utf8(&text)
+        index_of(rt.alloc(), &[(7, 1), (7, 2), (8, 3)])?
     )
 }

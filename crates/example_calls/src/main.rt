@@ -5,7 +5,6 @@
 mod bytes;
 mod closures;
 mod first_page;
-mod inputs;
 mod joins;
 mod keys;
 mod loops;
@@ -21,7 +20,6 @@ mod tokens;
 use std::io;
 
 fn main(rt: HostRuntime) -> io::Result<()> {
-    inputs::print_all(&rt)?;
     returned::print_all(&rt)?;
     loops::print_all(&rt)?;
     numbers::print_all(&rt)?;

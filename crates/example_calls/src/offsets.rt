@@ -1,7 +1,5 @@
 //! Where groups begin and end in their input.
-use slice_group_by::{
-    GroupAdapters, LinearGroupBy, LinearNumberGroup, LinearStrGroupByKey, dedup_with_count,
-};
+use slice_group_by::{GroupAdapters, LinearNumberGroup, LinearStrGroupByKey, dedup_with_count};
 use std::alloc::{AllocError, Global};
 use std::io;
 
@@ -21,19 +19,11 @@ pub fn counts(alloc: Global, slice: &[u32]) -> Result<Vec<(usize, &u32)>, AllocE
     dedup_with_count(LinearNumberGroup::new(slice)).collect(alloc)
 }
 
-/// The last run of a slice, and the row at which it begins.
-pub fn last_run(slice: &[u32]) -> Option<(usize, &[u32])> {
-    LinearGroupBy::new(slice, |a, b| a == b)
-        .with_offsets()
-        .next_back()
-}
-
 /// Prints what these give.
 pub fn print_all(rt: &(impl Print + AllocGlobal)) -> io::Result<()> {
     let words = words(rt.alloc(), "to be, or é not")?;
     println!(rt;
-        "offsets: {words:?} {:?} {:?}",
-        last_run(&[2, 2, 1, 2]),
+        "offsets: {words:?} {:?}",
         counts(rt.alloc(), &[4, 4, 4, 9])?
     )
 }
