@@ -1,11 +1,9 @@
 //! Definitions that contracts cite, at small cases. Each case is the contract of a function that does nothing.
-ghost use Rattle.std.specs.Prelude.{◌≡◌, ℕ, List, [], ◌∷◌, true, false, not, nat_eq};
+ghost use Rattle.std.specs.Prelude.{◌≡◌, [], ◌∷◌, true, false, not, nat_eq};
 ghost use Rattle.std.specs.Ordering.{nat_cmp};
 ghost use Rattle.slice_group_by.specs.Split.{IsGrouped};
 ghost use Rattle.slice_group_by.specs.Merge.{IsMerge};
 ghost use Rattle.slice_group_by.specs.JoinKinds.{has_partner, partner_count, match_count};
-ghost use Rattle.test_cases.specs.Stair.{stair};
-ghost use Rattle.slice_group_by.specs.EitherOrBoth.{EitherOrBoth};
 ghost use Rattle.slice_group_by.specs.EitherOrBoth.TheVariants.{Left, Right, Both};
 
 // Unequal elements are grouped for `!=`, and equal ones apart are not for `==`.
@@ -15,12 +13,11 @@ pub fn group_cases()
     ensures apart { IsGrouped nat_eq (1 ∷ 2 ∷ 1 ∷ []) → ⊥ }
 {}
 
-// 1 and 3 with 2, 3, 3; the same two lists have no merge in which 2 comes first; and a stair has none.
+// 1 and 3 with 2, 3, 3; and a merge in which 2 comes before 1 is none.
 pub fn merge_cases()
     ensures parts { IsMerge nat_cmp (1 ∷ 3 ∷ []) (2 ∷ 3 ∷ 3 ∷ [])
         (Left (1 ∷ []) ∷ Right (2 ∷ []) ∷ Both (3 ∷ []) (3 ∷ 3 ∷ []) ∷ []) }
     ensures turned { IsMerge nat_cmp (1 ∷ []) (2 ∷ []) (Right (2 ∷ []) ∷ Left (1 ∷ []) ∷ []) → ⊥ }
-    ensures stair { (ps : List (EitherOrBoth (List ℕ) (List ℕ))) → IsMerge stair (0 ∷ 1 ∷ []) (0 ∷ 1 ∷ []) ps → ⊥ }
 {}
 
 // Of 2, 3, 3 none is equal to 1, and each 3 to both; so 1, 3, 3 have four equal pairs with them.

@@ -5,10 +5,8 @@ use Rattle.std.specs.Ordering.{nat_cmp}
 use Rattle.std.specs.declared.cmp.Ordering.{Ordering}
 use Rattle.std.specs.declared.cmp.Ordering.TheVariants.{Less, Equal, Greater}
 use Rattle.sgb_split.proofs.Lists.AllByRecursion.{all_contains}
-use Rattle.test_cases.specs.Stair.{stair}
 use Rattle.slice_group_by.specs.Merge.{AllStand}
-use Rattle.sgb_split.proofs.Lists.Contained.{contains_head, contains_tail}
-use Rattle.sgb_merge_join.proofs.Merges.Sorted as converse
+use Rattle.sgb_split.proofs.Lists.Contained.{contains_head}
 use Rattle.test_cases.proofs.definitions.merge_cases.Goals as goal
 
 stands : (ord : ℕ → ℕ → Ordering) (o : Ordering) (xs ys : List ℕ)
@@ -38,11 +36,3 @@ returns-clause-parts c = record {
 
 pub returns-clause-turned : goal.returns-clause-turned
 returns-clause-turned c m = let greater = m.merges.climbs.0.0.1 1 2 (contains_head 1 []) (contains_head 2 []) in cc greater
-
-pub returns-clause-stair : goal.returns-clause-stair
-returns-clause-stair c ps m =
-    let s = converse.sorted stair ps _ _ m.merges in
-    let first = contains_head 0 (1 ∷ []) in
-    let second = contains_tail 0 (1 ∷ []) 1 (contains_head 1 []) in
-    let equal = s.ties 1 0 0 1 second first first second refl refl refl in
-    cc equal
