@@ -34,3 +34,21 @@ module _ {Q I A : Type 0} (gives : End → Q → Option I → Q → Type 0) (rem
         part_length e (remainder q) (shows x) (remainder c.0) (part e q (Some x) c.0 c.1),
         at_most_length c.0 t es os c.2,
       )
+
+  pub at_least_one : (q t : Q) (es : List End) (os : List (Option I)) → IsChain gives q es os t → remainder q ≢ [] → remainder t ≡ []
+      → 0 < count_by is_some os
+  at_least_one q t [] [] c n z = absurd (n (sym (ap remainder c) ∙ z))
+  at_least_one q t [] (o ∷ os) c n z = absurd c
+  at_least_one q t (e ∷ es) [] c n z = absurd c
+  at_least_one q t (e ∷ es) (None ∷ os) c n z = absurd (n (part e q None c.0 c.1).0)
+  at_least_one q t (e ∷ es) (Some x ∷ os) c n z = omega (arith, count-cons (Some x) os)
+
+  pub at_most_calls : (q t : Q) (es : List End) (os : List (Option I)) → IsChain gives q es os t
+      → length (remainder t) ≤ length (remainder q) - length es
+  at_most_calls q t [] [] c = omega (arith, ap (λ x. length (remainder x)) c)
+  at_most_calls q t [] (o ∷ os) c = absurd c
+  at_most_calls q t (e ∷ es) [] c = absurd c
+  at_most_calls q t (e ∷ es) (None ∷ os) c =
+      omega (arith, at_most_calls c.0 t es os c.2, ap length (part e q None c.0 c.1).1)
+  at_most_calls q t (e ∷ es) (Some x ∷ os) c =
+      omega (arith, at_most_calls c.0 t es os c.2, part_length e (remainder q) (shows x) (remainder c.0) (part e q (Some x) c.0 c.1))

@@ -1,5 +1,5 @@
 //! What calls on a queue of groups give: one, a list of them, and all that a loop or an adapter makes.
-ghost use Rattle.std.specs.Prelude.{◌≡◌, ◌+◌, ◌<◌, ◌≤◌, Bool, List, [], ◌∷◌, ◌++◌, length, map, reverse, count_by};
+ghost use Rattle.std.specs.Prelude.{◌≡◌, ◌≢◌, ◌+◌, ◌-◌, ◌<◌, ◌≤◌, Bool, List, [], ◌∷◌, ◌++◌, length, map, reverse, count_by};
 ghost use Rattle.std.specs.Prelude.{Option, None, Some, option_map, is_some};
 ghost use Rattle.std.specs.Iterator.{Yields, Drains};
 ghost use Rattle.std.specs.Iterator.Adapters.{rev_source, rev_steps};
@@ -96,8 +96,13 @@ pub fn groups_join<Q: GroupQueue>(_queue: &Q)
         → concat (from e (map Q.shows groups)) ≡ Q.remainder q }
 {}
 
-/// How many groups come, whatever the judge answers: no more than elements go.
+/// How many groups come, whatever the judge answers: no more than elements go, at least one before nothing remains of a
+/// nonempty remainder, and as many calls as there are elements leave nothing.
 pub fn groups_still_come<Q: GroupQueue>(_queue: &Q)
-    ensures { (q t : Q) (ends : List End) (out : List (Option Q.Item)) → IsChain Q.gives q ends out t
+    ensures most { (q t : Q) (ends : List End) (out : List (Option Q.Item)) → IsChain Q.gives q ends out t
         → count_by is_some out + length (Q.remainder t) ≤ length (Q.remainder q) }
+    ensures least { (q t : Q) (ends : List End) (out : List (Option Q.Item)) → IsChain Q.gives q ends out t
+        → Q.remainder q ≢ [] → Q.remainder t ≡ [] → 0 < count_by is_some out }
+    ensures fewer { (q t : Q) (ends : List End) (out : List (Option Q.Item)) → IsChain Q.gives q ends out t
+        → length (Q.remainder t) ≤ length (Q.remainder q) - length ends }
 {}
