@@ -4,7 +4,7 @@ ghost use Rattle.std.specs.List.{AllByRecursion, Contains, dedup, filter};
 ghost use Rattle.std.specs.Ordering.{flip_args, nat_cmp};
 ghost use Rattle.slice_group_by.specs.Search.{AlwaysAscends, NeverDescends};
 ghost use Rattle.slice_group_by.specs.Split.{split};
-ghost use Rattle.slice_group_by.specs.JoinKinds.{has_partner};
+ghost use Rattle.slice_group_by.specs.Matches.{has_partner};
 ghost use Rattle.example_counts.specs.Keys.{by_key, key, same_key};
 
 use crate::joins::{Entry, count_common_keys};

@@ -3,7 +3,7 @@ ghost use Rattle.std.specs.Prelude.{◌≡◌, ◌↔◌, ℕ, ◌+◌, length, 
 ghost use Rattle.std.specs.List.{Contains, filter, list_any};
 ghost use Rattle.std.specs.Ordering.{nat_cmp};
 ghost use Rattle.slice_group_by.specs.Search.{AlwaysAscends};
-ghost use Rattle.slice_group_by.specs.JoinKinds.{has_partner};
+ghost use Rattle.slice_group_by.specs.Matches.{has_partner};
 
 use slice_group_by::MergeJoinBy;
 use slice_group_by::laws::{partners_are_equal, sees_merge_in_order, sets_ascend};

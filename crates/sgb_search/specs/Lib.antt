@@ -1,3 +1,4 @@
 pub mod Searching
 pub mod Search
 pub mod Ranges
+pub mod Matches

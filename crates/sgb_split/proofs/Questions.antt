@@ -3,4 +3,5 @@ pub mod Runs
 pub mod Calls
 pub mod Closures
 pub mod OnElements
+pub mod Counting
 pub mod Equality

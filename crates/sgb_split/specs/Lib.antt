@@ -4,3 +4,4 @@ pub mod Judges
 pub mod Calls
 pub mod Linear
 pub mod Seams
+pub mod Counts

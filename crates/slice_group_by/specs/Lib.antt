@@ -4,7 +4,6 @@ pub mod Ranks
 pub mod Plans
 pub mod Join
 pub mod Outer
-pub mod Counts
 pub mod Chunks
 pub mod NumberGives
 pub mod Offsets
@@ -17,7 +16,9 @@ pub use Rattle.sgb_split.specs.Linear
 pub use Rattle.sgb_search.specs.Searching
 pub use Rattle.sgb_search.specs.Search
 pub use Rattle.sgb_search.specs.Ranges
+pub use Rattle.sgb_search.specs.Matches
 pub use Rattle.sgb_split.specs.Seams
+pub use Rattle.sgb_split.specs.Counts
 pub use Rattle.sgb_numbers.specs.Numbers
 pub use Rattle.sgb_masks.specs.Classes
 pub use Rattle.sgb_masks.specs.AsciiBytes

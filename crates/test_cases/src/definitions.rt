@@ -3,7 +3,7 @@ ghost use Rattle.std.specs.Prelude.{◌≡◌, [], ◌∷◌, true, false, not, 
 ghost use Rattle.std.specs.Ordering.{nat_cmp};
 ghost use Rattle.slice_group_by.specs.Split.{IsGrouped};
 ghost use Rattle.slice_group_by.specs.Merge.{IsMerge};
-ghost use Rattle.slice_group_by.specs.JoinKinds.{has_partner, partner_count, match_count};
+ghost use Rattle.slice_group_by.specs.Matches.{has_partner, partner_count, match_count};
 ghost use Rattle.slice_group_by.specs.EitherOrBoth.TheVariants.{Left, Right, Both};
 
 // Unequal elements are grouped for `!=`, and equal ones apart are not for `==`.

@@ -5,7 +5,7 @@ use Rattle.std.specs.Prelude.{◌⊎◌}
 use Rattle.std.specs.List.{AllByRecursion, Contains, filter}
 use Rattle.sgb_split.proofs.Lists.AllByRecursion.{all_contains, all_each}
 use Rattle.sgb_split.proofs.Lists.Contained.{contains_cases, contains_head, contains_tail}
-use Rattle.sgb_merge_join.proofs.Joins.Sets.{filter_contains}
+use Rattle.sgb_split.proofs.Lists.Filters.{filter_contains}
 use Rattle.sgb_linear_group.specs.Best.{best_from, best_of_each}
 
 module _ {T : Type 0} (worse : T → T → Bool) (asymmetric : (x y : T) → worse x y ≡ true → worse y x ≡ false)

@@ -9,7 +9,7 @@ use Rattle.sgb_split.specs.declared.judge.KeyJudge.{KeyJudge}
 use Rattle.sgb_split.specs.Split.{last, neighbours}
 use Rattle.sgb_stream_group.specs.Streams.{AsksEnds, across, pair_list}
 use Rattle.sgb_stream_group.proofs.JoinedParts.{last_some}
-use Rattle.slice_group_by.proofs.Questions.Counting.{counts_just, times_due}
+use Rattle.sgb_split.proofs.Questions.Counting.{counts_just, times_due}
 
 -- the pair across and the neighbours of the block are what a walk asks more
 pairs_more : {T : Type 0} (before block : List T)

@@ -12,7 +12,7 @@ ghost use Rattle.sgb_stream_group.specs.declared.parts.Parts.{Parts};
 ghost use Rattle.sgb_stream_group.specs.Streams.{AsksEnds, GivesBlockPart, across, add_part, add_values, of_nonempty};
 ghost use Rattle.sgb_stream_group.specs.Streams.{begins_at, begins_of, change_last, groups_in};
 ghost use Rattle.sgb_stream_group.specs.Streams.{last_after, pair_list, with_part, with_parts};
-ghost use Rattle.slice_group_by.specs.Counts.{RaisesJust};
+ghost use Rattle.sgb_split.specs.Counts.{RaisesJust};
 
 use crate::laws::judged::Judged;
 use crate::laws::queue::GroupQueue;

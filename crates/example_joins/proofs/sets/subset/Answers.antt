@@ -3,7 +3,7 @@ use Rattle.std.specs.List.{filter}
 use Rattle.std.specs.Ordering.{nat_cmp}
 use Rattle.std.proofs.lemmas.Map.Lookups.{exact_unsigned}
 use Rattle.std.proofs.lemmas.Result.{IfOk-weaker}
-use Rattle.slice_group_by.specs.JoinKinds.{has_partner}
+use Rattle.slice_group_by.specs.Matches.{has_partner}
 use Rattle.example_joins.proofs.sets.subset.Goals as goal
 
 pub returns : goal.returns

@@ -1,4 +1,4 @@
-use Rattle.slice_group_by.proofs.Questions.Counting.{counts_pairs, counts_more, counts_walk}
+use Rattle.sgb_split.proofs.Questions.Counting.{counts_pairs, counts_more, counts_walk}
 use Rattle.slice_group_by.proofs.laws.counts.linear_counts.Goals as goal
 
 pub returns-clause-calls : goal.returns-clause-calls

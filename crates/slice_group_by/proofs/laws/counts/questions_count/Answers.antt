@@ -1,4 +1,4 @@
-use Rattle.slice_group_by.proofs.Questions.Counting.{counts_most, counts_most_due}
+use Rattle.sgb_split.proofs.Questions.Counting.{counts_most, counts_most_due}
 use Rattle.slice_group_by.proofs.laws.counts.questions_count.Goals as goal
 
 pub returns-clause-most : goal.returns-clause-most

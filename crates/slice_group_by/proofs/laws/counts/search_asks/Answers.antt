@@ -1,7 +1,7 @@
 use Rattle.std.proofs.Common.{None, Some, length, ap, arith}
 use Rattle.std.proofs.Math.Nat.{mul-le-mul_left}
 use Rattle.sgb_search.proofs.Searches.SearchQueue.{asked_apart, asked_within, room_of}
-use Rattle.slice_group_by.proofs.Questions.Counting.{counts_most}
+use Rattle.sgb_split.proofs.Questions.Counting.{counts_most}
 use Rattle.slice_group_by.proofs.laws.counts.search_asks.Goals as goal
 
 pub returns-clause-questions : goal.returns-clause-questions
