@@ -6,13 +6,10 @@ ghost use Rattle.slice_group_by.specs.Searching.{digits};
 ghost use Rattle.slice_group_by.specs.Split.{IsGrouped, last, split};
 ghost use Rattle.slice_group_by.specs.Streams.{kept_of};
 
-use slice_group_by::laws::{
-    calls_ask, join_counts, linear_counts, mapped_calls_ask, merges_ask, parts_join,
-    questions_count, search_asks, streams_count, streams_count_keys,
-};
-use slice_group_by::{
-    BinaryGroupBy, End, ExponentialGroupBy, LinearGroupBy, MergeJoinBy, StreamGroups, walk,
-};
+use slice_group_by::laws::{calls_ask, linear_counts, mapped_calls_ask, parts_join, questions_count, search_asks, streams_count, streams_count_keys};
+use slice_merge_join::laws::{join_counts, merges_ask};
+use slice_group_by::{BinaryGroupBy, End, ExponentialGroupBy, LinearGroupBy, StreamGroups, walk};
+use slice_merge_join::MergeJoinBy;
 
 /// How many questions a walk over linear groups asks: one less than there are elements, and none where there are none.
 pub fn linear_questions(xs: &[u32]) -> usize

@@ -3,14 +3,12 @@
 ghost use Rattle.std.specs.Prelude.{◌≡◌, ◌++◌, List, flat_map, map, IfOk};
 ghost use Rattle.std.specs.List.Sorted.{IsPermutation};
 ghost use Rattle.std.specs.declared.cmp.Ordering.{Ordering};
-ghost use Rattle.slice_group_by.specs.Merge.{Part, lefts, rights, IsMerge};
+ghost use Rattle.slice_merge_join.specs.Merge.{Part, lefts, rights, IsMerge};
 ghost use Rattle.slice_group_by.specs.Search.{NeverDescends};
 ghost use Rattle.example_joins.specs.Names.{shown_groups};
 
-use slice_group_by::MergeJoinBy;
-use slice_group_by::laws::{
-    always_compares, merges_interleave, one_merge, parts_or_empty, sees_merge,
-};
+use slice_merge_join::MergeJoinBy;
+use slice_merge_join::laws::{always_compares, merges_interleave, one_merge, parts_or_empty, sees_merge};
 use std::alloc::{AllocError, Global};
 use std::cmp::Ordering;
 

@@ -5,8 +5,8 @@ ghost use Rattle.std.specs.Ordering.{nat_cmp};
 ghost use Rattle.slice_group_by.specs.Search.{AlwaysAscends};
 ghost use Rattle.slice_group_by.specs.Matches.{has_partner};
 
-use slice_group_by::MergeJoinBy;
-use slice_group_by::laws::{partners_are_equal, sees_merge_in_order, sets_ascend};
+use slice_merge_join::MergeJoinBy;
+use slice_merge_join::laws::{partners_are_equal, sees_merge_in_order, sets_ascend};
 use std::alloc::{AllocError, Global};
 
 /// The numbers that stand on the left or on the right.

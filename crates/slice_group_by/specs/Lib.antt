@@ -25,11 +25,6 @@ pub use Rattle.sgb_masks.specs.AsciiBytes
 pub use Rattle.sgb_masks.specs.Counted
 pub use Rattle.sgb_masks.specs.Counters
 pub use Rattle.sgb_masks.specs.Starts
-pub use Rattle.sgb_merge_join.specs.Values
-pub use Rattle.sgb_merge_join.specs.Merge
-pub use Rattle.sgb_merge_join.specs.Asking
-pub use Rattle.sgb_merge_join.specs.JoinKinds
-pub use Rattle.sgb_merge_join.specs.Blocks
 pub use Rattle.sgb_groups.specs.Gives
 pub use Rattle.sgb_groups.specs.Shards
 pub use Rattle.sgb_groups.specs.Boundaries
@@ -40,5 +35,3 @@ pub use Rattle.sgb_linear_str_group.specs.TextsMut
 pub use Rattle.sgb_loans.specs.Loans
 pub use Rattle.sgb_split.specs.declared.end.End
 pub use Rattle.sgb_masks.specs.declared.ascii_classes.AsciiClass
-pub use Rattle.sgb_merge_join.specs.declared.either_or_both.EitherOrBoth
-pub use Rattle.sgb_merge_join.specs.declared.joinable.Side

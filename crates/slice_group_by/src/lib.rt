@@ -73,7 +73,6 @@ pub use sgb_masks::by_number::LinearNumberGroup;
 pub use sgb_masks::byte_classes::ByteClasses;
 pub use sgb_masks::class_counter::ClassCounter;
 pub use sgb_masks::class_counts::{ClassCounts, count_classes};
-pub use sgb_merge_join::{EitherOrBoth, JoinablePrefixes, MergeJoinBy, Side, joinable_prefixes};
 pub use sgb_numbers::lanes::Lanes;
 pub use sgb_search::equal_places::{
     exponential_equal_places, exponential_equal_places_by, exponential_equal_places_by_key,

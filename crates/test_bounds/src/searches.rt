@@ -1,5 +1,5 @@
 //! Searches, ranges, partition points, joins and their parts.
-ghost use Rattle.slice_group_by.specs.Asking.{IsCallableAcross};
+ghost use Rattle.slice_merge_join.specs.Asking.{IsCallableAcross};
 ghost use Rattle.slice_group_by.specs.Calls.{IsCallableBy};
 ghost use Rattle.slice_group_by.specs.Judges.{by_key, key_judge};
 ghost use Rattle.slice_group_by.specs.Split.{AreApart, AreNeighbours};

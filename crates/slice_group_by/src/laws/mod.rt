@@ -38,7 +38,7 @@ pub use crate::join::outer::sees_keys_of_both;
 pub use crate::join::{joins_may_go_on, pairs_count, pairs_match, sees_pairs};
 pub use calls::{calls_may_go_on, calls_take_pieces, groups_join, groups_still_come, sees_pieces};
 pub use counts::{
-    calls_ask, class_counts_add_up, each_pair_asked_once, join_counts, linear_counts,
+    calls_ask, class_counts_add_up, each_pair_asked_once, linear_counts,
     mapped_calls_ask, questions_count, search_asks, search_counts,
 };
 pub use families::{chunk_by_agrees, families_agree, groups_end_locally};
@@ -50,11 +50,6 @@ pub use plans::{Plan, refute, right_plans_ask};
 pub use queue::{GroupQueue, RemainderLen, SliceQueue, SliceQueueMut, walk};
 pub use ranks::rank_groups;
 pub use sgb_groups::shards::sees_shards;
-pub use sgb_merge_join::laws::{
-    always_compares, joins_find_partners, joins_go_on, merge_parts_join, merges_ask, merges_count,
-    merges_interleave, one_merge, partners_are_equal, parts_or_empty, sees_merge,
-    sees_merge_by_keys, sees_merge_in_order, semi_joins_are_filters, sets_ascend,
-};
 pub use sgb_search::laws::{
     ascending_is_grouped, ascending_is_searchable, range_places, searchable_is_partitioned,
 };

@@ -1,5 +1,5 @@
 use Rattle.std.proofs.Common.{rules, arith, ap}
-use Rattle.slice_group_by.specs.Asking.{walk_due}
+use Rattle.slice_merge_join.specs.Asking.{walk_due}
 use Rattle.example_counts.proofs.counts.comparisons_of_join.Goals as goal
 
 pub returns : goal.returns

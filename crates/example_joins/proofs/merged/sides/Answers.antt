@@ -3,11 +3,11 @@ use Rattle.std.specs.Borrow.{Bor}
 use Rattle.std.proofs.lemmas.Fn.{always_returns_same}
 use Rattle.std.proofs.lemmas.Iterator.{YieldsList-from_map_by}
 use Rattle.std.proofs.lemmas.Iterator.Consumers.{YieldsList-at, map_from_collect}
-use Rattle.slice_group_by.specs.Asking.{shown}
-use Rattle.slice_group_by.specs.EitherOrBoth.{EitherOrBoth}
-use Rattle.slice_group_by.specs.EitherOrBoth.TheVariants.{Left, Right, Both}
-use Rattle.slice_group_by.specs.Merge.{lefts, rights}
-use Rattle.slice_group_by.specs.Values.{or_of}
+use Rattle.slice_merge_join.specs.Asking.{shown}
+use Rattle.slice_merge_join.specs.EitherOrBoth.{EitherOrBoth}
+use Rattle.slice_merge_join.specs.EitherOrBoth.TheVariants.{Left, Right, Both}
+use Rattle.slice_merge_join.specs.Merge.{lefts, rights}
+use Rattle.slice_merge_join.specs.Values.{or_of}
 use Rattle.example_joins.specs.Names.{shown_groups}
 use Rattle.example_joins.proofs.merged.sides.Goals as goal
 

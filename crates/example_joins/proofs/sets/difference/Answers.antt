@@ -3,7 +3,7 @@ use Rattle.std.proofs.lemmas.Fn.{always_returns_same}
 use Rattle.std.proofs.lemmas.Iterator.{YieldsList-from_slice, items_from_collect}
 use Rattle.std.proofs.lemmas.Iterator.Consumers.{YieldsList-at, YieldsList-from_copied}
 use Rattle.std.proofs.lemmas.Iterator.Adapters.{YieldsList-from_flat_map}
-use Rattle.slice_group_by.specs.JoinKinds.{alone}
+use Rattle.slice_merge_join.specs.JoinKinds.{alone}
 use Rattle.example_joins.proofs.sets.difference.Goals as goal
 
 pub returns : goal.returns

@@ -4,7 +4,7 @@ use Rattle.std.proofs.lemmas.Iterator.{YieldsList-from_slice, items_from_collect
 use Rattle.std.proofs.lemmas.Iterator.Consumers.{YieldsList-at, YieldsList-from_copied}
 use Rattle.std.proofs.lemmas.Iterator.Adapters.{YieldsList-from_flat_map}
 use Rattle.std.specs.List.{filter}
-use Rattle.slice_group_by.specs.JoinKinds.{partnered}
+use Rattle.slice_merge_join.specs.JoinKinds.{partnered}
 use Rattle.example_joins.proofs.sets.intersection.Goals as goal
 
 pub returns : goal.returns

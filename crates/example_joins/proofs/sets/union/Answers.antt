@@ -8,7 +8,7 @@ use Rattle.std.proofs.lemmas.Iterator.Adapters.{YieldsList-from_flat_map}
 use Rattle.std.proofs.lemmas.Map.Lookups.{exact_unsigned}
 use Rattle.std.proofs.lemmas.Result.{IfOk-weaker}
 use Rattle.slice_group_by.specs.Search.{AlwaysAscends}
-use Rattle.slice_group_by.specs.JoinKinds.{once}
+use Rattle.slice_merge_join.specs.JoinKinds.{once}
 use Rattle.slice_group_by.specs.Matches.{has_partner}
 use Rattle.example_joins.proofs.sets.union.Goals as goal
 

@@ -5,7 +5,7 @@ use Rattle.std.specs.Ordering.{nat_cmp}
 use Rattle.std.specs.declared.cmp.Ordering.{Ordering}
 use Rattle.std.specs.declared.cmp.Ordering.TheVariants.{Less, Equal, Greater}
 use Rattle.sgb_split.proofs.Lists.AllByRecursion.{all_contains}
-use Rattle.slice_group_by.specs.Merge.{AllStand}
+use Rattle.slice_merge_join.specs.Merge.{AllStand}
 use Rattle.sgb_split.proofs.Lists.Contained.{contains_head}
 use Rattle.test_cases.proofs.definitions.merge_cases.Goals as goal
 
