@@ -4,7 +4,14 @@
 //! without their lowest bit.
 #![tactic(auto)]
 
-use slice_group_by::{AsciiClasses, BinaryGroup, BinaryGroupBy, BinaryGroupByKey, BinaryGroupByKeyMut, BinaryGroupByMut, BinaryGroupMut, ExponentialGroup, ExponentialGroupBy, ExponentialGroupByKey, ExponentialGroupByKeyMut, ExponentialGroupByMut, ExponentialGroupMut, LinearClassGroup, LinearGroup, LinearGroupBy, LinearGroupByKey, LinearGroupByKeyMut, LinearGroupByMut, LinearGroupMut, LinearNumberGroup, MergeJoin, count_classes, exponential_search};
+use slice_group_by::{
+    BinaryGroup, BinaryGroupBy, BinaryGroupByKey, BinaryGroupByKeyMut, BinaryGroupByMut,
+    BinaryGroupMut, ExponentialGroup, ExponentialGroupBy, ExponentialGroupByKey,
+    ExponentialGroupByKeyMut, ExponentialGroupByMut, ExponentialGroupMut, LinearGroup,
+    LinearGroupBy, LinearGroupByKey, LinearGroupByKeyMut, LinearGroupByMut, LinearGroupMut,
+    MergeJoin, exponential_search,
+};
+use slice_group_simd::{AsciiClasses, LinearClassGroup, LinearNumberGroup, count_classes};
 use slice_merge_join::MergeJoinBy;
 
 macro_rules! lengths {

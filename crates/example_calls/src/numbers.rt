@@ -1,5 +1,5 @@
 //! Groups of equal numbers, found by vectors.
-use slice_group_by::{Lanes, LinearNumberGroup};
+use slice_group_simd::{Lanes, LinearNumberGroup};
 use std::io;
 
 /// How long the longest run of equal numbers is, of bytes or of any other type of numbers.

@@ -1,5 +1,6 @@
 //! Where groups begin and end in their input.
-use slice_group_by::{GroupAdapters, LinearNumberGroup, LinearStrGroupByKey, dedup_with_count};
+use slice_group_by::{GroupAdapters, LinearStrGroupByKey, dedup_with_count};
+use slice_group_simd::LinearNumberGroup;
 use std::alloc::{AllocError, Global};
 use std::io;
 

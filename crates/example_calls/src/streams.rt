@@ -1,5 +1,6 @@
 //! Streams that come in blocks.
-use slice_group_by::{LinearGroupByKey, Parts, StreamGroups};
+use slice_group_by::LinearGroupByKey;
+use slice_group_stream::{Parts, StreamGroups};
 use std::io;
 
 /// Prints how many events each session has, and when the last one was. Events of a session follow within half a minute,

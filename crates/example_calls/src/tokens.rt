@@ -2,7 +2,8 @@
 ghost use Rattle.std.specs.Prelude.{◌==◌, ◌||◌};
 ghost use Rattle.std.specs.Char.{is_ascii_alphanumeric};
 
-use slice_group_by::{AsciiClasses, ByteClasses, LinearClassGroup, StreamGroups};
+use slice_group_simd::{AsciiClasses, ByteClasses, LinearClassGroup};
+use slice_group_stream::StreamGroups;
 use std::io;
 use std::io::Read;
 

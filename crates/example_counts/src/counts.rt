@@ -4,12 +4,16 @@ ghost use Rattle.std.specs.Prelude.{option_map, nat_eq, MatchOption};
 ghost use Rattle.slice_group_by.specs.Queue.{pops};
 ghost use Rattle.slice_group_by.specs.Searching.{digits};
 ghost use Rattle.slice_group_by.specs.Split.{IsGrouped, last, split};
-ghost use Rattle.slice_group_by.specs.Streams.{kept_of};
+ghost use Rattle.slice_group_stream.specs.Streams.{kept_of};
 
-use slice_group_by::laws::{calls_ask, linear_counts, mapped_calls_ask, parts_join, questions_count, search_asks, streams_count, streams_count_keys};
-use slice_merge_join::laws::{join_counts, merges_ask};
-use slice_group_by::{BinaryGroupBy, End, ExponentialGroupBy, LinearGroupBy, StreamGroups, walk};
+use slice_group_by::laws::{
+    calls_ask, linear_counts, mapped_calls_ask, questions_count, search_asks,
+};
+use slice_group_by::{BinaryGroupBy, End, ExponentialGroupBy, LinearGroupBy, walk};
+use slice_group_stream::StreamGroups;
+use slice_group_stream::laws::{parts_join, streams_count, streams_count_keys};
 use slice_merge_join::MergeJoinBy;
+use slice_merge_join::laws::{join_counts, merges_ask};
 
 /// How many questions a walk over linear groups asks: one less than there are elements, and none where there are none.
 pub fn linear_questions(xs: &[u32]) -> usize

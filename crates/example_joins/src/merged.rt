@@ -8,7 +8,9 @@ ghost use Rattle.slice_group_by.specs.Search.{NeverDescends};
 ghost use Rattle.example_joins.specs.Names.{shown_groups};
 
 use slice_merge_join::MergeJoinBy;
-use slice_merge_join::laws::{always_compares, merges_interleave, one_merge, parts_or_empty, sees_merge};
+use slice_merge_join::laws::{
+    always_compares, merges_interleave, one_merge, parts_or_empty, sees_merge,
+};
 use std::alloc::{AllocError, Global};
 use std::cmp::Ordering;
 

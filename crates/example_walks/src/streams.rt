@@ -1,11 +1,11 @@
 //! Groups of streams that come in blocks, with the theorem that the blocks do not matter: a run-length code.
 ghost use Rattle.std.specs.Prelude.{◌≡◌, ◌≢◌, List, [], ◌++◌, flat_map, IfOk, OnOk};
 ghost use Rattle.slice_group_by.specs.Split.{last, split};
-ghost use Rattle.slice_group_by.specs.Streams.{add_values, kept_of, of_nonempty};
+ghost use Rattle.slice_group_stream.specs.Streams.{add_values, kept_of, of_nonempty};
 ghost use Rattle.example_walks.specs.Runs.{longer_run, run_of};
 
-use slice_group_by::StreamGroups;
-use slice_group_by::laws::{last_changes, parts_fold, parts_join};
+use slice_group_stream::StreamGroups;
+use slice_group_stream::laws::{last_changes, parts_fold, parts_join};
 use std::alloc::{AllocError, Global};
 
 /// The runs of elements that come in blocks, each as its element and its length: those of all elements.

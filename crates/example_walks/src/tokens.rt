@@ -2,17 +2,17 @@
 ghost use Rattle.std.specs.List.{AllByRecursion};
 ghost use Rattle.std.specs.Prelude.{◌≡◌, ◌+◌, ◌++◌, ℕ, List, flat_map, length, map, IfOk, OnOk, None};
 ghost use Rattle.std.specs.Str.{IsCharBoundary};
-ghost use Rattle.slice_group_by.specs.AsciiClass.TheVariants.{Letter};
-ghost use Rattle.slice_group_by.specs.Counted.{class_count, same_class};
+ghost use Rattle.slice_group_simd.specs.AsciiClass.TheVariants.{Letter};
+ghost use Rattle.slice_group_simd.specs.Counted.{class_count, same_class};
 ghost use Rattle.slice_group_by.specs.Offsets.{with_offsets};
 ghost use Rattle.slice_group_by.specs.Split.{last, split};
-ghost use Rattle.slice_group_by.specs.Streams.{kept_of, with_part};
+ghost use Rattle.slice_group_stream.specs.Streams.{kept_of, with_part};
 
-use slice_group_by::laws::{groups_stand, parts_join, sees_pieces, texts_stand};
-use slice_group_by::{
-    AsciiClass, AsciiClasses, GroupAdapters, GroupByClass, LinearClassGroup, LinearStrGroupByKey,
-    StrGroupBy, StreamGroups, count_classes,
-};
+use slice_group_by::laws::{groups_stand, sees_pieces, texts_stand};
+use slice_group_by::{GroupAdapters, LinearStrGroupByKey, StrGroupBy};
+use slice_group_simd::{AsciiClass, AsciiClasses, GroupByClass, LinearClassGroup, count_classes};
+use slice_group_stream::StreamGroups;
+use slice_group_stream::laws::parts_join;
 use std::alloc::{AllocError, Global};
 use std::io;
 

@@ -4,11 +4,12 @@ ghost use Rattle.std.specs.Prelude.{IfOk, OnOk};
 ghost use Rattle.std.specs.Ordering.{nat_cmp};
 ghost use Rattle.slice_group_by.specs.Search.{NeverDescends};
 ghost use Rattle.slice_group_by.specs.Split.{last, split};
-ghost use Rattle.slice_group_by.specs.Streams.{add_part, kept_of};
+ghost use Rattle.slice_group_stream.specs.Streams.{add_part, kept_of};
 ghost use Rattle.example_walks.specs.Totals.{amount, key, larger_total, same_key, total_of, totals};
 
-use slice_group_by::StreamGroups;
-use slice_group_by::laws::{last_changes, parts_begin_by_keys, parts_fold, pieces_by_key};
+use slice_group_by::laws::pieces_by_key;
+use slice_group_stream::StreamGroups;
+use slice_group_stream::laws::{last_changes, parts_begin_by_keys, parts_fold};
 use std::alloc::{AllocError, Global};
 
 /// A key and an amount.

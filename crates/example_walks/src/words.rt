@@ -1,11 +1,11 @@
 //! Words of bytes that come in blocks, counted.
 ghost use Rattle.std.specs.Prelude.{◌≡◌, ◌+◌, ◌-◌, ◌^◌, List, ◌++◌, ℕ, count_by, flat_map, min};
 ghost use Rattle.slice_group_by.specs.Split.{last, split};
-ghost use Rattle.slice_group_by.specs.Streams.{kept_of};
+ghost use Rattle.slice_group_stream.specs.Streams.{kept_of};
 ghost use Rattle.example_walks.specs.Words.{are_letters, is_word};
 
-use slice_group_by::StreamGroups;
-use slice_group_by::laws::parts_join;
+use slice_group_stream::StreamGroups;
+use slice_group_stream::laws::parts_join;
 
 /// How many words the blocks have together: how many pieces of letters all bytes have, at most the greatest number of
 /// 64 bits.

@@ -4,8 +4,8 @@ use Rattle.std.specs.Prelude.{option_map}
 use Rattle.std.proofs.lemmas.List.Folds.{flat_map-map}
 use Rattle.std.specs.Io.KnownBytes.{Appends}
 use Rattle.std.proofs.KnownBytes.{Appends-nil, Appends-trans}
-use Rattle.slice_group_by.specs.Split.{last, split, without_last}
-use Rattle.slice_group_by.specs.Streams.{change_last}
+use Rattle.slice_group_stream.specs.Split.{last, split, without_last}
+use Rattle.slice_group_stream.specs.Streams.{change_last}
 use Rattle.run_length_coder.specs.Coding.{coded, line_of, run_if, run_line, run_of, Written}
 
 pub Written-same : (a b : Option (List ℕ)) (runs others : List (ℕ × ℕ)) (byte count : ℕ) → runs ≡ others

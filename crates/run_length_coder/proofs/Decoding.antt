@@ -13,7 +13,7 @@ use Rattle.std.proofs.lemmas.List.Elements.{All-append, All-from_get_or, All-nil
 use Rattle.std.proofs.lemmas.Bool.{eqb-true}
 use Rattle.std.specs.Io.BufRead.{take_through, drop_through, strip_last, ends_with_byte, first_line, DropsThrough}
 use Rattle.std.specs.Char.{digit_value}
-use Rattle.slice_group_by.specs.Split.{split}
+use Rattle.slice_group_stream.specs.Split.{split}
 use Rattle.program_parts.proofs.Fed.{feed_last}
 use Rattle.program_parts.proofs.Written.{not_in_decimal}
 use Rattle.program_parts.proofs.Appended.{appends_both}

@@ -2,7 +2,7 @@
 use Rattle.std.specs.Prelude.{◌≡◌, ℕ, ◌+◌, List, [], ◌∷◌, ◌++◌, length, flat_map, replicate, codes, decimal, nat_eq, slice_index}
 use Rattle.std.specs.Prelude.{Option, None, Some, cond}
 use Rattle.std.specs.Io.KnownBytes.{Appends}
-use Rattle.slice_group_by.specs.Split.{last, split, without_last}
+use Rattle.slice_group_stream.specs.Split.{last, split, without_last}
 use Rattle.run_length_coder.specs.declared.runs.Run.{Run}
 
 -- the bytes of a run

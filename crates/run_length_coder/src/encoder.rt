@@ -1,13 +1,13 @@
 //! Codes bytes as runs, block by block.
 ghost use Rattle.std.specs.Prelude.{◌≡◌, ℕ, List, ◌++◌, map, nat_eq, Option, option_map, IfOk, OnOk, IfSome};
 ghost use Rattle.std.specs.Io.KnownBytes.{Appends};
-ghost use Rattle.slice_group_by.specs.Split.{last, split};
-ghost use Rattle.slice_group_by.specs.Streams.{kept_of};
+ghost use Rattle.slice_group_stream.specs.Split.{last, split};
+ghost use Rattle.slice_group_stream.specs.Streams.{kept_of};
 ghost use Rattle.run_length_coder.specs.Coding.{coded, line_of, longer_run, run_if, run_of, Written};
 
 use program_parts::blocks::{new_block, read_block};
-use slice_group_by::StreamGroups;
-use slice_group_by::laws::{parts_fold, parts_join};
+use slice_group_stream::StreamGroups;
+use slice_group_stream::laws::{parts_fold, parts_join};
 use std::alloc::Global;
 use std::io;
 use std::io::{Error, ErrorKind, Read, Write};

@@ -2,5 +2,4 @@
 pub mod PairsAsked
 pub mod Counting
 pub mod InOrder
-pub mod OverBlocks
 pub mod Adversary

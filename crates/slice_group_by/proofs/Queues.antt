@@ -1,7 +1,6 @@
 -- Lists of calls on a queue of groups.
 pub mod Chains
 pub mod Yields
-pub mod StreamParts
 pub mod GroupsToCome
 pub mod FamiliesAgree
 pub mod Offsets

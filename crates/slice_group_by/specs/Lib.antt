@@ -5,7 +5,6 @@ pub mod Plans
 pub mod Join
 pub mod Outer
 pub mod Chunks
-pub mod NumberGives
 pub mod Offsets
 pub mod Keyed
 pub mod Dedup
@@ -19,19 +18,11 @@ pub use Rattle.sgb_search.specs.Ranges
 pub use Rattle.sgb_search.specs.Matches
 pub use Rattle.sgb_split.specs.Seams
 pub use Rattle.sgb_split.specs.Counts
-pub use Rattle.sgb_numbers.specs.Numbers
-pub use Rattle.sgb_masks.specs.Classes
-pub use Rattle.sgb_masks.specs.AsciiBytes
-pub use Rattle.sgb_masks.specs.Counted
-pub use Rattle.sgb_masks.specs.Counters
-pub use Rattle.sgb_masks.specs.Starts
 pub use Rattle.sgb_groups.specs.Gives
 pub use Rattle.sgb_groups.specs.Shards
 pub use Rattle.sgb_groups.specs.Boundaries
 pub use Rattle.sgb_linear_group.specs.Best
-pub use Rattle.sgb_stream_group.specs.Streams
 pub use Rattle.sgb_linear_str_group.specs.Texts
 pub use Rattle.sgb_linear_str_group.specs.TextsMut
 pub use Rattle.sgb_loans.specs.Loans
 pub use Rattle.sgb_split.specs.declared.end.End
-pub use Rattle.sgb_masks.specs.declared.ascii_classes.AsciiClass

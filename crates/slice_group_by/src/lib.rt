@@ -16,13 +16,10 @@
 //! Which to take:
 //!
 //! - `LinearGroup`: any slice, or short groups;
-//! - `LinearNumberGroup`: integers or floats, to group by `==`;
-//! - `LinearClassGroup`: bytes by class; `count_classes` and `ClassCounter` count such groups with no walk;
 //! - `ExponentialGroup`: a sorted slice with long groups;
 //! - `BinaryGroup`: a sorted slice with few groups, of very different lengths;
 //! - `LinearStrGroup`: a text;
-//! - `StreamGroups`: a stream that comes in blocks;
-//! - `MergeJoinBy`, `MergeJoin`: two sorted slices; `joinable_prefixes`, if they come in blocks;
+//! - `MergeJoin`: two sorted slices, for the pairs of groups with equal keys;
 //! - `exponential_search`, `exponential_partition_point`, `exponential_equal_places`: a sorted slice, and what is sought;
 //! - `boundary` of groups: a slice to cut between two of them; `shards`: into parts for threads;
 //! - `partition_best_by`: to keep the first or the best element of each group, in place.
@@ -34,6 +31,9 @@
 //! For proofs: `laws` has what yours cite, and `loans` what a slice ends as while it is written. `walk` makes any list of calls
 //! from both `End`s of a `GroupQueue`. `is_sorted_for_groups` tests whether a slice is sorted, `rank_groups` replaces each
 //! element by the number of its group, and `refute` finds where a `Plan` of few questions is wrong.
+//!
+//! Beside this library: `slice_merge_join` joins two sorted slices by a comparator, `slice_group_simd` finds groups of
+//! numbers and of bytes by class with vectors, and `slice_group_stream` has groups of a stream that comes in blocks.
 #![tactic(auto)]
 
 pub mod adapters;
@@ -67,13 +67,6 @@ pub use sgb_linear_group::linear_group::{
 pub use sgb_linear_str_group::by_equality::{LinearStrGroup, LinearStrGroupMut};
 pub use sgb_linear_str_group::by_key::{LinearStrGroupByKey, LinearStrGroupByKeyMut};
 pub use sgb_linear_str_group::by_predicate::{LinearStrGroupBy, LinearStrGroupByMut};
-pub use sgb_masks::ascii_classes::{AsciiClass, AsciiClasses};
-pub use sgb_masks::by_class::LinearClassGroup;
-pub use sgb_masks::by_number::LinearNumberGroup;
-pub use sgb_masks::byte_classes::ByteClasses;
-pub use sgb_masks::class_counter::ClassCounter;
-pub use sgb_masks::class_counts::{ClassCounts, count_classes};
-pub use sgb_numbers::lanes::Lanes;
 pub use sgb_search::equal_places::{
     exponential_equal_places, exponential_equal_places_by, exponential_equal_places_by_key,
     exponential_equal_places_by_ref,
@@ -83,9 +76,7 @@ pub use sgb_search::search::{
     exponential_search, exponential_search_by, exponential_search_by_key,
     exponential_search_by_key_ref, exponential_search_by_ref,
 };
-pub use sgb_stream_group::parts::Parts;
-pub use sgb_stream_group::stream::StreamGroups;
-pub use traits::group_by::{GroupBy, GroupByClass};
+pub use traits::group_by::GroupBy;
 pub use traits::group_by_mut::GroupByMut;
 pub use traits::holders::{AsMutSlice, Elements};
 pub use traits::str_group_by::{StrGroupBy, StrGroupByMut};

@@ -7,9 +7,10 @@ ghost use Rattle.slice_group_by.specs.Texts.{in_characters};
 
 use slice_group_by::laws::{always_callable, always_callable_chars};
 use slice_group_by::{
-    AsMutSlice, ByteClasses, Elements, ExponentialGroupByKey, ExponentialGroupByKeyMut, GroupBy,
-    GroupByClass, GroupByMut, Lanes, StrGroupBy, StrGroupByMut,
+    AsMutSlice, Elements, ExponentialGroupByKey, ExponentialGroupByKeyMut, GroupBy, GroupByMut,
+    StrGroupBy, StrGroupByMut,
 };
+use slice_group_simd::{ByteClasses, GroupByClass, Lanes};
 use std::alloc::Allocator;
 use std::convert::AsStr;
 

@@ -1,5 +1,7 @@
 //! Groups of streams.
-use slice_group_by::{ByteClasses, Lanes, LinearGroup, Parts, StreamGroups};
+use slice_group_by::LinearGroup;
+use slice_group_simd::{ByteClasses, Lanes};
+use slice_group_stream::{Parts, StreamGroups};
 
 pub fn by_equality<T: PartialEq + Copy>(block: &[T]) {
     let mut stream = StreamGroups::new();

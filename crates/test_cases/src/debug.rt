@@ -1,7 +1,11 @@
 //! The text of each type that has one, and that a writer's error comes out of it.
 use crate::calls::{equal, itself};
 use slice_group_by::EitherOrBoth::{Both, Left, Right};
-use slice_group_by::{BinaryGroupBy, BinaryGroupByKey, BinaryGroupByKeyMut, BinaryGroupByMut, End, ExponentialGroupBy, ExponentialGroupByKey, ExponentialGroupByKeyMut, ExponentialGroupByMut, LinearGroupBy, LinearGroupByKey, LinearGroupByKeyMut, LinearGroupByMut};
+use slice_group_by::{
+    BinaryGroupBy, BinaryGroupByKey, BinaryGroupByKeyMut, BinaryGroupByMut, End,
+    ExponentialGroupBy, ExponentialGroupByKey, ExponentialGroupByKeyMut, ExponentialGroupByMut,
+    LinearGroupBy, LinearGroupByKey, LinearGroupByKeyMut, LinearGroupByMut,
+};
 use slice_merge_join::EitherOrBoth;
 use std::alloc::{AllocError, Global};
 use std::fmt::{self, Debug, Write};

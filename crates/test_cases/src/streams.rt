@@ -1,5 +1,5 @@
 //! Groups of a stream, run once.
-use slice_group_by::StreamGroups;
+use slice_group_stream::StreamGroups;
 
 // The lengths of the parts of three blocks, and of the groups that they make; how often the predicate is asked.
 fn by_predicate(blocks: [&[u8]; 3]) -> ([usize; 6], usize) {

@@ -1,10 +1,10 @@
 //! The tokens of a text are those of its bytes.
 ghost use Rattle.std.specs.Prelude.{◌≡◌, ℕ, List};
 ghost use Rattle.std.specs.Str.{chars, IsUtf8};
-ghost use Rattle.slice_group_by.specs.AsciiClass.{AsciiClass};
+ghost use Rattle.slice_group_simd.specs.AsciiClass.{AsciiClass};
 ghost use Rattle.token_counter.specs.Tokens.{token_count};
 
-use slice_group_by::laws::class_counts_add_up;
+use slice_group_simd::laws::class_counts_add_up;
 
 /// The characters of a text have as many tokens of each class as its bytes: a character beyond ASCII is of the class `Other`, and so
 /// is each of its bytes.

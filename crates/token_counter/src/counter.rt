@@ -1,11 +1,11 @@
 //! Counts the tokens of a text in one pass over its blocks.
 ghost use Rattle.std.specs.Prelude.{◌≡◌, ◌-◌, ◌^◌, ◌<◌, IfOk, IfSome};
-ghost use Rattle.slice_group_by.specs.AsciiClass.{AsciiClass};
-ghost use Rattle.slice_group_by.specs.Counted.{count_of};
+ghost use Rattle.slice_group_simd.specs.AsciiClass.{AsciiClass};
+ghost use Rattle.slice_group_simd.specs.Counted.{count_of};
 ghost use Rattle.token_counter.specs.Tokens.{token_count};
 
 use program_parts::blocks::{new_block, read_block};
-use slice_group_by::{ClassCounter, ClassCounts};
+use slice_group_simd::{ClassCounter, ClassCounts};
 use std::alloc::Global;
 use std::io;
 use std::io::{Error, ErrorKind, Read};

@@ -1,10 +1,10 @@
 //! What is printed of numbers of tokens.
 ghost use Rattle.std.specs.Prelude.{OnOk};
 ghost use Rattle.std.specs.Io.KnownBytes.{Appends};
-ghost use Rattle.slice_group_by.specs.Counted.{count_of};
+ghost use Rattle.slice_group_simd.specs.Counted.{count_of};
 ghost use Rattle.token_counter.specs.Tokens.{report};
 
-use slice_group_by::ClassCounts;
+use slice_group_simd::ClassCounts;
 use std::io;
 use std::io::Write;
 

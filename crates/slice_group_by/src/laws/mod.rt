@@ -14,8 +14,6 @@ pub(crate) mod counts;
 pub(crate) mod families;
 // What the pieces of a slice are: copies, filters, keys, lengths.
 pub(crate) mod pieces;
-// The blocks of a stream.
-pub(crate) mod streams;
 // Texts as bytes and as characters.
 pub(crate) mod texts;
 // What notes of groups that were written keep.
@@ -38,8 +36,8 @@ pub use crate::join::outer::sees_keys_of_both;
 pub use crate::join::{joins_may_go_on, pairs_count, pairs_match, sees_pairs};
 pub use calls::{calls_may_go_on, calls_take_pieces, groups_join, groups_still_come, sees_pieces};
 pub use counts::{
-    calls_ask, class_counts_add_up, each_pair_asked_once, linear_counts,
-    mapped_calls_ask, questions_count, search_asks, search_counts,
+    calls_ask, each_pair_asked_once, linear_counts, mapped_calls_ask, questions_count, search_asks,
+    search_counts,
 };
 pub use families::{chunk_by_agrees, families_agree, groups_end_locally};
 pub use judged::{Judged, Lends, OfText};
@@ -61,8 +59,5 @@ pub use sgb_split::laws::{
     splits_join,
 };
 pub use sorted::{is_sorted_for_groups, sorts_ascend};
-pub use streams::{
-    last_changes, parts_begin_by_keys, parts_fold, parts_join, streams_count, streams_count_keys,
-};
 pub use texts::{characters_fit, texts_join};
 pub use writing::notes_keep_pieces;

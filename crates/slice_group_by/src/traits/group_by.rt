@@ -3,14 +3,10 @@ ghost use Rattle.std.specs.Prelude.{◌≡◌, Bool};
 ghost use Rattle.sgb_split.specs.Calls.{ComputesBy, IsCallableBy, at_start};
 ghost use Rattle.std.specs.Fn.{ComputesOnPairs, ComputesKey};
 ghost use Rattle.sgb_split.specs.Judges.{by_predicate, predicate_judge, by_key, key_judge, by_equality};
-ghost use Rattle.sgb_numbers.specs.Numbers.{by_number};
 ghost use Rattle.sgb_split.specs.Split.{IsGrouped, AreApart, AreNeighbours};
 ghost use Rattle.sgb_split.specs.Linear.{IsSettled};
 ghost use Rattle.sgb_search.specs.Searching.{IsSettledApart};
 ghost use Rattle.sgb_groups.specs.Gives.{groups_of, place_of};
-ghost use Rattle.sgb_masks.specs.Gives as numbers;
-ghost use Rattle.sgb_masks.specs.Classes.{by_class};
-ghost use Rattle.std.specs.Ordering.{on};
 
 use crate::traits::holders::Elements;
 use sgb_binary_group::binary_group::{BinaryGroup, BinaryGroupBy, BinaryGroupByKey};
@@ -18,10 +14,6 @@ use sgb_exponential_group::exponential_group::{
     ExponentialGroup, ExponentialGroupBy, ExponentialGroupByKey,
 };
 use sgb_linear_group::linear_group::{LinearGroup, LinearGroupBy, LinearGroupByKey};
-use sgb_masks::by_class::LinearClassGroup;
-use sgb_masks::by_number::LinearNumberGroup;
-use sgb_masks::byte_classes::ByteClasses;
-use sgb_numbers::lanes::Lanes;
 
 /// Groups of neighbouring elements, for reading.
 ///
@@ -82,19 +74,6 @@ pub trait GroupBy<T>: Elements<T> {
         ensures settled { IsSettled (by_equality T.eq) (groups_of result) T.eq }
     {
         LinearGroup::new(self.as_slice())
-    }
-
-    /// Groups of equal numbers, found by vectors: those of `linear_group`. They ask no closure. See `LinearNumberGroup`.
-    #[inline]
-    fn linear_number_group(&self) -> LinearNumberGroup<'_, T>
-    where
-        T: Lanes,
-        ensures remainder { (numbers.groups_of result).remainder ≡ Self.items self.now }
-        ensures place { numbers.place_of result ≡ at_start (Self.items self.now) }
-        ensures callable { IsCallableBy AreNeighbours (by_number T.eq) (numbers.groups_of result) }
-        ensures settled { IsSettled (by_number T.eq) (numbers.groups_of result) T.eq }
-    {
-        LinearNumberGroup::new(self.as_slice())
     }
 
     /// Groups by a key, found by halving: equal keys should stand side by side. At most `digits(n - 1)` questions where n
@@ -215,25 +194,3 @@ pub trait GroupBy<T>: Elements<T> {
 }
 
 impl<T, S: Elements<T>> GroupBy<T> for S {}
-
-/// Groups of bytes by class, for reading.
-///
-/// ```
-/// let mut tokens = b"port 8080".linear_class_group::<AsciiClasses>();
-/// tokens.next(); // Some(b"port")
-/// ```
-pub trait GroupByClass: Elements<u8> {
-    /// Groups of bytes of one class, found by vectors: those of `linear_group_by_key` by the class. They ask no closure. See
-    /// `LinearClassGroup`.
-    #[inline]
-    fn linear_class_group<C: ByteClasses>(&self) -> LinearClassGroup<'_, C>
-        ensures remainder { (numbers.groups_of result).remainder ≡ Self.items self.now }
-        ensures place { numbers.place_of result ≡ at_start (Self.items self.now) }
-        ensures callable { IsCallableBy AreNeighbours (by_class C.class_of C.Class.eq) (numbers.groups_of result) }
-        ensures settled { IsSettled (by_class C.class_of C.Class.eq) (numbers.groups_of result) (on C.class_of C.Class.eq) }
-    {
-        LinearClassGroup::<C>::new(self.as_slice())
-    }
-}
-
-impl<S: Elements<u8>> GroupByClass for S {}

@@ -1,6 +1,6 @@
 use Rattle.std.proofs.Common.{◌≡◌, ◌-◌, ◌^◌, ◌≤◌, flat_map, length, take}
 use Rattle.slice_group_by.specs.Split.{last}
-use Rattle.slice_group_by.specs.Streams.{kept_of}
+use Rattle.slice_group_stream.specs.Streams.{kept_of}
 use Rattle.example_counts.proofs.counts.stream_questions.Given as goal
 
 abbrev pub invariant-loop-block : goal.invariant-loop-block

@@ -1,5 +1,5 @@
 use Rattle.std.proofs.Common.{◌^◌, sym, ap, ◌∙◌, arith, rules}
-use Rattle.slice_group_by.specs.Streams.{last_after}
+use Rattle.slice_group_stream.specs.Streams.{last_after}
 use Rattle.example_counts.proofs.counts.with_questions.Goals as goal
 
 pub returns : goal.returns

@@ -1,6 +1,6 @@
 use Rattle.std.proofs.Common.{◌≡◌}
 use Rattle.std.specs.List.{fold}
-use Rattle.slice_group_by.specs.Streams.{add_values, of_nonempty}
+use Rattle.slice_group_stream.specs.Streams.{add_values, of_nonempty}
 use Rattle.example_walks.specs.Runs.{longer_run, run_of}
 use Rattle.example_walks.proofs.streams.add_block.Given as goal
 

@@ -1,6 +1,6 @@
 use Rattle.std.proofs.Common.{◌≡◌, flat_map, take}
 use Rattle.slice_group_by.specs.Split.{last, split}
-use Rattle.slice_group_by.specs.Streams.{kept_of, of_nonempty}
+use Rattle.slice_group_stream.specs.Streams.{kept_of, of_nonempty}
 use Rattle.example_walks.specs.Runs.{run_of}
 use Rattle.example_walks.proofs.streams.runs_of_blocks.Given as goal
 

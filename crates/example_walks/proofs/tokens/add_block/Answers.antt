@@ -1,7 +1,7 @@
 use Rattle.std.proofs.Common.{sym, ◌∙◌}
 use Rattle.std.proofs.lemmas.List.Folds.{fold-map}
-use Rattle.slice_group_by.specs.Counted.{same_class}
-use Rattle.slice_group_by.specs.Streams.{with_part}
+use Rattle.slice_group_simd.specs.Counted.{same_class}
+use Rattle.slice_group_stream.specs.Streams.{with_part}
 use Rattle.example_walks.proofs.tokens.add_block.Goals as goal
 
 pub returns : goal.returns

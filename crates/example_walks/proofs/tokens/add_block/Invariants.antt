@@ -1,6 +1,6 @@
 use Rattle.std.proofs.Common.{◌≡◌, map}
 use Rattle.std.specs.List.{fold}
-use Rattle.slice_group_by.specs.Streams.{with_part}
+use Rattle.slice_group_stream.specs.Streams.{with_part}
 use Rattle.example_walks.proofs.tokens.add_block.Given as goal
 
 abbrev pub invariant-loop-begins : goal.invariant-loop-begins

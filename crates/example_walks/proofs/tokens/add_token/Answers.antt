@@ -1,6 +1,6 @@
 use Rattle.std.proofs.Common.{◌≡◌, ◌+◌, ℕ, List, [], ◌∷◌, ◌++◌, length, map, refl, ap, ◌∙◌, arith, rules, zero, suc}
 use Rattle.std.specs.Prelude.{slice_index_or, slice_set}
-use Rattle.slice_group_by.specs.Streams.{change_last}
+use Rattle.slice_group_stream.specs.Streams.{change_last}
 use Rattle.example_walks.proofs.tokens.add_token.Goals as goal
 
 -- one put in the place of the last, that shows a part more

@@ -1,7 +1,7 @@
 use Rattle.std.proofs.Common.{ℕ, ap}
 use Rattle.std.proofs.lemmas.Iterator.Consumers.{map_from_collect}
 use Rattle.slice_group_by.specs.Calls.{Place}
-use Rattle.slice_group_by.specs.Counted.{same_class}
+use Rattle.slice_group_simd.specs.Counted.{same_class}
 use Rattle.slice_group_by.specs.End.TheVariants.{Front}
 use Rattle.example_walks.proofs.tokens.tokens.Goals as goal
 

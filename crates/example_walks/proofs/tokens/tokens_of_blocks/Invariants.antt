@@ -1,7 +1,7 @@
 use Rattle.std.proofs.Common.{◌≡◌, flat_map, map, take}
-use Rattle.slice_group_by.specs.Counted.{same_class}
+use Rattle.slice_group_simd.specs.Counted.{same_class}
 use Rattle.slice_group_by.specs.Split.{last, split}
-use Rattle.slice_group_by.specs.Streams.{kept_of}
+use Rattle.slice_group_stream.specs.Streams.{kept_of}
 use Rattle.example_walks.proofs.tokens.tokens_of_blocks.Given as goal
 
 abbrev pub invariant-loop-block : goal.invariant-loop-block

@@ -1,6 +1,6 @@
 use Rattle.std.proofs.Common.{◌≡◌}
 use Rattle.std.specs.List.{fold}
-use Rattle.slice_group_by.specs.Streams.{add_part}
+use Rattle.slice_group_stream.specs.Streams.{add_part}
 use Rattle.example_walks.specs.Totals.{larger_total, total_of}
 use Rattle.example_walks.proofs.totals.add_rows.Given as goal
 

@@ -1,7 +1,7 @@
 use Rattle.std.proofs.Common.{◌≡◌, flat_map, map, take}
 use Rattle.std.specs.Prelude.{option_map}
 use Rattle.slice_group_by.specs.Split.{last, split}
-use Rattle.slice_group_by.specs.Streams.{kept_of}
+use Rattle.slice_group_stream.specs.Streams.{kept_of}
 use Rattle.example_walks.specs.Totals.{key, same_key, total_of}
 use Rattle.example_walks.proofs.totals.totals_of_blocks.Given as goal
 

@@ -1,7 +1,7 @@
 use Rattle.std.proofs.Common.{◌≡◌, ◌-◌, ◌^◌, flat_map, min, take}
 use Rattle.std.specs.List.{count_by}
 use Rattle.slice_group_by.specs.Split.{last, split}
-use Rattle.slice_group_by.specs.Streams.{kept_of}
+use Rattle.slice_group_stream.specs.Streams.{kept_of}
 use Rattle.example_walks.specs.Words.{are_letters, is_word}
 use Rattle.example_walks.proofs.words.count_words.Given as goal
 

@@ -1,7 +1,7 @@
 use Rattle.std.proofs.Common.{◌≡◌, ℕ, ◌<◌, List, map, nat_eq, vec_len}
 use Rattle.std.specs.Io.KnownBytes.{Consumes}
-use Rattle.slice_group_by.specs.Split.{last, split}
-use Rattle.slice_group_by.specs.Streams.{kept_of}
+use Rattle.slice_group_stream.specs.Split.{last, split}
+use Rattle.slice_group_stream.specs.Streams.{kept_of}
 use Rattle.run_length_coder.specs.Coding.{run_of, Written}
 use Rattle.run_length_coder.proofs.encoder.encode.Given as goal
 

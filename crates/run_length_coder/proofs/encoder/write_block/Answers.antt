@@ -3,7 +3,7 @@ use Rattle.std.specs.Prelude.{slice_index}
 use Rattle.std.proofs.lemmas.Bool.Decides.{nat_tests}
 use Rattle.std.proofs.lemmas.List.{length-append}
 use Rattle.std.proofs.lemmas.List.Sums.{fold-append}
-use Rattle.slice_group_by.specs.Split.{split}
+use Rattle.slice_group_stream.specs.Split.{split}
 use Rattle.run_length_coder.specs.Coding.{longer_run, run_if, run_of}
 use Rattle.run_length_coder.proofs.CodedRuns.{Written-all, Written-begins, Written-goes_on, Written-same}
 use Rattle.run_length_coder.proofs.encoder.write_block.Goals as goal

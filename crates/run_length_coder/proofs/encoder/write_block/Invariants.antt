@@ -1,6 +1,6 @@
 use Rattle.std.proofs.Common.{ℕ, List, Option}
 use Rattle.std.specs.List.{fold}
-use Rattle.slice_group_by.specs.Streams.{add_part}
+use Rattle.slice_group_stream.specs.Streams.{add_part}
 use Rattle.run_length_coder.specs.Coding.{longer_run, run_of, Written}
 use Rattle.run_length_coder.proofs.encoder.write_block.Given as goal
 

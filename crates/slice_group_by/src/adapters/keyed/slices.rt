@@ -5,8 +5,6 @@ use crate::adapters::keyed::Keyed;
 use sgb_groups::groups::SliceGroups;
 use sgb_groups::groups_mut::SliceGroupsMut;
 use sgb_groups::way::Way;
-use sgb_masks::byte_classes::{ByteClasses, ClassJudge};
-use sgb_masks::mask_groups::MaskGroups;
 use sgb_split::judge::KeyJudge;
 
 impl<'a, T, F: FnMut(&T) -> K, K: PartialEq + Drop, W: Way> Keyed
@@ -132,57 +130,4 @@ impl<'a, T, F: FnMut(&T) -> K, K: PartialEq + Drop, W: Way> Keyed
     ghost call_keyed = { λ q group k t key h by.
         let called = closures.key_next F.FnMut K.eq key q.judge.func h.0.0 k t.judge.func by.0 h.0.2 in
         ((h.0.0, h.0.1, called.0), (called.1, subst (λ xs. W.fits T (λ x y. K.eq (key x) (key y)) xs) (sym h.1) by.1)) };
-}
-
-// The class of a group of bytes is its key.
-impl<'a, C: ByteClasses> Keyed for MaskGroups<'a, u8, ClassJudge<C>> {
-    type Key = C::Class;
-
-    ghost use Rattle.std.specs.Prelude.{ℕ, Some, slice_get, option_copied};
-    ghost use Rattle.std.proofs.Common.{◌∙◌, sym, ap, subst};
-    ghost use Rattle.sgb_masks.proofs.Queue.{call};
-    ghost use Rattle.sgb_masks.specs.Classes.{by_class};
-    ghost use Rattle.sgb_masks.specs.Gives.{groups_of};
-    ghost use Rattle.sgb_split.specs.Linear.{IsSettled};
-    ghost use Rattle.sgb_split.proofs.Linear.LinearQueue as laws;
-    ghost use Rattle.sgb_split.proofs.Lists.Ends.{less_remains};
-
-    ghost key_callable = { λ _. ⊤ };
-
-    ghost is_keyed = { λ q key. ((x : ℕ) → key x ≡ C.class_of x)
-        × IsSettled (by_class C.class_of C.Class.eq) (groups_of q) (λ x y. C.Class.eq (key x) (key y)) };
-
-    ghost has_key = { λ group. 0 < length group.now };
-
-    ghost same_key = { C.Class.eq };
-
-    ghost calls_key = { λ q group k t. ((x : ℕ) × (slice_get group.now 0 ≡ Some x) × (k ≡ C.class_of x)) × (t ≡ q) };
-
-    #[inline]
-    fn first_key(&mut self, group: &&'a [u8]) -> C::Class {
-        C::class(group[0])
-    }
-
-    ghost may_pop = { λ _ _. tt };
-
-    ghost fewer = { λ e q group t h. less_remains e group.now (groups_of t).remainder _ h.call.nonempty h.call.cut };
-
-    ghost pop_has_key = { λ _ _ _ _ h. h.call.nonempty };
-
-    ghost pop_callable = { λ _ _ _ _ _ _. tt };
-
-    ghost call_leaves = { λ q group k t h. (ap (λ u. (groups_of u).remainder) h.1, ap (λ u. (groups_of u).remainder) h.1) };
-
-    ghost pop_keyed = { λ e q group t key h by.
-        let piece = laws.piece (by_class C.class_of C.Class.eq) e (groups_of q) (option_copied group) (groups_of t)
-        (λ x y. C.Class.eq (key x) (key y)) (call (by_class C.class_of C.Class.eq) e q group t h) by.1 in
-        (piece.0, (by.0, piece.1)) };
-
-    ghost call_keyed = { λ q group k t key h by. (
-      (h.0.0, h.0.1, h.0.2 ∙ sym (by.0 h.0.0)),
-      (
-        by.0,
-        subst (λ u. IsSettled (by_class C.class_of C.Class.eq) (groups_of u) (λ x y. C.Class.eq (key x) (key y))) (sym h.1) by.1,
-      ),
-    ) };
 }

@@ -1,4 +1,3 @@
 //! The types of this library as queues of groups.
-pub mod masks;
 pub mod slices;
 pub mod texts;

@@ -1,6 +1,6 @@
 use Rattle.std.proofs.Common.{ℕ, ◌<◌, List, vec_len}
 use Rattle.std.specs.Io.KnownBytes.{Consumes}
-use Rattle.slice_group_by.specs.Counters.{HasTaken}
+use Rattle.slice_group_simd.specs.Counters.{HasTaken}
 use Rattle.token_counter.proofs.counter.count_tokens.Given as goal
 
 abbrev pub invariant-loop : goal.invariant-loop

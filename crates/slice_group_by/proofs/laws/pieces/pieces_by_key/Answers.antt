@@ -1,6 +1,6 @@
 use Rattle.std.proofs.Common.{◌∙◌}
 use Rattle.slice_group_by.proofs.Pieces.PiecesOfLists.{firsts_climb, keyed_by_first, keyed_filters, piece_filter}
-use Rattle.slice_group_by.proofs.Queues.StreamParts.{pieces_some}
+use Rattle.sgb_split.proofs.Splits.Split.{split_is}
 use Rattle.slice_group_by.proofs.laws.pieces.pieces_by_key.Goals as goal
 
 pub returns-clause-firsts : goal.returns-clause-firsts
@@ -17,5 +17,5 @@ returns-clause-keyed g c key xs ascends =
 
 pub returns-clause-by_first : goal.returns-clause-by_first
 returns-clause-by_first g c key d xs ascends =
-    keyed_by_first key d _ (pieces_some _ xs)
+    keyed_by_first key d _ (split_is _ xs).nonempty
     ∙ keyed_filters g.K.Ord.cmp g.met.K.Ord.total g.K.PartialEq.eq g.met.K.Ord.matches_eq key g.met.K.PartialEq.laws xs ascends

@@ -1,8 +1,0 @@
-use Rattle.std.proofs.Common.{refl}
-use Rattle.sgb_masks.proofs.Known.{front_grown}
-use Rattle.sgb_masks.proofs.fills.grown.Goals as goal
-
-pub returns : goal.returns
-returns g c =
-    let r = c.requires in
-    front_grown 16 48 refl c.ranges.mask.fits r.after refl r.fits r.inside r.mask c.cuts.ensures

@@ -1,4 +1,0 @@
-pub mod Ends
-pub mod FoldedParts
-pub mod JoinedParts
-pub mod States

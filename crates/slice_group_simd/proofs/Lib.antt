@@ -1,0 +1,10 @@
+mod OneByOne
+mod Codes
+mod Joined
+mod Turned
+mod Lowest
+mod Pushed
+mod Marks
+mod Known
+mod Taken
+mod Beginnings

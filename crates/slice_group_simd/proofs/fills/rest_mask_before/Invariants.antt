@@ -1,0 +1,23 @@
+use Rattle.std.proofs.Common.{◌+◌, ◌≤◌}
+use Rattle.slice_group_simd.specs.Masks.{BackMask}
+use Rattle.slice_group_simd.proofs.fills.rest_mask_before.Given as goal
+
+abbrev pub invariant-loop-at : goal.invariant-loop-at
+invariant-loop-at g l = record {
+  after : l.low ≤ l.at;
+  before : l.at ≤ l.upto;
+  mask : BackMask g.M.Masks.same l.slice (l.upto + 1) l.mask l.at;
+}
+
+abbrev pub decreases-loop-at : goal.decreases-loop-at
+decreases-loop-at g l = l.at
+
+abbrev pub invariant-loop-at-2 : goal.invariant-loop-at-2
+invariant-loop-at-2 g l = record {
+  after : l.low ≤ l.at;
+  before : l.at ≤ l.upto;
+  mask : BackMask g.M.Masks.same l.slice (l.upto + 1) l.mask l.at;
+}
+
+abbrev pub decreases-loop-at-2 : goal.decreases-loop-at-2
+decreases-loop-at-2 g l = l.at

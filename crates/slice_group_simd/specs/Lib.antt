@@ -1,0 +1,13 @@
+pub mod AsciiBytes
+pub mod Classes
+pub mod Counted
+pub mod Counters
+pub mod Gives
+pub mod Masks
+pub mod Starts
+pub use Rattle.sgb_split.specs.Split
+pub use Rattle.sgb_split.specs.Calls
+pub use Rattle.sgb_split.specs.Linear
+pub use Rattle.sgb_split.specs.declared.end.End
+pub use Rattle.sgb_numbers.specs.Numbers
+pub use Rattle.slice_group_simd.specs.declared.ascii_classes.AsciiClass

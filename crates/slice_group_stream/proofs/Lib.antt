@@ -1,0 +1,6 @@
+pub mod Ends
+pub mod FoldedParts
+pub mod JoinedParts
+pub mod States
+pub mod StreamParts
+pub mod OverBlocks
