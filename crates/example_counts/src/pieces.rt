@@ -109,3 +109,13 @@ pub fn keep_greatest(rows: &mut [Entry]) -> usize
         |kept: &Entry, row: &Entry| kept.1 < row.1,
     )
 }
+
+/// Keeps these rows of a vector, and no other.
+pub fn retain_greatest(rows: &mut Vec<Entry>)
+    requires { NeverDescends nat_cmp (map key rows.old.items) }
+    ensures { AllByRecursion (λ best. Contains rows.old.items best
+        × ((row : ℕ × ℕ) → Contains rows.old.items row → nat_eq (key row) (key best) ≡ true → row.1 ≤ best.1)) rows.new.items }
+{
+    let kept = keep_greatest(rows);
+    rows.truncate(kept);
+}

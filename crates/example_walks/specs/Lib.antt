@@ -1,3 +1,4 @@
+pub mod Columns
 pub mod LongGroups
 pub mod Runs
 pub mod Tens

@@ -4,6 +4,7 @@
 
 pub mod capitals;
 pub mod closures;
+pub mod columns;
 pub mod equal_groups;
 pub mod families;
 pub mod folds;

@@ -48,6 +48,7 @@ impl<'a, T, J: Judge<T> + Drop, W: Way> SliceGroups<'a, T, J, W> {
     /// LinearGroup::new(&slice).boundary(3); // 3
     /// LinearGroup::new(&slice).boundary(0); // 0
     /// ```
+    #[must_use]
     #[inline]
     pub fn boundary(mut self, index: usize) -> usize
         requires { IsCallableBy (W.allowed T) J.Judge (groups_of self) }

@@ -15,6 +15,7 @@ use std::marker::PhantomData;
 ///
 /// Contracts see of it the elements that it has not handed out yet, its `remainder`, and its `judge`: both are in `groups_of` of it.
 #[derive(Drop)]
+#[must_use = "iterators are lazy and do nothing unless consumed"]
 pub struct SliceGroups<'a, T, J, W> {
     slice: &'a [T],
     // The remainder lies from the place `low` up to the place `high`, and is empty where these do not lie in the slice in order.

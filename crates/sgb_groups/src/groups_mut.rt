@@ -21,6 +21,7 @@ use std::mem;
 /// input are out (`loans`). To learn what the whole input ends as, note each group in the order in which the groups came, by
 /// `note_front` and `note_back`, and then call `finish`. These calls ask nothing and run no code but moves.
 #[derive(Drop)]
+#[must_use = "iterators are lazy and do nothing unless consumed"]
 pub struct SliceGroupsMut<'a, T, J, W> {
     slice: &'a mut [T],
     pub(crate) judge: J,

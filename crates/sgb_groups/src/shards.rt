@@ -13,10 +13,12 @@ ghost use Rattle.sgb_groups.specs.declared.shards.Shards.{Shards};
 use crate::groups::SliceGroups;
 use crate::way::Way;
 use sgb_split::judge::Judge;
+use std::fmt;
 use std::iter::FusedIterator;
 
 /// An iterator over the shards of a slice: what `shards` of its groups gives.
 #[derive(Drop)]
+#[must_use = "iterators are lazy and do nothing unless consumed"]
 pub struct Shards<'a, T, J, W> {
     groups: SliceGroups<'a, T, J, W>,
     count: usize,
@@ -96,6 +98,17 @@ impl<'a, T, J: Judge<T> + Drop, W: Way> Iterator for Shards<'a, T, J, W> {
     {
         let len = self.groups.remainder_len();
         (len.min(1), Some(len))
+    }
+}
+
+impl<'a, T: fmt::Debug, J, W> fmt::Debug for Shards<'a, T, J, W> {
+    fn fmt<O: fmt::Write>(&self, f: &mut fmt::Formatter<O>) -> fmt::Result {
+        let remainder = self.groups.remainder();
+        write!(
+            f,
+            "Shards {{ remainder: {remainder:?}, count: {} }}",
+            self.count
+        )
     }
 }
 

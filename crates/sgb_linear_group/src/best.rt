@@ -24,6 +24,7 @@ use sgb_split::judge::{Judge, KeyJudge, PredicateJudge};
 /// let len = partition_best_by(&mut spans, |a, b| b.0 <= a.1, |kept, x| kept.1 < x.1);
 /// // spans[..len] is [(2, 9), (20, 21)]
 /// ```
+#[must_use = "it is the new length"]
 pub fn partition_best_by<T, P: FnMut(&T, &T) -> bool, B: FnMut(&T, &T) -> bool>(
     slice: &mut [T],
     predicate: P,
@@ -49,6 +50,7 @@ pub fn partition_best_by<T, P: FnMut(&T, &T) -> bool, B: FnMut(&T, &T) -> bool>(
 /// let len = partition_best_by_key(&mut rows, |row| row.0, |kept, row| kept.1 < row.1);
 /// // rows[..len] is [("a", 7), ("b", 1)]
 /// ```
+#[must_use = "it is the new length"]
 pub fn partition_best_by_key<T, K: PartialEq + Drop, F: FnMut(&T) -> K, B: FnMut(&T, &T) -> bool>(
     slice: &mut [T],
     func: F,

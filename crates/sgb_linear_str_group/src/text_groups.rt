@@ -21,6 +21,7 @@ use std::iter::FusedIterator;
 /// to the first pair that the judge refuses. So a group of g characters costs g questions, or g - 1 if nothing remains
 /// after it, and takes time by its own length alone. A list of calls asks about no pair twice.
 #[derive(Drop)]
+#[must_use = "iterators are lazy and do nothing unless consumed"]
 pub struct LinearStrGroups<'a, J> {
     string: &'a str,
     // The remainder lies from the byte `low` up to the byte `high`; it is empty where these do not lie between characters in

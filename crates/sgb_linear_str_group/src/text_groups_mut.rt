@@ -27,6 +27,7 @@ use std::mem;
 /// came, by `note_front` and `note_back`, and then `finish` says what the whole input ends as. These calls ask nothing and
 /// run no code but moves.
 #[derive(Drop)]
+#[must_use = "iterators are lazy and do nothing unless consumed"]
 pub struct LinearStrGroupsMut<'a, J> {
     bytes: &'a mut [u8],
     pub(crate) judge: J,

@@ -10,6 +10,7 @@ use std::marker::{Model, PhantomData};
 
 /// A slice that was given up for good, and what it was then: the slice named `name` ended as `value`.
 #[derive(Drop)]
+#[must_use = "it is what is known of the slice that was given up"]
 pub struct Ended<'a, T> {
     pub(crate) marker: PhantomData<&'a T>,
     pub ghost name: { ℕ },
@@ -55,6 +56,7 @@ fn split<T>(all: &mut [T], mid: usize) -> (&mut [T], &mut [T])
 ///
 /// `cuts` lists the parts that are out, the oldest first, each with the end that it came off.
 #[derive(Drop)]
+#[must_use = "it is what is known of the slice"]
 pub struct Loans<T> {
     pub(crate) marker: PhantomData<T>,
     pub ghost root: { ℕ },

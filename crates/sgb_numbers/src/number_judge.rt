@@ -6,7 +6,7 @@ use crate::masks::{MaskJudge, Masks};
 use sgb_split::judge::Judge;
 
 /// Asks `==` of numbers. It may always be asked, and counts nothing: how often it compares, no contract says.
-#[derive(Drop)]
+#[derive(Clone, Copy, Drop)]
 pub struct NumberJudge {}
 
 impl<T: Lanes> Judge<T> for NumberJudge {

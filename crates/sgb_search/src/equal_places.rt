@@ -54,6 +54,7 @@ fn places<T, K, L: Test<K>, E: Test<K>, F: FnMut(&T) -> K>(
 /// exponential_equal_places_by(&rows, |row| row.0.cmp(&3)); // 1..3
 /// exponential_equal_places_by(&rows, |row| row.0.cmp(&4)); // 3..3
 /// ```
+#[must_use]
 #[inline]
 pub fn exponential_equal_places_by<T, F>(slice: &[T], mut f: F) -> Range<usize>
 where
@@ -80,6 +81,7 @@ where
 /// };
 /// exponential_equal_places_by_ref(&[1, 3, 3, 5, 8], &mut comparator); // 1..3, and `asked` is at most 10
 /// ```
+#[must_use]
 #[inline]
 pub fn exponential_equal_places_by_ref<T, F>(slice: &[T], f: &mut F) -> Range<usize>
 where
@@ -107,6 +109,7 @@ where
 /// exponential_equal_places(&slice, &1);         // 1..5
 /// &slice[exponential_equal_places(&slice, &1)]; // [1, 1, 1, 1]
 /// ```
+#[must_use]
 #[inline]
 pub fn exponential_equal_places<T: Ord>(slice: &[T], elem: &T) -> Range<usize>
     ensures order { result.start ≤ result.end }
@@ -128,6 +131,7 @@ pub fn exponential_equal_places<T: Ord>(slice: &[T], elem: &T) -> Range<usize>
 /// let rows = [(1, 'a'), (3, 'b'), (3, 'c'), (7, 'd')];
 /// exponential_equal_places_by_key(&rows, &3, |row| row.0); // 1..3
 /// ```
+#[must_use]
 #[inline]
 pub fn exponential_equal_places_by_key<T, B, F>(slice: &[T], b: &B, mut f: F) -> Range<usize>
 where

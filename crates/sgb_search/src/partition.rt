@@ -142,6 +142,7 @@ pub(crate) fn count_before<T, K, S: Test<K>, F: FnMut(&T) -> K>(
 /// ```
 /// exponential_partition_point(&[1, 2, 3, 5, 8, 13, 21], |&x| x < 5); // 3
 /// ```
+#[must_use]
 #[inline]
 pub fn exponential_partition_point<T, P>(slice: &[T], mut pred: P) -> usize
 where

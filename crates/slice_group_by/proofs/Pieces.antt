@@ -5,3 +5,4 @@ pub mod WrittenPieces
 pub mod PiecesOfLists
 pub mod Adjacent
 pub mod Bests
+pub mod Columns

@@ -6,7 +6,7 @@ use crate::byte_classes::ByteClasses;
 use std::simd::prelude::*;
 
 /// A class of bytes. Letters, digits and white space are those of ASCII, and all other bytes are `Other`.
-#[derive(Clone, Copy, Debug, PartialEq, Eq)]
+#[derive(Clone, Copy, Debug, PartialEq, Eq, PartialOrd, Ord, Hash)]
 pub enum AsciiClass {
     Letter,
     Digit,

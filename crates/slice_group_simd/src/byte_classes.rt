@@ -79,6 +79,7 @@ fn pushed(mask: u64, bit: bool) -> u64
 
 /// Asks whether two bytes are of one class. It may always be asked.
 #[derive(Drop)]
+#[derive_where(Clone, Copy)]
 pub struct ClassJudge<C> {
     classes: PhantomData<C>,
 }

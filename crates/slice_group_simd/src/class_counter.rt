@@ -51,3 +51,11 @@ impl ClassCounter {
         self.counts
     }
 }
+
+impl Default for ClassCounter {
+    ghost is_default = { λ counter. HasTaken counter [] };
+
+    fn default() -> ClassCounter {
+        ClassCounter::new()
+    }
+}

@@ -13,6 +13,7 @@ use crate::byte_classes::{ByteClasses, ClassJudge};
 
 /// A number of groups of each class.
 #[derive(Clone, Copy, Debug, PartialEq, Eq)]
+#[must_use]
 pub struct ClassCounts {
     pub letters: usize,
     pub digits: usize,

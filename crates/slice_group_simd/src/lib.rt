@@ -17,6 +17,8 @@
 //!
 //! The groups are queues (`GroupQueue`) of `slice_group_by`, so that its adapters, `walk` and its laws take them. For groups of
 //! a stream take `slice_group_stream`.
+//!
+//! Version 1.0.0.
 #![tactic(auto)]
 
 mod ascii_classes;
@@ -32,11 +34,11 @@ mod mask_groups;
 mod methods;
 mod queue;
 
-pub use methods::{GroupByClass, GroupByNumber};
 pub use ascii_classes::{AsciiClass, AsciiClasses};
 pub use by_class::LinearClassGroup;
 pub use by_number::LinearNumberGroup;
 pub use byte_classes::ByteClasses;
 pub use class_counter::ClassCounter;
 pub use class_counts::{ClassCounts, count_classes};
+pub use methods::{GroupByClass, GroupByNumber};
 pub use sgb_numbers::lanes::Lanes;

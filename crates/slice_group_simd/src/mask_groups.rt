@@ -8,6 +8,8 @@ ghost use Rattle.slice_group_simd.specs.Masks.{FrontMask, BackMask};
 
 use crate::fills::{far_back, far_front, first_end, last_start};
 use sgb_numbers::masks::{MaskJudge, Masks};
+use std::alloc::AllocError;
+use std::fmt;
 use std::iter::FusedIterator;
 
 /// An iterator over the groups of a slice, from both ends. `J` tells which elements are the same.
@@ -15,6 +17,7 @@ use std::iter::FusedIterator;
 /// It looks at sixty-four neighbouring pairs at a time, and keeps for each end which of them differ, so that most calls read no
 /// element. No contract counts its comparisons.
 #[derive(Drop)]
+#[must_use = "iterators are lazy and do nothing unless consumed"]
 pub struct MaskGroups<'a, T, J: Masks<T>> {
     slice: &'a [T],
     judge: J,
@@ -162,6 +165,27 @@ impl<'a, T, J: MaskJudge<T> + Drop> DoubleEndedIterator for MaskGroups<'a, T, J>
             }
         }
         self.next_back_far()
+    }
+}
+
+impl<'a, T, J: MaskJudge<T> + Copy> Clone for MaskGroups<'a, T, J> {
+    fn clone(&self) -> Result<Self, AllocError> {
+        Ok(MaskGroups {
+            slice: self.slice,
+            judge: self.judge,
+            low: self.low,
+            high: self.high,
+            front: self.front,
+            known: self.known,
+            back: self.back,
+            base: self.base,
+        })
+    }
+}
+
+impl<'a, T: fmt::Debug, J: MaskJudge<T> + Drop> fmt::Debug for MaskGroups<'a, T, J> {
+    fn fmt<O: fmt::Write>(&self, f: &mut fmt::Formatter<O>) -> fmt::Result {
+        write!(f, "MaskGroups {{ remainder: {:?} }}", self.remainder())
     }
 }
 

@@ -1,9 +1,9 @@
 //! The groups by masks as a queue, as calls of linear groups, with offsets, and with the class of bytes as their key.
 ghost use Rattle.std.specs.Prelude.{◌≡◌, ◌<◌, length, refl, ⊤};
 
-use sgb_linear_group::linear_group::Linear;
 use crate::byte_classes::{ByteClasses, ClassJudge};
 use crate::mask_groups::MaskGroups;
+use sgb_linear_group::linear_group::Linear;
 use sgb_numbers::masks::MaskJudge;
 use slice_group_by::adapters::{Keyed, Offsets};
 use slice_group_by::laws::{GroupQueue, Judged, RemainderLen, SliceQueue};

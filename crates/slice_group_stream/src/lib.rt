@@ -15,6 +15,8 @@
 //! its key.
 //!
 //! For proofs: `laws` has what yours cite.
+//!
+//! Version 1.0.0.
 #![tactic(auto)]
 
 mod asking;

@@ -4,10 +4,12 @@ ghost use Rattle.sgb_groups.specs.Gives.{groups_of};
 ghost use Rattle.slice_group_stream.specs.Streams.{begins_of, groups_in};
 
 use sgb_linear_group::linear_group::{LinearGroupBy, LinearGroupByKey};
+use std::iter::FusedIterator;
 
 /// The groups of a block, each with whether a group of the stream begins with it, or the last one goes on. Only the
 /// first can go on.
-#[derive(Drop)]
+#[derive(Clone, Debug, Drop)]
+#[must_use = "iterators are lazy and do nothing unless consumed"]
 pub struct Parts<I> {
     pub(crate) begins: bool,
     pub(crate) groups: I,
@@ -38,6 +40,8 @@ impl<I: Iterator> Iterator for Parts<I> {
         self.groups.size_hint()
     }
 }
+
+impl<I: FusedIterator> FusedIterator for Parts<I> {}
 
 impl<I> Parts<I> {
     /// The groups of a block as parts: for a caller who knows by itself whether a group begins with the first.

@@ -28,7 +28,7 @@ use slice_group_simd::{ByteClasses, Lanes, LinearClassGroup, LinearNumberGroup};
 /// stream.parts(&[1, 1, 2]); // (true, [1, 1]), (true, [2])
 /// stream.parts(&[2, 3]);    // (false, [2]), (true, [3])
 /// ```
-#[derive(Drop)]
+#[derive(Clone, Debug, Drop)]
 pub struct StreamGroups<K> {
     kept: Option<K>,
 }
@@ -40,6 +40,15 @@ impl<K> StreamGroups<K> {
         ensures { kept_of result ≡ None }
     {
         StreamGroups { kept: None }
+    }
+}
+
+impl<K> Default for StreamGroups<K> {
+    ghost is_default = { λ stream. kept_of stream ≡ None };
+
+    #[inline]
+    fn default() -> StreamGroups<K> {
+        StreamGroups::new()
     }
 }
 

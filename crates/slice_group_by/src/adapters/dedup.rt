@@ -16,8 +16,11 @@ use std::marker::PhantomData;
 
 /// The length and the first element of each group: what `dedup_with_count` gives.
 #[derive(Drop)]
+#[derive_where(Clone, Debug; Q)]
+#[must_use = "iterator adaptors are lazy and do nothing unless consumed"]
 pub struct DedupWithCount<'a, T, Q> {
     groups: Q,
+    #[derive_where(skip(Debug))]
     first: PhantomData<&'a T>,
 }
 

@@ -57,7 +57,8 @@ pub trait Offsets: GroupQueue + RemainderLen {
 }
 
 /// Groups, each with the offset at which it begins in the input: what `with_offsets` gives.
-#[derive(Drop)]
+#[derive(Clone, Debug, Drop)]
+#[must_use = "iterator adaptors are lazy and do nothing unless consumed"]
 pub struct WithOffsets<Q> {
     pub(crate) groups: Q,
 }

@@ -42,7 +42,8 @@ pub use counts::{
 pub use families::{chunk_by_agrees, families_agree, groups_end_locally};
 pub use judged::{Judged, Lends, OfText};
 pub use pieces::{
-    bests_are_greatest, equal_pieces_are_copies, pieces_add_up, pieces_by_key, pieces_have_keys,
+    bests_are_greatest, columns_split, equal_pieces_are_copies, pieces_add_up, pieces_by_key,
+    pieces_have_keys,
 };
 pub use plans::{Plan, refute, right_plans_ask};
 pub use queue::{GroupQueue, RemainderLen, SliceQueue, SliceQueueMut, walk};

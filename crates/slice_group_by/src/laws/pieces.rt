@@ -1,12 +1,13 @@
 //! Laws of the pieces of a list.
-ghost use Rattle.std.specs.Prelude.{◌≡◌, ℕ, ◌<◌, Bool, false, true, List, length, flat_map, get_or, map, replicate, sum_by};
+ghost use Rattle.std.specs.Prelude.{◌≡◌, ℕ, ◌<◌, Bool, false, true, List, length, flat_map, get_or, map, replicate, sum_by, take, drop};
 ghost use Rattle.std.specs.Prelude.{Some};
-ghost use Rattle.std.specs.List.{AllByRecursion, Contains, dedup, filter};
+ghost use Rattle.std.specs.List.{AllByRecursion, Contains, dedup, filter, zip};
 ghost use Rattle.sgb_linear_group.specs.Best.{best_of_each};
 ghost use Rattle.sgb_search.specs.Search.{AlwaysAscends, NeverDescends};
 ghost use Rattle.sgb_split.specs.Split.{first, split};
 ghost use Rattle.slice_group_by.specs.Dedup.{counted};
 ghost use Rattle.slice_group_by.specs.Keyed.{keyed};
+ghost use Rattle.slice_group_by.specs.Offsets.{with_offsets};
 
 /// In a list that ascends by a key:
 ///
@@ -73,4 +74,12 @@ pub fn bests_are_greatest<T, K: Ord>()
         → AllByRecursion (λ best. Contains xs best
         × ((y : T) → Contains xs y → K.eq (key y) (key best) ≡ true → worse best y ≡ false))
         (best_of_each worse (split (λ a b. K.eq (key a) (key b)) xs)) }
+{}
+
+/// Two columns of one length are rows of pairs: the pieces of the keys, each with the values at its places (`groups_stand`), are
+/// the two columns of the pieces of the rows by their keys.
+pub fn columns_split<A, B>()
+    ensures { (p : A → A → Bool) (keys : List A) (values : List B) → length values ≡ length keys
+        → map {B = List A × List B} (λ x. (x.1, take (length x.1) (drop x.0 values))) (with_offsets 0 (split p keys))
+        ≡ map (λ rows. (map (λ r. r.0) rows, map (λ r. r.1) rows)) (split (λ r s. p r.0 s.0) (zip keys values)) }
 {}

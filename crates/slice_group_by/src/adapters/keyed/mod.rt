@@ -77,7 +77,8 @@ pub trait Keyed: GroupQueue + RemainderLen {
 }
 
 /// Groups by a key, each with its key: what `with_keys` gives.
-#[derive(Drop)]
+#[derive(Clone, Debug, Drop)]
+#[must_use = "iterator adaptors are lazy and do nothing unless consumed"]
 pub struct WithKeys<Q> {
     pub(crate) groups: Q,
 }
