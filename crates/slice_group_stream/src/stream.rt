@@ -1,5 +1,5 @@
 //! Groups that go on over the blocks of a stream.
-ghost use Rattle.std.specs.Prelude.{◌≡◌, Bool, map};
+ghost use Rattle.std.specs.Prelude.{◌≡◌, Bool, None, map};
 ghost use Rattle.std.specs.Fn.{ComputesKey, ComputesOnPairs};
 ghost use Rattle.std.specs.Ordering.{on};
 ghost use Rattle.slice_group_simd.specs.Classes.{by_class};

@@ -10,7 +10,7 @@ use slice_group_by::{
     AsMutSlice, Elements, ExponentialGroupByKey, ExponentialGroupByKeyMut, GroupBy, GroupByMut,
     StrGroupBy, StrGroupByMut,
 };
-use slice_group_simd::{ByteClasses, GroupByClass, Lanes};
+use slice_group_simd::{ByteClasses, GroupByClass, GroupByNumber, Lanes};
 use std::alloc::Allocator;
 use std::convert::AsStr;
 

@@ -1,12 +1,13 @@
 //! The text of each type that has one, and that a writer's error comes out of it.
 use crate::calls::{equal, itself};
-use slice_group_by::EitherOrBoth::{Both, Left, Right};
 use slice_group_by::{
     BinaryGroupBy, BinaryGroupByKey, BinaryGroupByKeyMut, BinaryGroupByMut, End,
     ExponentialGroupBy, ExponentialGroupByKey, ExponentialGroupByKeyMut, ExponentialGroupByMut,
-    LinearGroupBy, LinearGroupByKey, LinearGroupByKeyMut, LinearGroupByMut,
+    GroupAdapters, LinearGroupBy, LinearGroupByKey, LinearGroupByKeyMut, LinearGroupByMut,
 };
-use slice_merge_join::EitherOrBoth;
+use slice_group_simd::LinearNumberGroup;
+use slice_merge_join::EitherOrBoth::{Both, Left, Right};
+use slice_merge_join::{EitherOrBoth, MergeJoinBy};
 use std::alloc::{AllocError, Global};
 use std::fmt::{self, Debug, Write};
 use std::test::Fail;
@@ -109,6 +110,16 @@ fn texts_of_values(rt: HostRuntime) -> Result<(), Fail> {
     assert!(rt; is_written(alloc, &[End::Front, End::Back], "[Front, Back]")?);
     let parts: [EitherOrBoth<u8, char>; 3] = [Left(1), Right('a'), Both(2, 'b')];
     assert!(rt; is_written(alloc, &parts, "[Left(1), Right('a'), Both(2, 'b')]")?);
+    let numbers = LinearNumberGroup::new(&[1, 1, 2]).with_offsets();
+    assert!(rt;
+        is_written(
+            alloc,
+            &numbers.clone()?,
+            "WithOffsets { groups: MaskGroups { remainder: [1, 1, 2] } }"
+        )?
+    );
+    let join = MergeJoinBy::new(&[1], &[2], |x: &u8, y: &u8| x.cmp(y));
+    assert!(rt; is_written(alloc, &join, "MergeJoinBy { left: [1], right: [2], .. }")?);
     Ok(())
 }
 

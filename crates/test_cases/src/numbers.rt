@@ -1,6 +1,6 @@
 //! Groups of equal numbers by vectors.
 use slice_group_by::{GroupBy, GroupByMut};
-use slice_group_simd::{Lanes, LinearNumberGroup};
+use slice_group_simd::{GroupByNumber, Lanes, LinearNumberGroup};
 use std::array;
 
 // The lengths of the groups at both ends in turn, the front first.
