@@ -1,6 +1,7 @@
 //! Users with two columns side by side: the groups of the keys, and the values at their places.
-ghost use Rattle.std.specs.Prelude.{◌≡◌, ◌%◌, ◌^◌, drop, length, map, nat_cmp, nat_eq, sum, take, IfOk};
+ghost use Rattle.std.specs.Prelude.{◌≡◌, ◌%◌, ◌^◌, drop, length, map, nat_eq, sum, take, IfOk};
 ghost use Rattle.std.specs.List.{dedup};
+ghost use Rattle.std.specs.Ordering.{nat_cmp};
 ghost use Rattle.slice_group_by.specs.Search.{NeverDescends};
 ghost use Rattle.example_walks.specs.Columns.{sum_beside};
 

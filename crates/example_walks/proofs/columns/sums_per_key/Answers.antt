@@ -1,6 +1,6 @@
 use Rattle.std.proofs.Common.{◌≡◌, ◌%◌, ◌^◌, ℕ, List, [], ◌∷◌, length, map, nat_eq, sum, take, drop, get_or}
 use Rattle.std.proofs.Common.{rules, refl, sym, ap, ◌∙◌}
-use Rattle.std.specs.List.{dedup, filter, zip}
+use Rattle.std.specs.List.{zip}
 use Rattle.std.proofs.lemmas.Iterator.{YieldsList-from_map, items_from_collect}
 use Rattle.std.proofs.lemmas.Iterator.Consumers.{YieldsList-at}
 use Rattle.std.proofs.lemmas.Simd.{map-map}
@@ -8,7 +8,6 @@ use Rattle.std.proofs.lemmas.Slice.Zip.{firsts-zip}
 use Rattle.slice_group_by.specs.Calls.{Place}
 use Rattle.slice_group_by.specs.End.TheVariants.{Front}
 use Rattle.slice_group_by.specs.Split.{split}
-use Rattle.example_walks.specs.Columns.{sum_beside}
 use Rattle.example_walks.proofs.columns.sums_per_key.Goals as goal
 
 -- what the program makes of a piece of the keys and the values beside it
