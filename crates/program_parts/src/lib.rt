@@ -5,6 +5,7 @@
 pub mod arguments;
 pub mod blocks;
 pub mod input;
+pub mod line_blocks;
 pub mod lines;
 pub mod omitted;
 pub mod pairs;
