@@ -17,7 +17,7 @@ use crate::program::USAGE;
 use program_parts::arguments::{Refusal, arguments, explain, refusal_of};
 use program_parts::input::{NamedFile, open_two};
 use std::io;
-use std::io::BufWriter;
+use std::io::{BufReader, BufWriter};
 use std::process::ExitCode;
 
 fn main(rt: HostRuntime) -> io::Result<ExitCode> {
@@ -35,10 +35,12 @@ fn main(rt: HostRuntime) -> io::Result<ExitCode> {
     };
     let index_file = NamedFile::new(rt.alloc(), index_name)?;
     let queries_file = NamedFile::new(rt.alloc(), queries_name)?;
-    let (index, queries) = match open_two(&rt, "index_reader", &index_file, &queries_file)? {
+    let (index, queries) = match open_two(&rt, "index_reader", &index_file, &queries_file) {
         Ok(opened) => opened,
         Err(status) => return Ok(ExitCode::from(status)),
     };
+    let index = BufReader::with_capacity(rt.alloc(), 65536, index)?;
+    let queries = BufReader::with_capacity(rt.alloc(), 65536, queries)?;
     let status = program::run(
         rt.alloc(),
         &index_file.shown,

@@ -2,11 +2,10 @@
 use Rattle.std.proofs.Common.{◌≡◌, ◌≢◌, ℕ, Bool, true, false, eqb, List, [], ◌∷◌, ◌++◌, Option, None, Some, IfSome, inl, inr}
 use Rattle.std.proofs.Common.{refl, sym, ap, ◌∙◌, append-nil}
 use Rattle.std.specs.Prelude.{if◌then◌else◌}
-use Rattle.std.specs.Io.BufRead.{drop_through, take_through, ends_with_byte, first_line, first_piece, strip_last, DropsThrough}
-use Rattle.std.specs.Io.KnownBytes.{Consumes, IsAtEnd, prepend_known}
-use Rattle.std.proofs.KnownBytes.{Consumes-nil}
+use Rattle.std.specs.Io.BufRead.{drop_through, take_through, ends_with_byte, first_line, strip_last, DropsThrough}
+use Rattle.std.specs.Io.KnownBytes.{Consumes, prepend_known}
 use Rattle.program_parts.specs.Blocks.{IsWhole}
-use Rattle.program_parts.specs.Lines.{AreLines, GivesLines}
+use Rattle.program_parts.specs.Lines.{GivesLines}
 
 IsFed : List ℕ → Type 0
 IsFed xs = (front : List ℕ) × (xs ≡ front ++ 10 ∷ [])

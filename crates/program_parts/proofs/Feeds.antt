@@ -68,3 +68,20 @@ before_feed xs feed n inside short at feeds = by (nat_eq n feed) refl
         let long = length-take feed xs in
         let byte = sym (get_or-take feed xs n 0 less) ∙ at (omega (arith, long)) in
         omega (arith, byte)
+
+-- fewer bytes stand behind it
+pub fewer_behind : (xs : List ℕ) → xs ≢ [] → length (drop_through 10 xs) < length xs
+fewer_behind [] some = absurd (some refl)
+fewer_behind (x ∷ xs) some = by (is_feed x) refl (behind xs)
+  where
+    behind : (xs : List ℕ) → length (drop_through 10 xs) ≤ length xs
+    behind [] = omega arith
+    behind (x ∷ xs) = of (is_feed x) refl (behind xs)
+      where
+        of : (b : Bool) → is_feed x ≡ b → length (drop_through 10 xs) ≤ length xs → length (drop_through 10 (x ∷ xs)) ≤ length (x ∷ xs)
+        of true e least = rw e (omega arith)
+        of false e least = rw e (omega arith)
+
+    by : (b : Bool) → is_feed x ≡ b → length (drop_through 10 xs) ≤ length xs → length (drop_through 10 (x ∷ xs)) < length (x ∷ xs)
+    by true e least = rw e (omega arith)
+    by false e least = rw e (omega arith)

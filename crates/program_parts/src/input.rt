@@ -4,7 +4,7 @@ use std::alloc::{AllocError, Global};
 use std::cell::Cell;
 use std::fs::File;
 use std::io;
-use std::io::{BufReader, ErrorKind, Read, Stdin, Write};
+use std::io::{ErrorKind, Read, Stdin, Write};
 
 /// A file by its name, or standard input by a dash. It has the name as complaints show it, with control characters
 /// escaped, and notes whether a read failed.
@@ -70,29 +70,28 @@ impl<'a> Input<'a> {
     }
 }
 
-/// Opens two files, each behind a buffer of 64 KiB. Where that fails, a line of complaint says why, and the inner `Err` is the
+/// Opens two files. Where that fails, a line of complaint says why, and the `Err` is the
 /// status of the program: 2 if both are standard input, 1 if one cannot be opened.
 pub fn open_two<'a>(
     rt: &HostRuntime,
     program: &str,
     first: &'a NamedFile,
     second: &'a NamedFile,
-) -> io::Result<Result<(BufReader<Input<'a>>, BufReader<Input<'a>>), u8>> {
+) -> Result<(Input<'a>, Input<'a>), u8> {
     if first.is_stdin() && second.is_stdin() {
         let _ = writeln!(
             rt.stderr(),
             "{program}: both files cannot be standard input"
         );
-        return Ok(Err(2));
+        return Err(2);
     }
     let Some(first) = Input::open(rt, program, first) else {
-        return Ok(Err(1));
+        return Err(1);
     };
     let Some(second) = Input::open(rt, program, second) else {
-        return Ok(Err(1));
+        return Err(1);
     };
-    let first = BufReader::with_capacity(rt.alloc(), 65536, first)?;
-    Ok(Ok((first, BufReader::with_capacity(rt.alloc(), 65536, second)?)))
+    Ok((first, second))
 }
 
 impl<'a> Read for Input<'a> {

@@ -74,6 +74,11 @@ impl<R: Read + Drop> LineBlocks<R> {
         Err(io::Error::other("the input does not end"))
     }
 
+    /// How many bytes the block has.
+    pub fn block_len(&self) -> usize {
+        self.text.len()
+    }
+
     /// The lines of the block.
     pub fn block(&self) -> Block<'_>
         ensures { result ≡ self.now.text.items }

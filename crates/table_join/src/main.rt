@@ -10,7 +10,7 @@ mod kind;
 mod output;
 mod problem;
 mod program;
-mod row;
+mod rows;
 mod run;
 mod table;
 
@@ -37,7 +37,7 @@ fn main(rt: HostRuntime) -> io::Result<ExitCode> {
     };
     let left_file = NamedFile::new(rt.alloc(), left_name)?;
     let right_file = NamedFile::new(rt.alloc(), right_name)?;
-    let (left, right) = match open_two(&rt, "table_join", &left_file, &right_file)? {
+    let (left, right) = match open_two(&rt, "table_join", &left_file, &right_file) {
         Ok(opened) => opened,
         Err(status) => return Ok(ExitCode::from(status)),
     };

@@ -7,7 +7,7 @@ use crate::run::join_tables;
 use program_parts::input::NamedFile;
 use program_parts::status::status_of;
 use std::alloc::Global;
-use std::io::{BufRead, Write};
+use std::io::{Read, Write};
 
 /// What `--help` writes.
 pub const USAGE: &str = "\
@@ -35,7 +35,7 @@ line must fit in memory, and so must the rows of one key.
 
 /// Joins two tables, and gives back the status: 0, or 1 where it failed or a line is left out. What went wrong is said in lines
 /// of complaint.
-pub fn run<L: BufRead + Drop, R: BufRead + Drop, W: Write, E: Write>(
+pub fn run<L: Read + Drop, R: Read + Drop, W: Write, E: Write>(
     alloc: Global,
     kind: Kind,
     left_name: &str,

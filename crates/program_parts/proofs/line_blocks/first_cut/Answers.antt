@@ -1,9 +1,8 @@
-use Rattle.std.proofs.Common.{List, ◌≡◌, ◌≢◌, ℕ, ◌<◌, ◌≤◌, ◌+◌, ◌∙◌, false, true, eqb, get_or, length, take, drop, sym, ap, subst, arith, length-take}
+use Rattle.std.proofs.Common.{List, ◌≡◌, ℕ, ◌<◌, ◌≤◌, ◌+◌, ◌∙◌, true, eqb, get_or, length, take, drop, sym, arith, length-take}
 use Rattle.std.proofs.lemmas.Bool.{eqb-true}
 use Rattle.std.proofs.lemmas.List.{take-take, take_all, drop_all}
 use Rattle.std.proofs.lemmas.Str.{IsCharBoundary-before_ascii, IsCharBoundary-after_ascii}
 use Rattle.std.specs.Io.BufRead.{drop_through, first_line, strip_last}
-use Rattle.memchr.specs.Find.{NoneBefore}
 use Rattle.program_parts.proofs.Feeds.{line_at_feed, line_no_feed, not_true, before_feed}
 use Rattle.program_parts.proofs.line_blocks.first_cut.Goals as goal
 
