@@ -2,7 +2,7 @@
 ghost use Rattle.std.specs.List.{AllByRecursion};
 ghost use Rattle.std.specs.Prelude.{◌≡◌, ◌+◌, ◌++◌, ℕ, List, flat_map, length, map, IfOk, OnOk, None};
 ghost use Rattle.std.specs.Str.{IsCharBoundary};
-ghost use Rattle.slice_group_simd.specs.AsciiClass.TheVariants.{Letter};
+ghost use Rattle.slice_group_simd.specs.declared.AsciiClass.TheVariants.{Letter};
 ghost use Rattle.slice_group_simd.specs.Counted.{class_count, same_class};
 ghost use Rattle.slice_group_by.specs.Offsets.{with_offsets};
 ghost use Rattle.slice_group_by.specs.Split.{last, split};

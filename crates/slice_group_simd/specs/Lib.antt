@@ -10,4 +10,3 @@ pub use Rattle.sgb_split.specs.Calls
 pub use Rattle.sgb_split.specs.Linear
 pub use Rattle.sgb_split.specs.declared.end.End
 pub use Rattle.sgb_numbers.specs.Numbers
-pub use Rattle.slice_group_simd.specs.declared.ascii_classes.AsciiClass

@@ -4,7 +4,7 @@ ghost use Rattle.std.specs.Ordering.{nat_cmp};
 ghost use Rattle.slice_group_by.specs.Split.{IsGrouped};
 ghost use Rattle.slice_merge_join.specs.Merge.{IsMerge};
 ghost use Rattle.slice_group_by.specs.Matches.{has_partner, partner_count, match_count};
-ghost use Rattle.slice_merge_join.specs.EitherOrBoth.TheVariants.{Left, Right, Both};
+ghost use Rattle.slice_merge_join.specs.declared.EitherOrBoth.TheVariants.{Left, Right, Both};
 
 // Unequal elements are grouped for `!=`, and equal ones apart are not for `==`.
 pub fn group_cases()

@@ -6,8 +6,8 @@ use Rattle.std.proofs.lemmas.Bool.Decides.{nat_tests}
 use Rattle.std.proofs.lemmas.Str.{encode_ascii, inside_one, length-encode, len_utf8_bounds, encodes-chars}
 use Rattle.std.specs.Str.{chars, IsUtf8}
 use lib.Utf8.{encode, encodes}
-use Rattle.slice_group_simd.specs.AsciiClass.{AsciiClass}
-use Rattle.slice_group_simd.specs.AsciiClass.TheVariants.{Letter, Digit, Space, Other}
+use Rattle.slice_group_simd.specs.declared.AsciiClass.{AsciiClass}
+use Rattle.slice_group_simd.specs.declared.AsciiClass.TheVariants.{Letter, Digit, Space, Other}
 use Rattle.slice_group_simd.specs.AsciiBytes.{ascii_class, is_class}
 use Rattle.slice_group_simd.specs.Counted.{class_count}
 use Rattle.slice_group_simd.specs.Starts.{begins}

@@ -1,7 +1,7 @@
 -- The tokens of a text, and what is printed of them.
 use Rattle.std.specs.Prelude.{ℕ, List, [], ◌∷◌, ◌++◌, None, codes, decimal}
-use Rattle.slice_group_simd.specs.AsciiClass.{AsciiClass}
-use Rattle.slice_group_simd.specs.AsciiClass.TheVariants.{Letter, Digit, Space, Other}
+use Rattle.slice_group_simd.specs.declared.AsciiClass.{AsciiClass}
+use Rattle.slice_group_simd.specs.declared.AsciiClass.TheVariants.{Letter, Digit, Space, Other}
 use Rattle.slice_group_simd.specs.Counted.{class_count}
 
 -- how many tokens of the class the text has: the longest runs of bytes or characters of it

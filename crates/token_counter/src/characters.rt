@@ -1,7 +1,7 @@
 //! The tokens of a text are those of its bytes.
 ghost use Rattle.std.specs.Prelude.{◌≡◌, ℕ, List};
 ghost use Rattle.std.specs.Str.{chars, IsUtf8};
-ghost use Rattle.slice_group_simd.specs.AsciiClass.{AsciiClass};
+ghost use Rattle.slice_group_simd.specs.declared.AsciiClass.{AsciiClass};
 ghost use Rattle.token_counter.specs.Tokens.{token_count};
 
 use slice_group_simd::laws::class_counts_add_up;

@@ -1,6 +1,6 @@
 //! Counts the tokens of a text in one pass over its blocks.
 ghost use Rattle.std.specs.Prelude.{◌≡◌, ◌-◌, ◌^◌, ◌<◌, IfOk, IfSome};
-ghost use Rattle.slice_group_simd.specs.AsciiClass.{AsciiClass};
+ghost use Rattle.slice_group_simd.specs.declared.AsciiClass.{AsciiClass};
 ghost use Rattle.slice_group_simd.specs.Counted.{count_of};
 ghost use Rattle.token_counter.specs.Tokens.{token_count};
 

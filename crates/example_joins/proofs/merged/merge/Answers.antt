@@ -2,7 +2,7 @@ use Rattle.std.proofs.Common.{sym, ap, ◌∙◌, ◌≡◌, ◌++◌, List, fla
 use Rattle.std.proofs.lemmas.List.{take_all, map-id}
 use Rattle.std.proofs.lemmas.List.Folds.{flat_map-map}
 use Rattle.std.specs.List.Sorted.{IsPermutation}
-use Rattle.slice_merge_join.specs.EitherOrBoth.{EitherOrBoth}
+use Rattle.slice_merge_join.specs.declared.EitherOrBoth.{EitherOrBoth}
 use Rattle.slice_merge_join.specs.Merge.{lefts, rights, IsMerge}
 use Rattle.slice_group_by.specs.Search.{NeverDescends}
 use Rattle.example_joins.specs.Names.{shown_groups}

@@ -4,8 +4,8 @@ use Rattle.std.proofs.lemmas.Fn.{always_returns_same}
 use Rattle.std.proofs.lemmas.Iterator.{YieldsList-from_map_by}
 use Rattle.std.proofs.lemmas.Iterator.Consumers.{YieldsList-at, map_from_collect}
 use Rattle.slice_merge_join.specs.Asking.{shown}
-use Rattle.slice_merge_join.specs.EitherOrBoth.{EitherOrBoth}
-use Rattle.slice_merge_join.specs.EitherOrBoth.TheVariants.{Left, Right, Both}
+use Rattle.slice_merge_join.specs.declared.EitherOrBoth.{EitherOrBoth}
+use Rattle.slice_merge_join.specs.declared.EitherOrBoth.TheVariants.{Left, Right, Both}
 use Rattle.slice_merge_join.specs.Merge.{lefts, rights}
 use Rattle.slice_merge_join.specs.Values.{or_of}
 use Rattle.example_joins.specs.Names.{shown_groups}

@@ -1,4 +1,4 @@
-use Rattle.slice_group_simd.specs.AsciiClass.TheVariants.{Letter}
+use Rattle.slice_group_simd.specs.declared.AsciiClass.TheVariants.{Letter}
 use Rattle.example_walks.proofs.tokens.count_words.Goals as goal
 
 pub returns : goal.returns

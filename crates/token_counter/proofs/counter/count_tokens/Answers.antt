@@ -2,7 +2,7 @@ use Rattle.std.proofs.Common.{◌≡◌, ◌++◌, [], append-nil, take, arith, 
 use Rattle.std.proofs.lemmas.Result.{IfOk-weaker}
 use Rattle.std.proofs.lemmas.Grind.{common_steps}
 use Rattle.std.proofs.KnownBytes.{Consumes-nil, Consumes-trans, Consumes-whole}
-use Rattle.slice_group_simd.specs.AsciiClass.{AsciiClass}
+use Rattle.slice_group_simd.specs.declared.AsciiClass.{AsciiClass}
 use Rattle.slice_group_simd.specs.Counted.{count_of}
 use Rattle.slice_group_simd.specs.Counters.{HasTaken}
 use Rattle.token_counter.specs.Tokens.{token_count}

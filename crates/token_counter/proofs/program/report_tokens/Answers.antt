@@ -2,8 +2,8 @@ use Rattle.std.proofs.Common.{◌≡◌, ℕ, List, Option, Some, None, IfSome, 
 use Rattle.std.specs.Str.{chars}
 use Rattle.std.specs.Io.KnownBytes.{Appends}
 use Rattle.std.proofs.KnownBytes.{Appends-kept}
-use Rattle.slice_group_simd.specs.AsciiClass.{AsciiClass}
-use Rattle.slice_group_simd.specs.AsciiClass.TheVariants.{Letter, Digit, Space, Other}
+use Rattle.slice_group_simd.specs.declared.AsciiClass.{AsciiClass}
+use Rattle.slice_group_simd.specs.declared.AsciiClass.TheVariants.{Letter, Digit, Space, Other}
 use Rattle.slice_group_simd.specs.Counted.{count_of}
 use Rattle.program_parts.proofs.Appended.{on_ok}
 use Rattle.token_counter.specs.Tokens.{report, token_count}
