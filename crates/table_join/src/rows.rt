@@ -108,8 +108,8 @@ impl Rows {
     /// How long the lines behind so many rows are together.
     pub fn len_behind(&self, count: usize) -> usize {
         let mut sum = 0usize;
-        for len in self.lens.iter().skip(count) {
-            sum = sum.saturating_add(len.line);
+        for len in self.lens.get(count..).unwrap_or(&[]) {
+            sum = sum.wrapping_add(len.line);
         }
         sum
     }
