@@ -1,4 +1,4 @@
-use Rattle.std.proofs.Common.{◌≡◌, ◌≤◌, ℕ, List, length, take, drop, ap, sym, ◌∙◌, arith}
+use Rattle.std.proofs.Common.{◌≡◌, ◌≤◌, ℕ, List, length, take, drop, ap, ◌∙◌, arith}
 use Rattle.table_join.specs.Lens.{total}
 use Rattle.table_join.specs.Rows.{Row}
 use Rattle.table_join.specs.Texts.{rows_in, AreRowLines}
