@@ -5,6 +5,8 @@ use slice_group_by::adapters::{DedupWithCount, Offsets, WithKeys, WithOffsets};
 use slice_group_by::laws::{RemainderLen, SliceQueue, SliceQueueMut};
 use slice_group_by::loans::{Ended, Loans};
 use slice_group_by::*;
+use slice_group_simd::{ByteClasses, Lanes, LinearClassGroup, LinearNumberGroup};
+use slice_merge_join::{EitherOrBoth, MergeJoinBy};
 use std::cmp::Ordering;
 use std::fmt::Debug;
 use std::iter::FusedIterator;

@@ -6,6 +6,7 @@ ghost use Rattle.slice_group_by.specs.Split.{AreApart, AreNeighbours};
 ghost use Rattle.slice_group_by.specs.Judges.{IsCallableOn};
 
 use slice_group_by::*;
+use slice_merge_join::{EitherOrBoth, MergeJoinBy, joinable_prefixes};
 use std::cmp::Ordering;
 use std::fmt::Debug;
 
