@@ -18,7 +18,7 @@ use crate::program::USAGE;
 use program_parts::arguments::{arguments, explain, one_file};
 use program_parts::input::{Input, NamedFile};
 use std::io;
-use std::io::{BufReader, BufWriter};
+use std::io::BufWriter;
 use std::process::ExitCode;
 
 fn main(rt: HostRuntime) -> io::Result<ExitCode> {
@@ -38,7 +38,6 @@ fn main(rt: HostRuntime) -> io::Result<ExitCode> {
     let Some(input) = Input::open(&rt, "grouped_report", &file) else {
         return Ok(ExitCode::from(1));
     };
-    let input = BufReader::new(rt.alloc(), input)?;
     let status = program::run(
         rt.alloc(),
         &file.shown,

@@ -6,7 +6,7 @@ use crate::run::report_rows;
 use program_parts::input::NamedFile;
 use program_parts::status::status_of;
 use std::alloc::Global;
-use std::io::{BufRead, Write};
+use std::io::{Read, Write};
 
 /// What `--help` writes.
 pub const USAGE: &str = "\
@@ -25,7 +25,7 @@ wrong. A line must fit in memory.
 
 /// Writes the report of the rows, and gives back the status: 0, or 1 where it failed or a line is left out. What went
 /// wrong is said in lines of complaint.
-pub fn run<R: BufRead + Drop, W: Write, E: Write>(
+pub fn run<R: Read + Drop, W: Write, E: Write>(
     alloc: Global,
     name: &str,
     input: R,

@@ -1,7 +1,5 @@
 //! Rows, as they stand in lines.
-ghost use Rattle.std.specs.Prelude.{◌≡◌, ℕ, List, ◌<◌, ◌^◌, ◌++◌, codes, decimal, IfErr, IfOk, MatchResult};
-ghost use Rattle.std.specs.Str.{IsUtf8};
-ghost use Rattle.program_parts.specs.Pairs.{HasComma};
+ghost use Rattle.std.specs.Prelude.{IfErr, IfOk};
 ghost use Rattle.grouped_report.specs.Input.{Says, IsWrong};
 
 use std::fmt;
@@ -24,18 +22,12 @@ impl fmt::Display for Problem {
     }
 }
 
-/// The row that a line is: the department is the text before the first comma, and the amount the number after it. Each
-/// row that is written as `department,amount` is read.
-pub fn parse_row(line: &[u8]) -> Result<(&str, u64), Problem>
+/// The row that a line is: the department is the text before the first comma, and the amount the number after it.
+pub fn parse_row(line: &str) -> Result<(&str, u64), Problem>
     ensures says { IfOk result (λ row. Says line.now (record { department = row.0.now; amount = row.1 })) }
     ensures wrong { IfErr result (IsWrong line.now) }
-    ensures written { (d : List ℕ) (a : ℕ) → IsUtf8 d → (HasComma d → ⊥) → a < 2 ^ 64
-        → line.now ≡ d ++ codes "," ++ decimal a → MatchResult result (λ row. (row.0.now ≡ d) × (row.1 ≡ a)) (λ _. ⊥) }
 {
-    let Ok(text) = str::from_utf8(line) else {
-        return Err(Problem::NoText);
-    };
-    let Some((department, amount)) = text.split_once(',') else {
+    let Some((department, amount)) = line.split_once(',') else {
         return Err(Problem::NoComma);
     };
     let Ok(amount) = amount.parse::<u64>() else {

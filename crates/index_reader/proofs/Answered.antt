@@ -1,5 +1,5 @@
 -- What is found for each query of a block.
-use Rattle.std.proofs.Common.{◌≡◌, ◌≢◌, Bool, true, false, nat_eq, set, subst, take, ◌+◌, ℕ, ◌<◌, suc, List, [], ◌∷◌, ◌++◌, length, map, flat_map, get_or, append_assoc, Option, refl, sym, ap, ◌∙◌, arith}
+use Rattle.std.proofs.Common.{◌≡◌, ◌≢◌, Bool, true, false, nat_eq, set, subst, take, ◌+◌, ℕ, ◌<◌, suc, List, [], ◌∷◌, ◌++◌, length, map, flat_map, get_or, Option, refl, sym, ap, ◌∙◌, arith}
 use Rattle.std.proofs.lemmas.Bool.{false≢true}
 use Rattle.std.specs.Prelude.{All, HoldsAt, IsPermutation}
 use Rattle.std.specs.List.{enumerate_from}
@@ -104,10 +104,3 @@ pub answers_both : (index : List Entry) (xs ys : List ℕ) (before mid after : O
 answers_both index xs ys before mid after h k =
     rw (flat_map-append (λ key. answer_line key (of_key key index)) xs ys)
     (appends_both before mid after (answers index xs) (answers index ys) h k)
-
--- one query more, where some of those that wait are answered
-pub then_more : (done more rest keys all : List ℕ) (key : ℕ) → more ++ rest ≡ keys → all ≡ rest ++ key ∷ []
-    → (done ++ more) ++ all ≡ (done ++ keys) ++ key ∷ []
-then_more done more rest keys all key split is =
-    ap (λ l. (done ++ more) ++ l) is ∙ sym (append_assoc (done ++ more) rest (key ∷ []))
-    ∙ ap (λ l. l ++ key ∷ []) (append_assoc done more rest ∙ ap (λ l. done ++ l) split)

@@ -1,11 +1,11 @@
 -- An index of which the front is known to be lower than a key.
-use Rattle.std.proofs.Common.{◌≡◌, ℕ, ◌+◌, ◌-◌, ◌<◌, suc, nat_eq, true, false, List, [], ◌∷◌, ◌++◌, length, take, drop, append-nil, refl, sym, ap, subst, ◌∙◌, arith}
+use Rattle.std.proofs.Common.{◌≡◌, ℕ, ◌+◌, ◌-◌, ◌<◌, suc, nat_eq, true, false, List, [], ◌∷◌, ◌++◌, length, take, drop, refl, sym, ap, subst, ◌∙◌, arith}
 use Rattle.std.specs.Prelude.{All}
 use Rattle.std.specs.List.{filter}
 use Rattle.std.specs.Ordering.{is_lt, nat_cmp}
 use Rattle.std.proofs.Math.Seq.{take-add, take-append_seam}
 use Rattle.std.proofs.lemmas.Bool.Decides.{nat_tests}
-use Rattle.std.proofs.lemmas.List.{drop_all, length-drop, take_all, take-append-drop}
+use Rattle.std.proofs.lemmas.List.{length-drop, take_all, take-append-drop}
 use Rattle.std.proofs.lemmas.List.Elements.{All-append, filter-append, filter_passes}
 use Rattle.index_reader.specs.Keys.{of_key}
 use Rattle.index_reader.specs.declared.entry.Entry.{Entry}
@@ -48,8 +48,3 @@ module _ (key : ℕ) where
       subst (All IsLower) (sym (take-add n m xs))
       (All-append IsLower (take n xs) (take m (drop n xs)) all
       (subst (All IsLower) (sym (front_is m (drop n xs) lows others whole is)) more))
-
--- a vector whose elements were changed as a slice has those of the slice
-pub all_changed : {X : Type 0} (n : ℕ) (ys xs : List X) → n ≡ length xs → length ys ≡ length xs → take n (ys ++ drop (length ys) xs) ≡ ys
-all_changed n ys xs e f =
-    ap (take n) (ap (λ l. ys ++ l) (drop_all (length ys) xs (omega (arith, f))) ∙ append-nil ys) ∙ take_all n ys (omega (arith, e, f))

@@ -4,11 +4,13 @@ use Rattle.std.specs.List.{filter, slice_get}
 use Rattle.std.specs.Option.{option_map}
 use Rattle.std.specs.List.Sorted.{IsNonDecreasingBy}
 use Rattle.std.specs.Str.{IsUtf8}
-use Rattle.program_parts.specs.Pairs as pairs
-use Rattle.program_parts.specs.Pairs.{Says, IsNoNumber}
-use Rattle.index_reader.specs.declared.entry.Problem.{Problem}
-use Rattle.index_reader.specs.declared.entry.Problem.TheVariants.{NoEntry, Lower, NoQuery, QueryNoText}
+use Rattle.program_parts.specs.Pairs.{HasComma, first_text, second_text, IsNumber, IsNoNumber}
 use Rattle.index_reader.specs.declared.entry.Entry.{Entry}
+use Rattle.index_reader.specs.declared.entry.Problem.{Problem}
+use Rattle.index_reader.specs.declared.entry.Problem.TheVariants as problem
+use Rattle.index_reader.specs.declared.entry.Problem.TheVariants.{NoComma, NoPlace, Lower}
+use Rattle.index_reader.specs.declared.query.QueryProblem.{QueryProblem}
+use Rattle.index_reader.specs.declared.query.QueryProblem.TheVariants as query
 
 -- the keys ascend, where one may stand several times
 abbrev pub IsAscending : List Entry → Type 0
@@ -28,15 +30,22 @@ of_key key entries = filter (λ entry. nat_eq entry.key key) entries
 abbrev pub greatest : List Entry → Option ℕ
 greatest entries = option_map (λ entry. entry.key) (slice_get entries (length entries - 1))
 
--- this is wrong with the line as the next of an index with these entries: it says no two numbers, or its key is too low
-abbrev pub IsWrong : List Entry → List ℕ → Problem → Type 0
-IsWrong index line (NoEntry error) = pairs.IsWrong line error
-IsWrong index line (Lower key most) = (place : ℕ) × Says line key place × (key < most) × (greatest index ≡ Some most)
-IsWrong index line NoQuery = ⊥
-IsWrong index line QueryNoText = ⊥
+-- the line says this entry
+pub record Says (line : List ℕ) (entry : Entry) : Type 0 where
+  pub comma : HasComma line
+  pub key_is : IsNumber 32 (first_text line) entry.key
+  pub place_is : IsNumber 64 (second_text line) entry.place
 
--- and this is wrong with it as a query: it is no text, or no number
-abbrev pub IsWrongQuery : List ℕ → Problem → Type 0
-IsWrongQuery line QueryNoText = IsUtf8 line → ⊥
-IsWrongQuery line NoQuery = IsUtf8 line × IsNoNumber 32 line
-IsWrongQuery line _ = ⊥
+-- this is wrong with it as the next of an index with these entries, and nothing that the cases before it name
+abbrev pub IsWrong : List Entry → List ℕ → Problem → Type 0
+IsWrong index line problem.NoText = IsUtf8 line → ⊥
+IsWrong index line NoComma = IsUtf8 line × (HasComma line → ⊥)
+IsWrong index line problem.NoKey = IsUtf8 line × HasComma line × IsNoNumber 32 (first_text line)
+IsWrong index line NoPlace = (key : ℕ) × IsUtf8 line × HasComma line × IsNumber 32 (first_text line) key × IsNoNumber 64 (second_text line)
+IsWrong index line (Lower key most) =
+    (place : ℕ) × Says line (record { key = key; place = place }) × (key < most) × (greatest index ≡ Some most)
+
+-- and this is wrong with it as a query
+abbrev pub IsWrongQuery : List ℕ → QueryProblem → Type 0
+IsWrongQuery line query.NoText = IsUtf8 line → ⊥
+IsWrongQuery line query.NoKey = IsUtf8 line × IsNoNumber 32 line

@@ -2,15 +2,16 @@
 use Rattle.std.specs.Prelude.{◌≡◌, ℕ, ◌-◌, ◌^◌, nat_eq, min, List, [], ◌∷◌, ◌++◌, length, flat_map, Bool, ◌&&◌, cond, Option, codes, decimal}
 use Rattle.std.specs.Io.KnownBytes.{Appends}
 use Rattle.program_parts.specs.Read.{AreRead}
-use Rattle.program_parts.specs.Pairs.{Says, IsNumber}
-use Rattle.index_reader.specs.Keys.{IsAscending, IsWrong, IsWrongQuery, of_key}
+use Rattle.program_parts.specs.Pairs.{IsNumber}
+use Rattle.index_reader.specs.Keys.{IsAscending, Says, IsWrong, IsWrongQuery, of_key}
 use Rattle.index_reader.specs.Answers.{answer_line}
 use Rattle.index_reader.specs.declared.entry.Entry.{Entry}
 use Rattle.index_reader.specs.declared.entry.Problem.{Problem}
+use Rattle.index_reader.specs.declared.query.QueryProblem.{QueryProblem}
 
 -- a line says an entry that may follow these, or this is wrong with it
 abbrev pub SaysEntry : List Entry → List ℕ → Entry → Type 0
-SaysEntry before line entry = Says line entry.key entry.place × IsAscending (before ++ entry ∷ [])
+SaysEntry before line entry = Says line entry × IsAscending (before ++ entry ∷ [])
 
 abbrev pub IsNoEntry : List Entry → List ℕ → Problem → Type 0
 IsNoEntry before line problem = IsWrong before line problem
@@ -19,7 +20,7 @@ IsNoEntry before line problem = IsWrong before line problem
 abbrev pub SaysQuery : List ℕ → List ℕ → ℕ → Type 0
 SaysQuery before line key = IsNumber 32 line key
 
-abbrev pub IsNoQuery : List ℕ → List ℕ → Problem → Type 0
+abbrev pub IsNoQuery : List ℕ → List ℕ → QueryProblem → Type 0
 IsNoQuery before line problem = IsWrongQuery line problem
 
 -- the answers to queries, in order, and how many there are

@@ -13,31 +13,11 @@ use std::alloc::{AllocError, Global};
 use std::io;
 use std::io::Write;
 
-// So many queries are answered together.
-const MOST: usize = 65536;
-
 /// A query: its key, and how many stand before it.
 #[derive(Clone, Copy)]
 pub struct Query {
     pub key: u32,
     pub number: usize,
-}
-
-/// Writes the answers to the queries of these keys and takes them off, if there are as many as are answered together.
-pub fn answer_if_full<W: Write>(
-    alloc: Global,
-    index: &Index,
-    keys: &mut Vec<u32>,
-    out: &mut W,
-) -> io::Result<()>
-    ensures { OnOk result ((done : List ℕ) × (done ++ keys.new.items ≡ keys.old.items)
-        × Appends (W.contents out.old) (W.contents out.new) (answers index.now done)) }
-{
-    if keys.len() >= MOST {
-        answer_block(alloc, index, keys, out)?;
-        keys.clear();
-    }
-    Ok(())
 }
 
 /// Writes the answers to the queries of these keys, in their order.

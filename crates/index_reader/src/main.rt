@@ -11,13 +11,14 @@ mod index;
 mod lookup;
 mod output;
 mod program;
+mod query;
 mod run;
 
 use crate::program::USAGE;
 use program_parts::arguments::{Refusal, arguments, explain, refusal_of};
 use program_parts::input::{NamedFile, open_two};
 use std::io;
-use std::io::{BufReader, BufWriter};
+use std::io::BufWriter;
 use std::process::ExitCode;
 
 fn main(rt: HostRuntime) -> io::Result<ExitCode> {
@@ -39,8 +40,6 @@ fn main(rt: HostRuntime) -> io::Result<ExitCode> {
         Ok(opened) => opened,
         Err(status) => return Ok(ExitCode::from(status)),
     };
-    let index = BufReader::with_capacity(rt.alloc(), 65536, index)?;
-    let queries = BufReader::with_capacity(rt.alloc(), 65536, queries)?;
     let status = program::run(
         rt.alloc(),
         &index_file.shown,

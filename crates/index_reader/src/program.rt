@@ -6,7 +6,7 @@ use crate::run::answer_all;
 use program_parts::input::NamedFile;
 use program_parts::status::status_of;
 use std::alloc::Global;
-use std::io::{BufRead, Write};
+use std::io::{Read, Write};
 
 /// What `--help` writes.
 pub const USAGE: &str = "\
@@ -28,7 +28,7 @@ is 2 where an argument is wrong. The index must fit in memory, and so must a lin
 
 /// Answers the queries by the index, and gives back the status: 0, or 1 where it failed or a line is left out. What went
 /// wrong is said in lines of complaint.
-pub fn run<I: BufRead + Drop, Q: BufRead + Drop, W: Write, E: Write>(
+pub fn run<I: Read + Drop, Q: Read + Drop, W: Write, E: Write>(
     alloc: Global,
     index_name: &str,
     index: I,

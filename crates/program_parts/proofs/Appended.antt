@@ -31,14 +31,6 @@ appends_more a b c f xs i d l h k =
     ∙ ap (λ t. flat_map f (take i xs) ++ t) (append-nil (f (get_or xs i d))) in
     subst (Appends a c) (sym e) (appends_both a b c (flat_map f (take i xs)) (f (get_or xs i d)) h k)
 
--- the text of one element at the end
-pub appends_last : {X : Type 0} (a b c : Option (List ℕ)) (f : X → List ℕ) (xs : List X) (x : X)
-    → Appends a b (flat_map f xs) → Appends b c (f x) → Appends a c (flat_map f (xs ++ x ∷ []))
-appends_last a b c f xs x h k =
-    let e : flat_map f (xs ++ x ∷ []) ≡ flat_map f xs ++ f x =
-    flat_map-append f xs (x ∷ []) ∙ ap (λ t. flat_map f xs ++ t) (append-nil (f x)) in
-    subst (Appends a c) (sym e) (appends_both a b c (flat_map f xs) (f x) h k)
-
 -- what is written stays written
 pub appends_kept : (a b c : Option (List ℕ)) (text : List ℕ) → Appends a b text → Keeps b c → Appends a c text
 appends_kept None b c text p q = tt

@@ -1,5 +1,6 @@
 -- A block that was read, and the front of a line behind it.
-use Rattle.std.proofs.Common.{◌≡◌, ℕ, ◌+◌, ◌-◌, ◌≤◌, List, [], ◌∷◌, ◌++◌, take, drop, Option, None, Some, inl, length, sym, ap, ◌∙◌, arith, append_assoc, append-nil}
+use Rattle.std.proofs.Common.{◌≡◌, ◌≢◌, ◌↔◌, ℕ, ◌+◌, ◌-◌, ◌≤◌, Bool, true, false, IsTrue, List, [], ◌∷◌, ◌++◌, take, drop, length}
+use Rattle.std.proofs.Common.{Option, None, Some, inl, refl, sym, ap, ◌∙◌, arith, append_assoc, append-nil}
 use Rattle.std.proofs.lemmas.List.{drop_all, take_all}
 use Rattle.std.specs.Prelude.{slice_range}
 use Rattle.std.specs.Io.KnownBytes.{Consumes, prepend_known}
@@ -36,3 +37,8 @@ whole_read left text new end grown (front, fed) =
 pub all_changed : {X : Type 0} (n : ℕ) (ys xs : List X) → n ≡ length xs → length ys ≡ length xs → take n (ys ++ drop (length ys) xs) ≡ ys
 all_changed n ys xs e f =
     ap (take n) (ap (λ l. ys ++ l) (drop_all (length ys) xs (omega (arith, f))) ∙ append-nil ys) ∙ take_all n ys (omega (arith, e, f))
+
+-- no byte is read where no line is found
+pub none_read : (block : List ℕ) (found : Bool) → IsTrue found ↔ (block ≢ []) → found ≡ false → block ≡ []
+none_read [] found is none = refl
+none_read (x ∷ xs) found is none = let yes : found ≡ true = is.1 (λ e. cc) in cc

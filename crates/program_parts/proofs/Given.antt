@@ -1,7 +1,7 @@
 -- The lines that a reader gave so far.
-use Rattle.std.proofs.Common.{◌≡◌, ◌≢◌, ◌↔◌, ℕ, Bool, true, false, IsTrue, List, [], ◌∷◌}
-use Rattle.std.proofs.Common.{◌++◌, codes, Option, None, Some, IfSome, refl, sym, ap, ◌∙◌, subst, append_assoc, append-nil}
-use Rattle.std.specs.Io.BufRead.{first_line, drop_through, DropsThrough}
+use Rattle.std.proofs.Common.{◌≡◌, ◌≢◌, ℕ, List, [], ◌∷◌}
+use Rattle.std.proofs.Common.{◌++◌, codes, Option, None, Some, IfSome, refl, sym, subst, append_assoc, append-nil}
+use Rattle.std.specs.Io.BufRead.{first_line, DropsThrough}
 use Rattle.std.specs.Io.KnownBytes.{IsAtEnd}
 use Rattle.program_parts.specs.Lines.{AreLines, GivesLines}
 
@@ -29,23 +29,3 @@ pub gives_all : (a b : Option (List ℕ)) (given : List (List ℕ)) → GivesLin
 gives_all None b given p end = tt
 gives_all (Some bytes) None given p end = absurd p
 gives_all (Some bytes) (Some left) given p end = subst (AreLines bytes) (append-nil given) (p [] end)
-
--- and stay all where one more is sought
-pub gives_same : (a b c : Option (List ℕ)) (given : List (List ℕ)) → GivesLines a b given → IsAtEnd b → DropsThrough b c 10
-    → GivesLines a c given × IfSome a (λ _. IsAtEnd c)
-gives_same None b c given p end drops = (tt, tt)
-gives_same (Some bytes) None c given p end drops = absurd p
-gives_same (Some bytes) (Some left) c given p end drops =
-    let ended : c ≡ Some [] = drops ∙ ap (λ l. Some (drop_through 10 l)) end in
-    rw ended (subst (λ l. GivesLines (Some bytes) (Some l) given) end p, refl)
-
--- nothing is left where no line is found, and else something is
-pub none_found : (a : Option (List ℕ)) (found : Bool) → IfSome a (λ unread. IsTrue found ↔ (unread ≢ [])) → found ≡ false → IsAtEnd a
-none_found None found h none = tt
-none_found (Some []) found h none = refl
-none_found (Some (x ∷ xs)) found h none = let yes : found ≡ true = h.1 (λ e. cc) in cc
-
-pub some_found : (a : Option (List ℕ)) (found : Bool) → IfSome a (λ unread. IsTrue found ↔ (unread ≢ [])) → found ≡ true
-    → IfSome a (λ unread. unread ≢ [])
-some_found None found h one = tt
-some_found (Some xs) found h one = h.0 one

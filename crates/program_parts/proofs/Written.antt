@@ -1,13 +1,15 @@
 -- The two parts of a written pair of numbers, with a byte between them that is no digit.
-use Rattle.std.proofs.Common.{◌≡◌, ◌≢◌, ℕ, zero, suc, ◌<◌, ◌^◌, List, [], ◌∷◌, ◌++◌, length}
-use Rattle.std.proofs.Common.{get_or, Option, None, Some, decimal, Bor, MatchOption, arith, append_assoc, ◌∙◌, sym, subst}
+use Rattle.std.proofs.Common.{◌≡◌, ◌≢◌, ℕ, zero, suc, ◌+◌, ◌<◌, ◌^◌, Bool, List, [], ◌∷◌, ◌++◌, length, take, drop}
+use Rattle.std.proofs.Common.{get_or, nat_eq, decimal, arith, ap, subst, ◌∙◌, length-append}
 use Rattle.std.specs.Char.{digit_value}
+use Rattle.std.specs.List.{position_or_len, before_first, after_first}
 use Rattle.std.specs.Str.Parse.{AllDigits}
-use Rattle.std.specs.Str.{IsUtf8}
-use Rattle.std.proofs.lemmas.Fmt.{decimal_is_IsNumeral, IsAscii-decimal}
-use Rattle.std.proofs.lemmas.Str.{IsUtf8-append, IsUtf8-from_ascii}
-use Rattle.std.proofs.lemmas.Str.Ascii.{IsAscii-cons, IsAscii-nil}
-use Rattle.std.proofs.lemmas.Str.Pattern.{IsSplitOnceResult, split_after}
+use Rattle.std.proofs.lemmas.Bool.{ne_eqb}
+use Rattle.std.proofs.lemmas.Bool.Decides.{nat_tests}
+use Rattle.std.proofs.lemmas.Fmt.{decimal_is_IsNumeral}
+use Rattle.std.proofs.lemmas.List.{get_or_append_left}
+use Rattle.std.proofs.lemmas.List.Sums.{position_or_len_is}
+use Rattle.std.proofs.Math.Seq.{drop-append-add, get_or-append_seam, take-append_seam}
 
 -- no digit is a byte that is none
 no_digit : (b : ℕ) → digit_value b ≡ 36 → (ds : List ℕ) (i : ℕ) → AllDigits 10 ds → i < length ds → get_or ds i 0 ≢ b
@@ -20,26 +22,25 @@ no_digit b none (c ∷ cs) (suc i) h l e = no_digit b none cs i h.1 (omega arith
 pub not_in_decimal : (b : ℕ) → digit_value b ≡ 36 → (n : ℕ) → n < 2 ^ 64 → (i : ℕ) → i < length (decimal n) → get_or (decimal n) i 0 ≢ b
 not_in_decimal b none n fits i l = no_digit b none (decimal n) i (decimal_is_IsNumeral n fits).0.1 l
 
-module _ (between : ℕ) (none : digit_value between ≡ 36) (ascii : between < 128) (first second : ℕ) (fits : first < 2 ^ 64)
-    (text : List ℕ) (written : text ≡ decimal first ++ (between ∷ []) ++ decimal second) where
-  -- the first byte of that kind stands between the two
-  cut : (r : Option (Bor (List ℕ) × Bor (List ℕ))) → IsSplitOnceResult between text r
-      → MatchOption r ⊥ (λ x. (x.0.now ≡ decimal first) × (x.1.now ≡ decimal second))
-  cut r h =
-      split_after between text (decimal first) (decimal second) r h ascii
-      (written ∙ append_assoc (decimal first) (between ∷ []) (decimal second)) (not_in_decimal between none first fits)
+-- the pair is cut at that byte
+pub record IsCutAt (between : ℕ) (text front rest : List ℕ) : Type 0 where
+  pub found : position_or_len (λ b. nat_eq b between) text < length text
+  pub front_is : before_first (λ b. nat_eq b between) text ≡ front
+  pub rest_is : after_first (λ b. nat_eq b between) text ≡ rest
 
-  pub is_cut : IsSplitOnceResult between text None → ⊥
-  is_cut = cut None
-
-  pub parts : (x : Bor (List ℕ) × Bor (List ℕ)) → IsSplitOnceResult between text (Some x)
-      → (x.0.now ≡ decimal first) × (x.1.now ≡ decimal second)
-  parts x = cut (Some x)
-
-  -- it is text
-  pub is_text : second < 2 ^ 64 → IsUtf8 text
-  is_text small =
-      let left = IsUtf8-from_ascii (decimal first) (IsAscii-decimal first fits) in
-      let middle = IsUtf8-from_ascii (between ∷ []) (IsAscii-cons between [] ascii IsAscii-nil) in
-      let right = IsUtf8-from_ascii (decimal second) (IsAscii-decimal second small) in
-      subst IsUtf8 (sym written) (IsUtf8-append _ _ (IsUtf8-append _ _ left middle) right)
+pub is_cut : (between : ℕ) → digit_value between ≡ 36 → (first : ℕ) → first < 2 ^ 64 → (rest : List ℕ)
+    → IsCutAt between (decimal first ++ between ∷ rest) (decimal first) rest
+is_cut between none first fits rest =
+    let front = decimal first in
+    let text = front ++ between ∷ rest in
+    let long = length-append front (between ∷ rest) in
+    let is : ℕ → Bool = λ b. nat_eq b between in
+    let at : position_or_len is text ≡ length front =
+    position_or_len_is is text (length front) 0 (omega (arith, long))
+    (λ k l. ap is (get_or_append_left front (between ∷ rest) 0 k l) ∙ ne_eqb _ between (not_in_decimal between none first fits k l))
+    (λ l. ap is (get_or-append_seam front between rest 0) ∙ grind (arith, nat_tests)) in
+    record {
+      found = omega (arith, at, long);
+      front_is = ap (λ n. take n text) at ∙ take-append_seam front (between ∷ rest);
+      rest_is = ap (λ n. drop (n + 1) text) at ∙ drop-append-add front (between ∷ rest) 1;
+    }

@@ -31,11 +31,19 @@ module _ {A P : Type 0} (Says : List A → List ℕ → A → Type 0) (IsWrong :
       ⊎ ((problem : P) × (more : List (LeftOut P)) × (left_out ≡ record { number = line_number n; problem = problem } ∷ more)
       × IsWrong before line problem × AreKept before (n + 1) lines kept more)
 
-  -- These are kept of the lines that a reader gave so far, and those are left out: whatever follows, what is kept of it comes after them.
-  -- The line that was read last has this number.
-  pub record KeptLines (before after : Option (List ℕ)) (number : ℕ) (kept : List A) (left_out : List (LeftOut P)) : Type 0 where
+  -- A line is taken, where these are kept before it: it is kept what it says, or it is left out, and so many were before, and are now.
+  abbrev pub TakesLine : (List A → Type 0) → List A → List ℕ → ℕ → ℕ → Type 0
+  TakesLine Keeps before line count count' =
+      ((x : A) × Says before line x × Keeps (before ++ x ∷ []) × (count' ≡ count))
+      ⊎ ((problem : P) × IsWrong before line problem × Keeps before × (count' ≡ min (count + 1) (2 ^ 64 - 1)))
+
+  -- These are kept of the lines that a reader gave so far, and so many are left out: whatever follows, what is kept of it comes after
+  -- them. The line that was read last has this number.
+  pub record KeptSoFar (before after : Option (List ℕ)) (number : ℕ) (kept : List A) (count : ℕ) : Type 0 where
     pub lines : List (List ℕ)
+    pub left_out : List (LeftOut P)
     pub gives : GivesLines before after lines
-    pub counted : number ≡ line_number (length lines)
+    pub numbered : number ≡ line_number (length lines)
+    pub counted : count ≡ count_of left_out
     pub goes_on : (rest : List (List ℕ)) (more : List A) (others : List (LeftOut P)) → AreKept kept (length lines + 1) rest more others
         → AreKept [] 1 (lines ++ rest) (kept ++ more) (left_out ++ others)

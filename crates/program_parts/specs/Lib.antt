@@ -4,4 +4,5 @@ pub mod Kept
 pub mod Lines
 pub mod Pairs
 pub mod Read
+pub mod Reading
 pub mod Unread

@@ -111,13 +111,6 @@ enum Rest<'a> {
     Bytes(&'a [u8]),
 }
 
-/// A line without its end: its text, or that it is not UTF-8.
-#[derive(Clone, Copy)]
-pub enum Line<'a> {
-    Text(&'a str),
-    NoText,
-}
-
 impl<'a> Model for Block<'a> {
     ghost use Rattle.std.specs.Prelude.{ℕ, List};
     ghost use Rattle.program_parts.specs.Blocks.{rest_bytes};
@@ -142,8 +135,9 @@ impl<'a> Block<'a> {
         }
     }
 
-    /// The next line: without its line feed, and without a carriage return before that. The last line may lack the line feed.
-    pub fn next(&mut self) -> Option<Line<'a>>
+    /// The next line, or `Some(None)` if it is not UTF-8: without its line feed, and without a carriage return before that. The last
+    /// line may lack the line feed.
+    pub fn next(&mut self) -> Option<Option<&'a str>>
         ensures line { MatchOption result (self.old ≡ []) (λ line. (self.old ≢ []) × IsShown (first_line self.old) line) }
         ensures rest { self.new ≡ drop_through 10 self.old }
     {
@@ -154,7 +148,7 @@ impl<'a> Block<'a> {
                 }
                 let cut = first_cut(text.as_bytes());
                 self.rest = Rest::Text(&text[cut.next..]);
-                Some(Line::Text(&text[..cut.len]))
+                Some(Some(&text[..cut.len]))
             }
             Rest::Bytes(bytes) => {
                 if bytes.is_empty() {
@@ -162,19 +156,9 @@ impl<'a> Block<'a> {
                 }
                 let cut = first_cut(bytes);
                 self.rest = Rest::Bytes(&bytes[cut.next..]);
-                Some(shown(&bytes[..cut.len]))
+                Some(str::from_utf8(&bytes[..cut.len]).ok())
             }
         }
-    }
-}
-
-// The line of these bytes.
-fn shown(bytes: &[u8]) -> Line<'_>
-    ensures { IsShown bytes.now result }
-{
-    match str::from_utf8(bytes) {
-        Ok(text) => Line::Text(text),
-        Err(_) => Line::NoText,
     }
 }
 

@@ -3,7 +3,7 @@ use Rattle.std.proofs.Common.{◌≡◌, ℕ, nat_eq, List, [], ◌∷◌, ◌++
 use Rattle.std.specs.Prelude.{option_map}
 use Rattle.std.proofs.lemmas.List.Folds.{flat_map-map}
 use Rattle.std.specs.Io.KnownBytes.{Appends}
-use Rattle.std.proofs.KnownBytes.{Appends-nil, Appends-trans}
+use Rattle.std.proofs.KnownBytes.{Appends-trans}
 use Rattle.slice_group_stream.specs.Split.{last, split, without_last}
 use Rattle.slice_group_stream.specs.Streams.{change_last}
 use Rattle.run_length_coder.specs.Coding.{coded, line_of, run_if, run_line, run_of, Written}
@@ -11,9 +11,6 @@ use Rattle.run_length_coder.specs.Coding.{coded, line_of, run_if, run_line, run_
 pub Written-same : (a b : Option (List ℕ)) (runs others : List (ℕ × ℕ)) (byte count : ℕ) → runs ≡ others
     → Written a b runs byte count → Written a b others byte count
 Written-same a b runs others byte count e w = subst (λ l. Written a b l byte count) e w
-
-pub Written-none : (a : Option (List ℕ)) → Written a a [] 0 0
-Written-none a = record { writes = Appends-nil a; is = refl }
 
 -- a run more
 pushed : (runs : List (ℕ × ℕ)) (run : ℕ × ℕ) → (without_last (runs ++ run ∷ []) ≡ runs) × (last (runs ++ run ∷ []) ≡ Some run)

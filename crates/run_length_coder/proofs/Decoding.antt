@@ -1,23 +1,32 @@
 -- The lines of what bytes are coded as, one after another.
-use Rattle.std.proofs.Common.{◌≡◌, ◌≢◌, ◌&&◌, ℕ, suc, cond, ◌+◌, ◌<◌, ◌^◌, Bool, true, false, List}
-use Rattle.std.proofs.Common.{[], ◌∷◌, ◌++◌, length, replicate, nat_eq, flat_map, decimal, codes, refl, ap, sym, subst}
-use Rattle.std.proofs.Common.{◌∙◌, arith, take, ltb, length-append, ◌-◌, Option, Some, IfSome, append_assoc}
+use Rattle.std.proofs.Common.{◌≡◌, ◌≢◌, ◌&&◌, ℕ, suc, cond, ◌+◌, ◌-◌, ◌<◌, ◌^◌, Bool, true, false, List, [], ◌∷◌, ◌++◌, length, take, replicate}
+use Rattle.std.proofs.Common.{nat_eq, ltb, flat_map, decimal, codes, inl, inr, refl, ap, sym, subst, ◌∙◌, arith, length-append, append_assoc}
+use Rattle.std.proofs.Common.{Option, IsTrue, Result, Ok, Err}
 use Rattle.std.specs.List.{All}
 use Rattle.std.specs.Io.KnownBytes.{Appends}
-use Rattle.std.proofs.KnownBytes.{Appends-nil}
+use Rattle.std.specs.Str.{IsUtf8}
+use Rattle.std.specs.Str.Parse.{ParsesUnsigned}
 use Rattle.std.proofs.BufReadLemmas.{take_through-append, drop_through-append}
-use borrow.Author.Tests.{ne_eqb}
+use Rattle.std.proofs.lemmas.Bool.{ne_eqb}
 use Rattle.std.proofs.lemmas.Bool.Decides.{nat_tests}
+use Rattle.std.proofs.lemmas.Fmt.{parse-decimal, IsAscii-decimal}
 use Rattle.std.proofs.lemmas.List.{length-replicate}
 use Rattle.std.proofs.lemmas.List.Elements.{All-append, All-from_get_or, All-nil, All-push}
 use Rattle.std.proofs.lemmas.Bool.{eqb-true}
-use Rattle.std.specs.Io.BufRead.{take_through, drop_through, strip_last, ends_with_byte, first_line, DropsThrough}
+use Rattle.std.proofs.lemmas.Str.{IsAscii-append, IsUtf8-from_ascii}
+use Rattle.std.proofs.lemmas.Str.Ascii.{IsAscii-cons, IsAscii-nil}
+use Rattle.std.specs.Io.BufRead.{drop_through, strip_last, ends_with_byte, first_line, take_through}
 use Rattle.std.specs.Char.{digit_value}
 use Rattle.slice_group_stream.specs.Split.{split}
+use Rattle.program_parts.specs.Kept.{AreKept, LeftOut, none_left_out}
+use Rattle.program_parts.specs.Lines.{AreLines}
 use Rattle.program_parts.proofs.Fed.{feed_last}
-use Rattle.program_parts.proofs.Written.{not_in_decimal}
-use Rattle.program_parts.proofs.Appended.{appends_both}
+use Rattle.program_parts.proofs.Written.{IsCutAt, is_cut, not_in_decimal}
 use Rattle.run_length_coder.specs.Coding.{line, coded, copies}
+use Rattle.run_length_coder.specs.Decoded.{Decodes, SaysRun, IsNoRun}
+use Rattle.run_length_coder.specs.Lines.{Says, IsWrong, byte_text, count_text}
+use Rattle.run_length_coder.specs.declared.line.RunError.{RunError}
+use Rattle.run_length_coder.specs.declared.line.RunError.TheVariants.{NoRun, NoCount, NoByte, Zero}
 use Rattle.run_length_coder.specs.declared.runs.Run.{Run}
 
 -- the first run of bytes, and those after it
@@ -124,35 +133,6 @@ next_run (x ∷ xs) small few some =
       others_few = omega (arith, long);
     }
 
--- What is written so far is the front of the bytes, and the input is what the rest is coded as.
-pub record DecodesFront (before after left : Option (List ℕ)) (count : ℕ) (bytes : List ℕ) : Type 0 where
-  pub written : List ℕ
-  pub rest : List ℕ
-  pub writes : Appends before after written
-  pub input : left ≡ Some (coded rest)
-  pub whole : bytes ≡ written ++ rest
-  pub small : All (λ b. b < 2 ^ 8) rest
-  pub few : length rest < 2 ^ 64
-  pub clean : count ≡ 0
-
--- so it is of all bytes that the input may be coded of
-abbrev pub DecodesCoded : Option (List ℕ) → Option (List ℕ) → Option (List ℕ) → Option (List ℕ) → ℕ → Type 0
-DecodesCoded input left before after count =
-    (bytes : List ℕ) → All (λ b. b < 2 ^ 8) bytes → length bytes < 2 ^ 64 → input ≡ Some (coded bytes)
-    → DecodesFront before after left count bytes
-
-pub coded_none : (input before : Option (List ℕ)) → DecodesCoded input input before before 0
-coded_none input before bytes small few known = record {
-  written = [];
-  rest = bytes;
-  writes = Appends-nil before;
-  input = known;
-  whole = refl;
-  small = small;
-  few = few;
-  clean = refl;
-}
-
 -- nothing is left to be decoded where no text is
 pub coded_empty : (rest : List ℕ) → coded rest ≡ [] → rest ≡ []
 coded_empty [] e = refl
@@ -168,36 +148,73 @@ coded_empty (x ∷ xs) e =
       empty,
     ))
 
--- this is known of the run, where the text is the line of one
-abbrev Reads : List ℕ → (ℕ → ℕ → Type 0) → Type 0
-Reads text Knows =
-    (count byte : ℕ) → 0 < count → count < 2 ^ 64 → byte < 2 ^ 8 → text ≡ decimal count ++ codes " " ++ decimal byte → Knows count byte
+-- the line of a run says that run, and is not left out
+says_run : (count byte : ℕ) → 0 < count → count < 2 ^ 64 → byte < 2 ^ 8 → (text : List ℕ) → text ≡ decimal count ++ codes " " ++ decimal byte
+    → IsCutAt 32 text (decimal count) (decimal byte) × IsUtf8 text
+says_run count byte some fits small text e =
+    let whole = e ∙ append_assoc (decimal count) (codes " ") (decimal byte) in
+    let ascii = IsAscii-append _ _ (IsAscii-append _ _ (IsAscii-decimal count fits) (IsAscii-cons 32 [] (omega arith) IsAscii-nil))
+    (IsAscii-decimal byte (omega arith)) in
+    (rw whole (is_cut 32 refl count fits (decimal byte)), rw e (IsUtf8-from_ascii _ ascii))
 
-module _ (input left next before written : Option (List ℕ)) (w : ℕ) (text : List ℕ) (so_far : DecodesCoded input left before written w)
-    (some : IfSome left (λ unread. unread ≢ [])) (first : IfSome left (λ unread. text ≡ first_line unread))
-    (drops : DropsThrough left next 10) where
-  -- one line more, whose run is written
-  pub coded_more : (after : Option (List ℕ)) (run : Run) → Reads text (λ count byte. (run.count ≡ count) × (run.byte ≡ byte))
-      → Appends written after (copies run) → DecodesCoded input next before after w
-  coded_more after run reads writes bytes small few known =
-      let d = so_far bytes small few known in
-      let n = next_run d.rest d.small d.few (rw d.input at some) in
-      let (count, byte) = reads n.count n.byte n.some n.fits n.small ((rw d.input at first) ∙ n.said) in
-      let run_bytes = replicate n.count n.byte in
-      record {
-        written = d.written ++ run_bytes;
-        rest = n.others;
-        writes = appends_both before written after d.written run_bytes d.writes (rw (count, byte) at writes);
-        input = (rw d.input at drops) ∙ ap Some n.left;
-        whole = d.whole ∙ ap (λ l. d.written ++ l) n.whole ∙ sym (append_assoc d.written run_bytes n.others);
-        small = n.others_small;
-        few = n.others_few;
-        clean = d.clean;
-      }
+module _ (count byte : ℕ) (some : 0 < count) (fits : count < 2 ^ 64) (small : byte < 2 ^ 8) (text : List ℕ)
+    (e : text ≡ decimal count ++ codes " " ++ decimal byte) where
+  cut : IsCutAt 32 text (decimal count) (decimal byte)
+  cut = (says_run count byte some fits small text e).0
 
-  -- and it says one
-  pub coded_wrong : (after : Option (List ℕ)) (v : ℕ) → Reads text (λ count byte. ⊥) → DecodesCoded input next before after v
-  coded_wrong after v wrong bytes small few known =
-      let d = so_far bytes small few known in
-      let n = next_run d.rest d.small d.few (rw d.input at some) in
-      absurd (wrong n.count n.byte n.some n.fits n.small ((rw d.input at first) ∙ n.said))
+  same_count : (r : Result ℕ (Unit {0})) → ParsesUnsigned 64 10 (count_text text) r → r ≡ Ok count
+  same_count r read = parse-decimal 64 count (count_text text) r fits fits cut.front_is read
+
+  same_byte : (r : Result ℕ (Unit {0})) → ParsesUnsigned 8 10 (byte_text text) r → r ≡ Ok byte
+  same_byte r read = parse-decimal 8 byte (byte_text text) r small (omega arith) cut.rest_is read
+
+  same_run : (run : Run) → Says text run.count run.byte → copies run ≡ replicate count byte
+  same_run run says =
+      let a = same_count (Ok run.count) says.count_is in
+      let b = same_byte (Ok run.byte) says.byte_is in
+      let n : run.count ≡ count = cc in
+      let m : run.byte ≡ byte = cc in
+      (λ i. replicate (n i) (m i))
+
+  not_wrong : (error : RunError) → IsWrong text error → ⊥
+  not_wrong NoRun wrong = wrong (says_run count byte some fits small text e).1 cut.found
+  not_wrong NoCount wrong = let read = same_count (Err tt) wrong.2 in cc
+  not_wrong Zero wrong = let read = same_count (Ok 0) wrong.2 in let none : 0 ≡ count = cc in omega (arith, some, none)
+  not_wrong NoByte (n, utf8, space, number, more, wrong) = let read = same_byte (Err tt) wrong in cc
+
+-- of the lines that bytes are coded as the runs are kept, which have these bytes
+all_kept : (n : ℕ) (before : List Run) (rest : List ℕ) (lines : List (List ℕ)) (runs : List Run) (left_out : List (LeftOut RunError))
+    → All (λ b. b < 2 ^ 8) rest → length rest < 2 ^ 64 → AreLines (coded rest) lines
+    → AreKept SaysRun IsNoRun before n lines runs left_out → (flat_map copies runs ≡ rest) × (left_out ≡ [])
+all_kept n before rest [] runs left_out small few none (no_runs, all) =
+    (ap (flat_map copies) no_runs ∙ sym (coded_empty rest none), all)
+all_kept n before rest (line ∷ lines) runs left_out small few (some, first, others) kept =
+    by kept (λ before' more behind. all_kept (n + 1) before' next.others lines more left_out next.others_small next.others_few
+    (subst (λ l. AreLines l lines) next.left others) behind)
+  where
+    next : NextRun rest
+    next = next_run rest small few some
+
+    said : line ≡ decimal next.count ++ codes " " ++ decimal next.byte
+    said = first ∙ next.said
+
+    by : AreKept SaysRun IsNoRun before n (line ∷ lines) runs left_out
+        → ((before' more : List Run) → AreKept SaysRun IsNoRun before' (n + 1) lines more left_out
+        → (flat_map copies more ≡ next.others) × (left_out ≡ [])) → (flat_map copies runs ≡ rest) × (left_out ≡ [])
+    by (inl (run, more, is, says, behind)) rest_is =
+        let (copied, all) = rest_is _ more behind in
+        let one = same_run next.count next.byte next.some next.fits next.small line said run says in (
+          ap (flat_map copies) is ∙ ap (λ l. l ++ flat_map copies more) one ∙ ap (λ l. replicate next.count next.byte ++ l) copied
+              ∙ sym next.whole,
+          all,
+        )
+    by (inr (problem, more, is, wrong, behind)) rest_is =
+        absurd (not_wrong next.count next.byte next.some next.fits next.small line said problem wrong)
+
+-- so these bytes are written again
+pub decodes_coded : (bytes : List ℕ) (are_runs : Bool) (before after : Option (List ℕ)) → All (λ b. b < 2 ^ 8) bytes
+    → length bytes < 2 ^ 64 → Decodes (coded bytes) are_runs before after → IsTrue are_runs × Appends before after bytes
+decodes_coded bytes are_runs before after small few d =
+    let read = d.reads in
+    let (copied, none) = all_kept 1 [] bytes read.lines d.runs read.left_out small few read.are_lines read.are_kept in
+    (read.whole ∙ ap none_left_out none, subst (Appends before after) copied d.writes)

@@ -26,7 +26,7 @@ impl fmt::Display for RunError {
 }
 
 impl Run {
-    ghost use Rattle.std.specs.Prelude.{◌≡◌, ℕ, ◌<◌, ◌^◌, ◌++◌, codes, decimal, IfErr, IfOk, IsOkAnd, OnOk};
+    ghost use Rattle.std.specs.Prelude.{IfErr, IfOk, OnOk};
     ghost use Rattle.std.specs.Io.KnownBytes.{Appends};
     ghost use Rattle.run_length_coder.specs.Coding.{copies};
     ghost use Rattle.run_length_coder.specs.Lines.{Says, IsWrong};
@@ -44,17 +44,11 @@ impl Run {
         out.write_all(&block[..left])
     }
 
-    /// The run that a line says, without its line feed, or what is wrong with it. Each line of a run as it is written is read.
-    pub fn parse(text: &[u8]) -> Result<Run, RunError>
+    /// The run that a line says, or what is wrong with it.
+    pub fn parse(text: &str) -> Result<Run, RunError>
         ensures says { IfOk result (λ run. Says text.now run.count run.byte) }
         ensures wrong { IfErr result (IsWrong text.now) }
-        ensures written { (count byte : ℕ) → 0 < count → count < 2 ^ 64 → byte < 2 ^ 8
-            → text.now ≡ decimal count ++ codes " " ++ decimal byte
-            → IsOkAnd result (λ run. (run.count ≡ count) × (run.byte ≡ byte)) }
     {
-        let Ok(text) = str::from_utf8(text) else {
-            return Err(RunError::NoRun);
-        };
         let Some((count, byte)) = text.split_once(' ') else {
             return Err(RunError::NoRun);
         };

@@ -14,7 +14,7 @@ use crate::program::{Mode, USAGE};
 use program_parts::arguments::{arguments, explain, one_file};
 use program_parts::input::{Input, NamedFile};
 use std::io;
-use std::io::{BufReader, BufWriter};
+use std::io::BufWriter;
 use std::process::ExitCode;
 
 fn main(rt: HostRuntime) -> io::Result<ExitCode> {
@@ -38,10 +38,9 @@ fn main(rt: HostRuntime) -> io::Result<ExitCode> {
         }
     };
     let file = NamedFile::new(rt.alloc(), name)?;
-    let Some(input) = Input::open(&rt, "run_length_coder", &file) else {
+    let Some(mut input) = Input::open(&rt, "run_length_coder", &file) else {
         return Ok(ExitCode::from(1));
     };
-    let mut input = BufReader::with_capacity(rt.alloc(), 65536, input)?;
     let status = program::run(
         rt.alloc(),
         mode,

@@ -11,7 +11,7 @@ use program_parts::input::NamedFile;
 use program_parts::status::status_of;
 use std::alloc::Global;
 use std::io;
-use std::io::{BufRead, Write};
+use std::io::{Read, Write};
 
 /// What `--help` writes.
 pub const USAGE: &str = "\
@@ -32,7 +32,7 @@ pub enum Mode {
 
 /// Encodes or decodes the input, and gives back the status: 0, or 1 where it failed or a line says no run. What went
 /// wrong is said in lines of complaint.
-pub fn run<R: BufRead, W: Write, E: Write>(
+pub fn run<R: Read, W: Write, E: Write>(
     alloc: Global,
     mode: Mode,
     name: &str,
@@ -65,7 +65,7 @@ pub fn run<R: BufRead, W: Write, E: Write>(
 }
 
 /// Encodes the input, and sees that all of it is written.
-fn encode_all<R: BufRead, W: Write>(alloc: Global, input: &mut R, out: &mut W) -> io::Result<bool>
+fn encode_all<R: Read, W: Write>(alloc: Global, input: &mut R, out: &mut W) -> io::Result<bool>
     ensures done { IfOk result IsTrue }
     ensures bytes { OnOk result (IfSome (R.remaining input.old)
         (λ bytes. Appends (W.contents out.old) (W.contents out.new) (coded bytes))) }
@@ -76,7 +76,7 @@ fn encode_all<R: BufRead, W: Write>(alloc: Global, input: &mut R, out: &mut W) -
 }
 
 /// Decodes the input, and sees that all of it is written.
-fn decode_all<R: BufRead, W: Write, E: Write>(
+fn decode_all<R: Read, W: Write, E: Write>(
     alloc: Global,
     name: &str,
     input: &mut R,

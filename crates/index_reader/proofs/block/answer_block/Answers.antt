@@ -6,7 +6,7 @@ use Rattle.index_reader.specs.Answers.{answer_line, line}
 use Rattle.index_reader.specs.Blocks.{IsAnswer, IsOneOf, places_of}
 use Rattle.index_reader.specs.Keys.{of_key}
 use Rattle.index_reader.proofs.Answered.{each_is_found, each_is_one, lines_are}
-use Rattle.index_reader.proofs.Rest.{all_changed}
+use Rattle.program_parts.proofs.BlockRead.{all_changed}
 use Rattle.index_reader.proofs.block.answer_block.Goals as goal
 
 pub find_all-requires : goal.find_all-requires
