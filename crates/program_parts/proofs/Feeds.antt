@@ -52,10 +52,6 @@ line_no_feed xs none =
     last [] none = refl
     last (x ∷ xs) none = rw (none (length (x ∷ xs) - 1) (omega arith)) (and-false (ltb 0 (length (x ∷ xs))))
 
-pub not_true : (b : Bool) → (b ≡ true → ⊥) → b ≡ false
-not_true true h = absurd (h refl)
-not_true false h = refl
-
 -- a line ends before an ASCII byte
 pub before_feed : (xs : List ℕ) (feed n : ℕ) → feed < length xs → n ≤ feed → (n < length (take feed xs) → get_or (take feed xs) n 0 ≡ 13)
     → get_or xs feed 0 ≡ 10 → get_or xs n 0 < 128

@@ -1,20 +1,20 @@
 use Rattle.std.proofs.Common.{List, ◌≡◌, ℕ, ◌<◌, ◌≤◌, ◌+◌, ◌∙◌, true, eqb, get_or, length, take, drop, sym, arith, length-take}
-use Rattle.std.proofs.lemmas.Bool.{eqb-true}
+use Rattle.std.proofs.lemmas.Bool.{eqb-true, false_from_ne_true}
 use Rattle.std.proofs.lemmas.List.{take-take, take_all, drop_all}
 use Rattle.std.proofs.lemmas.Str.{IsCharBoundary-before_ascii, IsCharBoundary-after_ascii}
 use Rattle.std.specs.Io.BufRead.{drop_through, first_line, strip_last}
-use Rattle.program_parts.proofs.Feeds.{line_at_feed, line_no_feed, not_true, before_feed}
+use Rattle.program_parts.proofs.Feeds.{line_at_feed, line_no_feed, before_feed}
 use Rattle.program_parts.proofs.line_blocks.first_cut.Goals as goal
 
 pub returns-in_default-clause-line : goal.returns-in_default-clause-line
 returns-in_default-clause-line c =
     let bytes = c.args.bytes.now in
-    take_all (length bytes) bytes (omega arith) ∙ (line_no_feed bytes (λ j l. not_true _ (c.in_default.ensures j (omega arith) l))).0
+    take_all (length bytes) bytes (omega arith) ∙ (line_no_feed bytes (λ j l. false_from_ne_true _ (c.in_default.ensures j (omega arith) l))).0
 
 pub returns-in_default-clause-rest : goal.returns-in_default-clause-rest
 returns-in_default-clause-rest c =
     let bytes = c.args.bytes.now in
-    drop_all (length bytes) bytes (omega arith) ∙ (line_no_feed bytes (λ j l. not_true _ (c.in_default.ensures j (omega arith) l))).1
+    drop_all (length bytes) bytes (omega arith) ∙ (line_no_feed bytes (λ j l. false_from_ne_true _ (c.in_default.ensures j (omega arith) l))).1
 
 module _ (c : goal.After-without_return) where
   abbrev bytes : List ℕ
@@ -27,7 +27,7 @@ module _ (c : goal.After-without_return) where
   at = c.in-Some.ensures.1
 
   cut : (strip_last 13 (take c.in-Some.feed bytes) ≡ first_line bytes) × (drop (c.in-Some.feed + 1) bytes ≡ drop_through 10 bytes)
-  cut = line_at_feed bytes c.in-Some.feed inside (λ j l. not_true _ (c.in-Some.ensures.0.before j (omega arith) l)) at
+  cut = line_at_feed bytes c.in-Some.feed inside (λ j l. false_from_ne_true _ (c.in-Some.ensures.0.before j (omega arith) l)) at
 
   short : c.without_return.result ≤ c.in-Some.feed
   short = let most = length-take c.in-Some.feed bytes in let bound = c.without_return.ensures.bound in omega (arith, most, bound)
