@@ -1,5 +1,6 @@
 -- What is found for each query of a block.
-use Rattle.std.proofs.Common.{◌≡◌, ◌≢◌, Bool, true, false, nat_eq, set, subst, take, ◌+◌, ℕ, ◌<◌, suc, List, [], ◌∷◌, ◌++◌, length, map, flat_map, get_or, Option, refl, sym, ap, ◌∙◌, arith}
+use Rattle.std.proofs.Common.{◌≡◌, ◌≢◌, Bool, true, false, nat_eq, set, subst, take, ◌+◌, ℕ, ◌<◌, suc, List, []}
+use Rattle.std.proofs.Common.{◌∷◌, ◌++◌, length, map, flat_map, get_or, Option, refl, sym, ap, ◌∙◌, arith}
 use Rattle.std.proofs.lemmas.Bool.{false≢true}
 use Rattle.std.specs.Prelude.{All, HoldsAt, IsPermutation}
 use Rattle.std.specs.List.{enumerate_from}

@@ -54,7 +54,9 @@ next_line rest (Some ys) some (inl fed) =
     let (through, after, fed') = fed_cut ys front in
     record {
       some = λ none. some (front_empty rest ys none);
-      first = sym (ap (λ l. line_of (take_through 10 (l ++ ys))) ends ∙ ap line_of through ∙ ap (λ l. line_of (take_through 10 l)) (sym ends));
+      first =
+          sym (ap (λ l. line_of (take_through 10 (l ++ ys))) ends ∙ ap line_of through
+          ∙ ap (λ l. line_of (take_through 10 l)) (sym ends));
       drops = ap Some (ap (λ l. drop_through 10 l ++ ys) ends ∙ sym after ∙ ap (λ l. drop_through 10 (l ++ ys)) (sym ends));
       whole = inl (rw (← ends) at fed');
     }

@@ -1,5 +1,6 @@
 -- Where the first line of a text ends.
-use Rattle.std.proofs.Common.{◌≡◌, ◌≢◌, ℕ, zero, suc, ◌+◌, ◌-◌, ◌<◌, ◌≤◌, Bool, true, false, eqb, ltb, List, [], ◌∷◌, ◌++◌, length, take, drop, get_or, nat_eq, if◌then◌else◌, length-take}
+use Rattle.std.proofs.Common.{◌≡◌, ◌≢◌, ℕ, zero, suc, ◌+◌, ◌-◌, ◌<◌, ◌≤◌, Bool, true, false, eqb, ltb, List}
+use Rattle.std.proofs.Common.{[], ◌∷◌, ◌++◌, length, take, drop, get_or, nat_eq, if◌then◌else◌, length-take}
 use Rattle.std.proofs.Common.{refl, sym, ap, ◌∙◌, arith}
 use Rattle.std.specs.Io.BufRead.{take_through, drop_through, ends_with_byte, first_line, strip_last}
 use Rattle.std.proofs.Math.Bool.{and-false}
@@ -39,7 +40,8 @@ line_at_feed xs k l before at =
     let (through, rest) = at_feed xs k l before at in
     let (found, front) = feed_last (take k xs) in
     let one : k + 1 ≡ suc k = omega arith in
-    (sym (ap (λ t. stripped (ends_with_byte 10 t) (strip_last 10 t)) through ∙ (λ i. stripped (found i) (front i))), ap (λ n. drop n xs) one ∙ sym rest)
+    let line = ap (λ t. stripped (ends_with_byte 10 t) (strip_last 10 t)) through ∙ (λ i. stripped (found i) (front i)) in
+    (sym line, ap (λ n. drop n xs) one ∙ sym rest)
 
 pub line_no_feed : (xs : List ℕ) → ((j : ℕ) → j < length xs → is_feed (get_or xs j 0) ≡ false)
     → (xs ≡ first_line xs) × ([] ≡ drop_through 10 xs)

@@ -1,5 +1,6 @@
 //! The lines of a reader, block by block.
-ghost use Rattle.std.specs.Prelude.{◌≡◌, ◌≢◌, ◌↔◌, ◌≤◌, ◌<◌, ℕ, List, [], ◌∷◌, ◌++◌, length, take, drop, slice_index, vec_len, false, IfOk, IfSome, IsTrue, MatchOption, OnOk, Some, None};
+ghost use Rattle.std.specs.Prelude.{◌≡◌, ◌≢◌, ◌↔◌, ◌≤◌, ◌<◌, ℕ, List, [], ◌∷◌, ◌++◌, length, take, drop, slice_index};
+ghost use Rattle.std.specs.Prelude.{vec_len, false, IfOk, IfSome, IsTrue, MatchOption, OnOk, Some, None};
 ghost use Rattle.std.specs.Str.{IsCharBoundary, IsUtf8};
 ghost use Rattle.std.specs.Io.BufRead.{first_line, drop_through, strip_last};
 ghost use Rattle.std.specs.Io.KnownBytes.{Consumes, IsAtEnd};

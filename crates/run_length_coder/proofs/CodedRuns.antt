@@ -1,5 +1,6 @@
 -- Lines of runs that are written one after another.
-use Rattle.std.proofs.Common.{◌≡◌, ℕ, nat_eq, List, [], ◌∷◌, ◌++◌, flat_map, map, Option, Some, refl, ap, sym, ◌∙◌, append_assoc, append-nil, subst}
+use Rattle.std.proofs.Common.{◌≡◌, ℕ, nat_eq, List, [], ◌∷◌, ◌++◌, flat_map, map, Option}
+use Rattle.std.proofs.Common.{Some, refl, ap, sym, ◌∙◌, append_assoc, append-nil, subst}
 use Rattle.std.specs.Prelude.{option_map}
 use Rattle.std.proofs.lemmas.List.Folds.{flat_map-map}
 use Rattle.std.specs.Io.KnownBytes.{Appends}

@@ -1,6 +1,8 @@
 -- The lines of what bytes are coded as, one after another.
-use Rattle.std.proofs.Common.{◌≡◌, ◌≢◌, ◌&&◌, ℕ, suc, cond, ◌+◌, ◌-◌, ◌<◌, ◌^◌, Bool, true, false, List, [], ◌∷◌, ◌++◌, length, take, replicate}
-use Rattle.std.proofs.Common.{nat_eq, ltb, flat_map, decimal, codes, inl, inr, refl, ap, sym, subst, ◌∙◌, arith, length-append, append_assoc}
+use Rattle.std.proofs.Common.{◌≡◌, ◌≢◌, ◌&&◌, ℕ, suc, cond, ◌+◌, ◌-◌, ◌<◌, ◌^◌, Bool, true}
+use Rattle.std.proofs.Common.{false, List, [], ◌∷◌, ◌++◌, length, take, replicate}
+use Rattle.std.proofs.Common.{nat_eq, ltb, flat_map, decimal, codes, inl, inr, refl, ap}
+use Rattle.std.proofs.Common.{sym, subst, ◌∙◌, arith, length-append, append_assoc}
 use Rattle.std.proofs.Common.{Option, IsTrue, Result, Ok, Err}
 use Rattle.std.specs.List.{All}
 use Rattle.std.specs.Io.KnownBytes.{Appends}
@@ -149,7 +151,8 @@ coded_empty (x ∷ xs) e =
     ))
 
 -- the line of a run says that run, and is not left out
-says_run : (count byte : ℕ) → 0 < count → count < 2 ^ 64 → byte < 2 ^ 8 → (text : List ℕ) → text ≡ decimal count ++ codes " " ++ decimal byte
+says_run : (count byte : ℕ) → 0 < count → count < 2 ^ 64 → byte < 2 ^ 8 → (text : List ℕ)
+    → text ≡ decimal count ++ codes " " ++ decimal byte
     → IsCutAt 32 text (decimal count) (decimal byte) × IsUtf8 text
 says_run count byte some fits small text e =
     let whole = e ∙ append_assoc (decimal count) (codes " ") (decimal byte) in

@@ -1,5 +1,6 @@
 //! Rows of a table, whose lines stand in one text.
-ghost use Rattle.std.specs.Prelude.{◌≡◌, ◌<◌, ◌≤◌, ◌-◌, ◌^◌, [], ◌∷◌, ◌++◌, drop, take, length, option_map, IfOk, IfSome, OnErr, OnOk, codes};
+ghost use Rattle.std.specs.Prelude.{◌≡◌, ◌<◌, ◌≤◌, ◌-◌, ◌^◌, [], ◌∷◌, ◌++◌, drop, take, length};
+ghost use Rattle.std.specs.Prelude.{option_map, IfOk, IfSome, OnErr, OnOk, codes};
 ghost use Rattle.table_join.specs.Lens.{total};
 ghost use Rattle.table_join.specs.Texts.{rows_in, AreRowLines, IsRowLine};
 

@@ -24,7 +24,8 @@ returns-then-not-found g c =
     let (more, is, s') = c.in_ok-found.ensures.kept done _ _ refl s in
     let wrote = answers_both index done waiting _ _ _ writes (rw c.deref.ensures.value at c.in_ok-answer_block.ensures) in
     let added = c.saturating_add-answered.ensures in
-    let number : c.saturating_add-answered.result ≡ min (length keys) (2 ^ 64 - 1) = omega (arith, count, added, length-append done waiting) in (
+    let number : c.saturating_add-answered.result ≡ min (length keys) (2 ^ 64 - 1) =
+    omega (arith, count, added, length-append done waiting) in (
       keys,
       appends_both _ _ _ (answers index keys) (count_line keys) wrote (rw number at c.in_ok-write_count.ensures),
       rw c.in_ok-is_whole.ensures (are_read SaysQuery IsNoQuery _ _ _ keys _ (rw is at s') (c.in_ok-found.ensures.end c.if-not-found.true)),

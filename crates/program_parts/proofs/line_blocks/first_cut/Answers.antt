@@ -9,12 +9,14 @@ use Rattle.program_parts.proofs.line_blocks.first_cut.Goals as goal
 pub returns-in_default-clause-line : goal.returns-in_default-clause-line
 returns-in_default-clause-line c =
     let bytes = c.args.bytes.now in
-    take_all (length bytes) bytes (omega arith) ∙ (line_no_feed bytes (λ j l. false_from_ne_true _ (c.in_default.ensures j (omega arith) l))).0
+    take_all (length bytes) bytes (omega arith)
+    ∙ (line_no_feed bytes (λ j l. false_from_ne_true _ (c.in_default.ensures j (omega arith) l))).0
 
 pub returns-in_default-clause-rest : goal.returns-in_default-clause-rest
 returns-in_default-clause-rest c =
     let bytes = c.args.bytes.now in
-    drop_all (length bytes) bytes (omega arith) ∙ (line_no_feed bytes (λ j l. false_from_ne_true _ (c.in_default.ensures j (omega arith) l))).1
+    drop_all (length bytes) bytes (omega arith)
+    ∙ (line_no_feed bytes (λ j l. false_from_ne_true _ (c.in_default.ensures j (omega arith) l))).1
 
 module _ (c : goal.After-without_return) where
   abbrev bytes : List ℕ

@@ -18,8 +18,9 @@ loop-line-preserved g c earlier bytes left kept whole keeps s =
     let (some, shown) = c.in-Some.ensures.line in
     let block = c.loop-line.block in
     let next = next_line block left some whole' in
+    let takes = c.in_ok-keep.ensures earlier (kept ++ more) (first_line block) shown keeps' in
     let (more', keeps'', s'') = one_taken _ _ bytes _ _ _ _ (kept ++ more) _ _ (first_line block) s' next.some next.first next.drops
-    c.saturating_add-number.ensures (g.K.Keeper.keeps earlier c.keep.new.self) (c.in_ok-keep.ensures earlier (kept ++ more) (first_line block) shown keeps') in
+    c.saturating_add-number.ensures (g.K.Keeper.keeps earlier c.keep.new.self) takes in
     let both = append_assoc kept more more' in
     rw c.next.ensures.rest (next.whole, (more ++ more', rw (← both) keeps'', rw (← both) s''))
 
