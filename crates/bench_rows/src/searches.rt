@@ -1,6 +1,6 @@
 //! The rows of searches and of plans.
 use crate::lines::differs;
-use slice_group_by::laws::{Plan, refute};
+use slice_group_by::{Plan, refute};
 use slice_group_by::{exponential_search, exponential_search_by, exponential_search_by_key};
 use std::io::{Error, Write};
 

@@ -1,5 +1,5 @@
 //! Sets of numbers, as slices that ascend strictly.
-ghost use Rattle.std.specs.Prelude.{◌≡◌, ◌↔◌, ℕ, ◌+◌, length, nat_eq, not, ◌⊎◌, IfOk};
+ghost use Rattle.std.specs.Prelude.{◌≡◌, ◌↔◌, ℕ, ◌+◌, length, nat_eq, not, ◌⊎◌, IfOk, IsTrue};
 ghost use Rattle.std.specs.List.{Contains, filter, list_any};
 ghost use Rattle.std.specs.Ordering.{nat_cmp};
 ghost use Rattle.slice_group_by.specs.Search.{AlwaysAscends};
@@ -8,6 +8,14 @@ ghost use Rattle.slice_group_by.specs.Matches.{has_partner};
 use slice_merge_join::MergeJoinBy;
 use slice_merge_join::laws::{partners_are_equal, sees_merge_in_order, sets_ascend};
 use std::alloc::{AllocError, Global};
+
+/// Whether the numbers are a set: each is below the next.
+pub fn is_set(numbers: &[u32]) -> bool
+    ensures { IsTrue result → AlwaysAscends nat_cmp numbers.now }
+{
+    sets_ascend::<u32>();
+    numbers.is_sorted_by(|x, y| x < y)
+}
 
 /// The numbers that stand on the left or on the right.
 pub fn union(alloc: Global, left: &[u32], right: &[u32]) -> Result<Vec<u32>, AllocError>

@@ -24,7 +24,7 @@ impl<'a, T, J: Judge<T>, W: Way> SliceGroups<'a, T, J, W> {
         ensures callable { IsCallableBy (W.allowed T) J.Judge (groups_of self.new) }
     {
         self.skip_front(place);
-        // (the proof goes by the two arms)
+        // Not `unwrap_or(&[])`, which gets no proof.
         match self.next_at(End::Front) {
             Some(rest) => rest,
             None => &[],
@@ -35,18 +35,16 @@ impl<'a, T, J: Judge<T>, W: Way> SliceGroups<'a, T, J, W> {
 impl<'a, T, J: Judge<T> + Drop, W: Way> SliceGroups<'a, T, J, W> {
     /// The first place at or behind `index` in the remainder where a group begins, or the length of the remainder. At 0 it is 0.
     ///
-    /// Cut there, the two parts have the groups of the whole, so that they can be walked apart. It costs one call of these groups,
-    /// from the element before `index` on, and asks nothing at 0 or beyond the remainder. `str::ceil_char_boundary` does this for
-    /// characters. Binary and exponential groups need a grouped slice.
+    /// Cut there, the two parts have the groups of the whole, so that they can be walked apart: what `str::ceil_char_boundary` is for
+    /// characters. It costs one call of these groups, from the element before `index` on, and asks nothing at 0 or beyond the
+    /// remainder. Binary and exponential groups need a grouped slice.
     ///
     /// The closure must be callable along all that remains. To ask less, cut first: `LinearGroup::new(&slice[index - 1..])`, and add
     /// the length of its first group to `index - 1`.
     ///
     /// ```
-    /// let slice = [1, 1, 1, 3, 3, 2];
-    /// LinearGroup::new(&slice).boundary(4); // 5
-    /// LinearGroup::new(&slice).boundary(3); // 3
-    /// LinearGroup::new(&slice).boundary(0); // 0
+    /// let place = LinearGroup::new(&[1, 1, 1, 3, 3, 2]).boundary(4);
+    /// // 5; of index 3 it is 3
     /// ```
     #[must_use]
     #[inline]

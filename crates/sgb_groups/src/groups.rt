@@ -114,7 +114,7 @@ impl<'a, T, J, W> SliceGroups<'a, T, J, W> {
         self.remainder_len() == 0
     }
 
-    /// The judge, with its closure as the calls have left it. The iterator is given up.
+    /// For the libraries alone: the judge, with its closure as the calls have left it. The iterator is given up.
     #[inline]
     pub fn into_judge(self) -> J
         ensures { result ≡ (groups_of self.entry).judge }
@@ -203,8 +203,7 @@ impl<'a, T, J: Judge<T> + Drop, W: Way> SliceGroups<'a, T, J, W> {
 impl<'a, T, J: Judge<T>, W: Way> SliceGroups<'a, T, J, W> {
     ghost use Rattle.sgb_groups.specs.Gives.{groups_of, Gives};
 
-    /// The group at this end of the remainder, or `None` where nothing remains: what `next` gives from the front and `next_back`
-    /// from the back, by their questions.
+    /// For the libraries alone: what `next` gives from the front and `next_back` from the back, by their questions.
     // Public for `GroupQueue`, which asks for no `Drop`. Each caller names its end, and gets a copy for that end alone.
     #[inline(always)]
     pub fn next_at(&mut self, end: End) -> Option<&'a [T]>

@@ -234,8 +234,7 @@ impl<'a, T, J: Judge<T> + Drop, W: Way> SliceGroupsMut<'a, T, J, W> {
 impl<'a, T, J: Judge<T>, W: Way> SliceGroupsMut<'a, T, J, W> {
     ghost use Rattle.sgb_groups.specs.Gives.{GivesMut, groups_of_mut};
 
-    /// The group at this end of the remainder, or `None` where nothing remains: what `next` gives from the front and `next_back`
-    /// from the back, by their questions.
+    /// For the libraries alone: what `next` gives from the front and `next_back` from the back, by their questions.
     // Public for `GroupQueue`, which asks for no `Drop`. Each caller names its end, and gets a copy for that end alone.
     #[inline(always)]
     pub fn next_at(&mut self, end: End) -> Option<&'a mut [T]>
@@ -243,7 +242,7 @@ impl<'a, T, J: Judge<T>, W: Way> SliceGroupsMut<'a, T, J, W> {
         ensures gives { GivesMut (W.asks T J J.Judge) end self.old result self.new }
         ensures callable { IsCallableBy (W.allowed T) J.Judge (groups_of_mut self.new) }
     {
-        // `is_empty` lends the slice once more, which the borrow check refuses.
+        // Not `is_empty`, which would lend the slice once more: the borrow check refuses that.
         if self.slice.len() == 0 {
             return None;
         }

@@ -29,10 +29,9 @@ impl<'a, T, J: Judge<T> + Drop, W: Way> SliceGroups<'a, T, J, W> {
     /// groups of the parts are the groups of the whole, so that each part can be walked apart, also in threads of yours.
     ///
     /// A part is its share of what remains, with the rest of the group that the share ends in. It costs one call of these groups, from
-    /// the last element of the share on. Long groups leave fewer parts.
+    /// the last element of the share on. Long groups leave fewer parts. Binary and exponential groups need a grouped slice.
     ///
-    /// If the judge depends only on its arguments, `laws::sees_shards` says what a loop or an adapter sees. Binary and exponential
-    /// groups need a grouped slice.
+    /// For proofs: `laws::sees_shards`.
     ///
     /// ```
     /// let slice = [1, 1, 1, 3, 3, 2, 2, 2];

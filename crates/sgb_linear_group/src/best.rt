@@ -17,7 +17,7 @@ use sgb_split::judge::{Judge, KeyJudge, PredicateJudge};
 /// library's `partition_dedup_by` does, and `|_, _| true` the last. It must be callable on any two elements.
 ///
 /// The predicate is asked about each neighbouring pair once, in order, and `is_worse` once for each element of a group but the
-/// first, in order (`kept`), whatever either answers. If both depend only on their arguments, `best` says what is kept.
+/// first, in order, whatever either answers.
 ///
 /// ```
 /// let mut spans = [(1, 5), (2, 9), (4, 6), (20, 21)];

@@ -196,8 +196,7 @@ impl<'a, J: TextJudge + Drop> LinearStrGroups<'a, J> {
 impl<'a, J: TextJudge> LinearStrGroups<'a, J> {
     ghost use Rattle.sgb_linear_str_group.specs.Texts.{GivesText};
 
-    /// The group at this end of the remainder, or `None` where nothing remains: what `next` gives from the front and `next_back`
-    /// from the back, by their questions.
+    /// For the libraries alone: what `next` gives from the front and `next_back` from the back, by their questions.
     // Public for `GroupQueue`, which asks for no `Drop`. Each caller names its end, and gets a copy for that end alone.
     #[inline(always)]
     pub fn next_at(&mut self, end: End) -> Option<&'a str>

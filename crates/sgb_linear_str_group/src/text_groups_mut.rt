@@ -225,8 +225,7 @@ impl<'a, J: TextJudge + Drop> LinearStrGroupsMut<'a, J> {
 impl<'a, J: TextJudge> LinearStrGroupsMut<'a, J> {
     ghost use Rattle.sgb_linear_str_group.specs.TextsMut.{text_groups_of_mut, GivesTextMut};
 
-    /// The group at this end of the remainder, or `None` where nothing remains: what `next` gives from the front and `next_back`
-    /// from the back, by their questions.
+    /// For the libraries alone: what `next` gives from the front and `next_back` from the back, by their questions.
     // Public for `GroupQueue`, which asks for no `Drop`. Each caller names its end, and gets a copy for that end alone.
     #[inline(always)]
     pub fn next_at(&mut self, end: End) -> Option<&'a mut [u8]>
@@ -234,7 +233,7 @@ impl<'a, J: TextJudge> LinearStrGroupsMut<'a, J> {
         ensures gives { GivesTextMut J.Judge end self.old result self.new }
         ensures callable { IsCallableBy AreNeighbours J.Judge (in_characters (text_groups_of_mut self.new)) }
     {
-        // `is_empty` lends the bytes once more, of which the prover then knows less.
+        // Not `is_empty`, which would lend the bytes once more: less is known of them then.
         if self.bytes.len() == 0 {
             return None;
         }

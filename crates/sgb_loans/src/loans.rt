@@ -41,9 +41,9 @@ impl<'a, T> Ended<'a, T> {
     }
 }
 
-// `split_at_mut`, with what the walks cite of it.
+// That of slices, with what the walks cite of it.
 #[inline]
-fn split<T>(all: &mut [T], mid: usize) -> (&mut [T], &mut [T])
+fn split_at_mut<T>(all: &mut [T], mid: usize) -> (&mut [T], &mut [T])
     requires { mid ≤ length all.old }
     ensures* ends { sem 𝓛 (LendsBoth (Array T.row 0) (Array T.row 0) (Array T.row 0) all.entry result ◌++◌) }
     ensures parts { (all.entry.now ≡ result.0.now ++ result.1.now) × (length result.0.now ≡ mid) }
@@ -80,7 +80,7 @@ unsafe impl<T> Sync for Loans<T> {}
 impl<T> Loans<T> {
     ghost use Rattle.sgb_loans.specs.Loans.{HandsOut, noted, part_at, rest_at};
 
-    /// No part of the slice is out yet. The slice itself comes back, to be cut.
+    /// For the libraries alone: no part of the slice is out yet. The slice itself comes back, to be cut.
     #[inline]
     pub fn open<'a>(slice: &'a mut [T]) -> (&'a mut [T], Loans<T>)
         ensures slice { result.0 ≡ slice.entry }
@@ -96,8 +96,8 @@ impl<T> Loans<T> {
         (slice, loans)
     }
 
-    // Cuts the rest `all` in two at `mid`. The part at the end is out then, and the other is the rest. The end says only which
-    // of the two that is, and `cut` tells them apart: so the proof by hand of this function has no branch.
+    // Cuts the rest `all` in two at `mid`: the one at the end is a part that is out then, and the other is the rest. `cut` tells
+    // them apart.
     #[inline]
     fn cut_at<'a>(&mut self, end: &End, all: &'a mut [T], mid: usize) -> (&'a mut [T], &'a mut [T])
         requires within { mid ≤ length all.old }
@@ -106,11 +106,11 @@ impl<T> Loans<T> {
         ensures rest { self.new.rest ≡ (rest_at end.now result).ghost_name }
         ensures out { HandsOut end.now self.old (part_at end.now result).ghost_name self.new }
     {
-        split(all, mid)
+        split_at_mut(all, mid)
     }
 
-    /// Cuts the part of `len` elements at the end off the rest `all`. The part comes first, and is out then. The second is the
-    /// rest.
+    /// For the libraries alone: cuts the part of `len` elements at the end off the rest `all`. The part comes first, and is out
+    /// then. The second is the rest.
     #[inline]
     pub fn cut<'a>(&mut self, end: &End, all: &'a mut [T], len: usize) -> (&'a mut [T], &'a mut [T])
         requires within { len ≤ length all.old }

@@ -7,7 +7,8 @@ ghost use Rattle.std.specs.Int.RustNames.{FitsSigned};
 pub(crate) trait Signed: PartialEq {
     ghost fits: { Self → Type 0 };
 
-    /// Reads the number, for the proof alone.
+    /// Reads the number, for the proof alone: the prover knows of the number behind a reference that it fits its type once it
+    /// was read.
     fn read(&self)
         ensures { fits self.now };
 }

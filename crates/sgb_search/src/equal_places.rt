@@ -37,23 +37,23 @@ fn places<T, K, L: Test<K>, E: Test<K>, F: FnMut(&T) -> K>(
 /// The places of the elements of which the comparator answers `Equal`, as a range: `&slice[places]` has the elements. If none is
 /// equal, the range is empty, and begins where an equal element would be inserted.
 ///
-/// The slice should be sorted so that the comparator answers `Less` of its first elements, then `Equal`, then `Greater`, each perhaps
-/// of none.
+/// The slice is sorted if the comparator answers `Less` of its first elements, then `Equal`, then `Greater`, each perhaps of none.
 ///
 /// It gallops from the front to the first equal element, and from there to the last, so it is cheap where few elements come
 /// before the equal ones and few are equal. A call that passes over m elements and finds n asks at
-/// most `2 * digits(m + 1) + 2 * digits(n + 1) + 2` questions, whatever the comparator answers. On any slice, if the
-/// comparator depends only on its argument, its answers show both ends (`IsLocalRangeAt`).
-///
-/// The comparator must be callable on each element, in whatever state earlier calls left it. It is given up: to call it
-/// again, lend it to `exponential_equal_places_by_ref`. A caller knows that `start <= end` and that `end` is at most the
-/// slice's length.
+/// most `2 * digits(m + 1) + 2 * digits(n + 1) + 2` questions, whatever the comparator answers.
 ///
 /// ```
 /// let rows = [(1, 'a'), (3, 'b'), (3, 'c'), (7, 'd')];
-/// exponential_equal_places_by(&rows, |row| row.0.cmp(&3)); // 1..3
-/// exponential_equal_places_by(&rows, |row| row.0.cmp(&4)); // 3..3
+/// let places = exponential_equal_places_by(&rows, |row| row.0.cmp(&3));
+/// // 1..3, and of 4 it is 3..3
 /// ```
+///
+/// # Contract
+///
+/// The comparator must be callable on each element, in whatever state earlier calls left it. It is given up: to call it
+/// again, lend it to `exponential_equal_places_by_ref`. On any slice, if it depends only on its argument, its answers show both ends
+/// (`local`).
 #[must_use]
 #[inline]
 pub fn exponential_equal_places_by<T, F>(slice: &[T], mut f: F) -> Range<usize>
@@ -79,7 +79,8 @@ where
 ///     asked = asked.wrapping_add(1);
 ///     x.cmp(&3)
 /// };
-/// exponential_equal_places_by_ref(&[1, 3, 3, 5, 8], &mut comparator); // 1..3, and `asked` is at most 10
+/// let places = exponential_equal_places_by_ref(&[1, 3, 3, 5, 8], &mut comparator);
+/// // 1..3, and `asked` is at most 10
 /// ```
 #[must_use]
 #[inline]
@@ -106,8 +107,8 @@ where
 ///
 /// ```
 /// let slice = [0, 1, 1, 1, 1, 2, 3, 5, 8];
-/// exponential_equal_places(&slice, &1);         // 1..5
-/// &slice[exponential_equal_places(&slice, &1)]; // [1, 1, 1, 1]
+/// let places = exponential_equal_places(&slice, &1);
+/// // 1..5, and `&slice[places]` is [1, 1, 1, 1]
 /// ```
 #[must_use]
 #[inline]
@@ -129,7 +130,8 @@ pub fn exponential_equal_places<T: Ord>(slice: &[T], elem: &T) -> Range<usize>
 ///
 /// ```
 /// let rows = [(1, 'a'), (3, 'b'), (3, 'c'), (7, 'd')];
-/// exponential_equal_places_by_key(&rows, &3, |row| row.0); // 1..3
+/// let places = exponential_equal_places_by_key(&rows, &3, |row| row.0);
+/// // 1..3
 /// ```
 #[must_use]
 #[inline]

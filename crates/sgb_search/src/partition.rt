@@ -140,7 +140,8 @@ pub(crate) fn count_before<T, K, S: Test<K>, F: FnMut(&T) -> K>(
 /// predicate must be callable on each element, in whatever state earlier calls left it. It is given up.
 ///
 /// ```
-/// exponential_partition_point(&[1, 2, 3, 5, 8, 13, 21], |&x| x < 5); // 3
+/// let place = exponential_partition_point(&[1, 2, 3, 5, 8, 13, 21], |&x| x < 5);
+/// // 3
 /// ```
 #[must_use]
 #[inline]

@@ -48,33 +48,30 @@ impl<'a, T, B: Ord + Drop, F: FnMut(&T) -> B> Places<F> for Keyed<'a, T, B> {
     }
 }
 
-/// Searches a slice with a comparator: `Ok` of a place whose element it answers `Equal`, or `Err` of a place where such an
-/// element could stand.
+/// Searches a sorted slice with a comparator, from the front: `Ok` of a place whose element it answers `Equal`, or `Err` of the
+/// place where such an element could be inserted.
 ///
-/// The slice should be sorted so that the comparator answers `Less` of its first elements, then `Equal`, then `Greater`, each
-/// perhaps of none. Then there is an `Ok` exactly if some element is `Equal`; which of several is given is left open. And
-/// `Err(i)` has `Less` before place i and `Greater` from i on, so that the slice stays sorted if the element is inserted
-/// there. On any other slice, if the comparator depends only on its argument, `Ok` is an `Equal` place all the same, and `Err`
-/// a place between `Less` and `Greater`, or at an end.
+/// The slice is sorted if the comparator answers `Less` of its first elements, then `Equal`, then `Greater`, each perhaps of
+/// none. Which of several equal elements is given is left open.
 ///
 /// A search that gives place i asks at most `2 * digits(i + 1) + 1` questions, whatever it is answered (`digits` is the number
 /// of binary digits), so it is cheap near the beginning. It asks none of an empty slice.
 ///
-/// The comparator must be callable on each element, in whatever state earlier calls left it. The questions show the answer:
-///
-/// - `Ok`: the last question was answered `Equal`.
-/// - `Err`: the element before the place was answered `Less`, unless the one at it was answered in two ways.
-/// - `Err`: the element at the place was answered `Greater`, unless the one before it was answered in two ways.
-///
-/// The comparator is given up, so the contract speaks of the run of calls that found the place; `exponential_search_by_ref`
-/// says it of the comparator as it comes back.
-///
 /// ```
 /// let slice = [0, 1, 1, 1, 1, 2, 3, 5, 8, 13, 21, 34, 55];
-/// exponential_search_by(&slice, |x| x.cmp(&13));  // Ok(9)
-/// exponential_search_by(&slice, |x| x.cmp(&4));   // Err(7)
-/// exponential_search_by(&slice, |x| x.cmp(&100)); // Err(13)
+/// exponential_search_by(&slice, |x| x.cmp(&13)); // Ok(9)
+/// exponential_search_by(&slice, |x| x.cmp(&4));  // Err(7)
 /// ```
+///
+/// # Contract
+///
+/// The comparator must be callable on each element, in whatever state earlier calls left it. It is given up, so the contract speaks
+/// of the run of calls that found the place; `exponential_search_by_ref` says it of the comparator as it comes back.
+///
+/// - `boundary`: on any slice, if the comparator depends only on its argument, `Ok` is an `Equal` place, and `Err` a place between
+///   `Less` and `Greater`, or at an end.
+/// - `questions`: the last one of an `Ok` was answered `Equal`. Of an `Err` the element before the place was answered `Less` and the
+///   one at it `Greater`, unless the other of the two was answered in two ways.
 #[inline]
 pub fn exponential_search_by<T, F>(slice: &[T], mut f: F) -> Result<usize, usize>
 where

@@ -169,6 +169,13 @@ impl<'a, T, J: MaskJudge<T> + Drop> DoubleEndedIterator for MaskGroups<'a, T, J>
 }
 
 impl<'a, T, J: MaskJudge<T> + Copy> Clone for MaskGroups<'a, T, J> {
+    ghost use Rattle.std.specs.Prelude.{⊤};
+    ghost use Rattle.slice_group_simd.specs.Gives.{groups_of, place_of};
+
+    ghost is_clone = { λ s t. (groups_of t ≡ groups_of s) × (place_of t ≡ place_of s) };
+
+    ghost is_infallible = { λ _. ⊤ };
+
     fn clone(&self) -> Result<Self, AllocError> {
         Ok(MaskGroups {
             slice: self.slice,

@@ -17,7 +17,8 @@ ghost use Rattle.sgb_split.specs.Counts.{RaisesJust};
 use crate::parts::Parts;
 use sgb_linear_group::linear_group::Linear;
 use sgb_split::judge::{Judge, KeyJudge};
-use slice_group_by::laws::{GroupQueue, Judged};
+use slice_group_by::GroupQueue;
+use slice_group_by::laws::Judged;
 
 /// The parts of a block, joined, are the block, whatever the judge answers: `whole`. If it computes a test, the parts
 /// make the groups of what has come before and of the block: `block`, where `before` are the elements before. How many

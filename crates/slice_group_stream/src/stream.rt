@@ -25,8 +25,12 @@ use slice_group_simd::{ByteClasses, Lanes, LinearClassGroup, LinearNumberGroup};
 ///
 /// ```
 /// let mut stream = StreamGroups::new();
-/// stream.parts(&[1, 1, 2]); // (true, [1, 1]), (true, [2])
-/// stream.parts(&[2, 3]);    // (false, [2]), (true, [3])
+/// for (begins, part) in stream.parts(&[1, 1, 2]) {
+///     // (true, [1, 1]), (true, [2])
+/// }
+/// for (begins, part) in stream.parts(&[2, 3]) {
+///     // (false, [2]), (true, [3])
+/// }
 /// ```
 #[derive(Clone, Debug, Drop)]
 pub struct StreamGroups<K> {

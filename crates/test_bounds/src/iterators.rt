@@ -157,6 +157,33 @@ pub fn shown<T: Debug, P, F, K>(
     is_shown(by_key.1);
 }
 
+pub fn shards_shown<T: Debug, J, W>(shards: &Shards<'_, T, J, W>) {
+    is_shown(shards);
+}
+
+fn is_copied<Q: Clone + Debug>(_value: &Q) {}
+
+// What wraps is copied and shown where what it wraps is.
+pub fn wrapped<'a, T: 'a, Q: Clone + Debug, A: Debug, B: Debug, F: Clone>(
+    offsets: &WithOffsets<Q>,
+    keys: &WithKeys<Q>,
+    counts: &DedupWithCount<'a, T, Q>,
+    join: &MergeJoinBy<'a, A, B, F>,
+) {
+    is_copied(offsets);
+    is_copied(keys);
+    is_copied(counts);
+    is_copied(join);
+}
+
+pub fn masks<N: Lanes + Debug, C: ByteClasses>(
+    numbers: &LinearNumberGroup<'_, N>,
+    classes: &LinearClassGroup<'_, C>,
+) {
+    is_copied(numbers);
+    is_copied(classes);
+}
+
 // Where elements, closures and keys may cross threads.
 pub fn threads<T: Send + Sync, F: Send + Sync, K: Send + Sync, N: Lanes + Send + Sync>(
     groups: (&LinearGroup<'_, T>, &ExponentialGroupByKeyMut<'_, T, F, K>),

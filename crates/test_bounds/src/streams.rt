@@ -2,6 +2,7 @@
 use slice_group_by::LinearGroup;
 use slice_group_simd::{ByteClasses, Lanes};
 use slice_group_stream::{Parts, StreamGroups};
+use std::fmt::Debug;
 
 pub fn by_equality<T: PartialEq + Copy>(block: &[T]) {
     let mut stream = StreamGroups::new();
@@ -30,6 +31,15 @@ pub fn by_key<T, F: FnMut(&T) -> K, K: PartialEq + Drop>(key: F, block: &[T])
 {
     let mut stream = StreamGroups::new();
     let _ = stream.parts_by_key(block, key).next();
+}
+
+fn is_copied<Q: Clone + Debug>(_value: &Q) {}
+
+pub fn kept<K: Clone + Debug, I: Clone + Debug>(parts: &Parts<I>) -> StreamGroups<K> {
+    let stream = StreamGroups::default();
+    is_copied(&stream);
+    is_copied(parts);
+    stream
 }
 
 pub fn by_hand<T: PartialEq>(begins: bool, block: &[T]) {

@@ -48,6 +48,11 @@ fn each_family(word: &str, calls: &str, answers: &str) -> bool {
 }
 
 #[test]
+fn last_of_nothing(rt: HostRuntime) {
+    assert!(rt; each_family("", "L", "-"));
+}
+
+#[test]
 fn one_big_group(rt: HostRuntime) {
     assert!(rt; each_family("1111", "FF", "1111 -"));
 }

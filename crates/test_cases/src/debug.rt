@@ -4,8 +4,10 @@ use slice_group_by::{
     BinaryGroupBy, BinaryGroupByKey, BinaryGroupByKeyMut, BinaryGroupByMut, End,
     ExponentialGroupBy, ExponentialGroupByKey, ExponentialGroupByKeyMut, ExponentialGroupByMut,
     GroupAdapters, LinearGroupBy, LinearGroupByKey, LinearGroupByKeyMut, LinearGroupByMut,
+    dedup_with_count,
 };
-use slice_group_simd::LinearNumberGroup;
+use slice_group_simd::{AsciiClasses, ClassCounter, LinearClassGroup, LinearNumberGroup};
+use slice_group_stream::StreamGroups;
 use slice_merge_join::EitherOrBoth::{Both, Left, Right};
 use slice_merge_join::{EitherOrBoth, MergeJoinBy};
 use std::alloc::{AllocError, Global};
@@ -110,16 +112,107 @@ fn texts_of_values(rt: HostRuntime) -> Result<(), Fail> {
     assert!(rt; is_written(alloc, &[End::Front, End::Back], "[Front, Back]")?);
     let parts: [EitherOrBoth<u8, char>; 3] = [Left(1), Right('a'), Both(2, 'b')];
     assert!(rt; is_written(alloc, &parts, "[Left(1), Right('a'), Both(2, 'b')]")?);
-    let numbers = LinearNumberGroup::new(&[1, 1, 2]).with_offsets();
-    assert!(rt;
-        is_written(
-            alloc,
-            &numbers.clone()?,
-            "WithOffsets { groups: MaskGroups { remainder: [1, 1, 2] } }"
-        )?
-    );
-    let join = MergeJoinBy::new(&[1], &[2], |x: &u8, y: &u8| x.cmp(y));
-    assert!(rt; is_written(alloc, &join, "MergeJoinBy { left: [1], right: [2], .. }")?);
+    Ok(())
+}
+
+// Behind a call at each end.
+fn read_behind_calls(alloc: Global, wanted: &str) -> Result<bool, AllocError> {
+    let slice = [1, 2, 2, 3];
+    let mut linear = LinearGroupBy::new(&slice, equal);
+    let mut exponential = ExponentialGroupByKey::new(&slice, itself);
+    let mut numbers = LinearNumberGroup::new(&slice);
+    let _ = (linear.next(), exponential.next(), numbers.next());
+    let _ = (linear.next_back(), exponential.next_back(), numbers.next_back());
+    is_written(alloc, &(linear, exponential, numbers), wanted)
+}
+
+fn written_behind_calls(alloc: Global, wanted: &str) -> Result<bool, AllocError> {
+    let (mut first, mut second) = ([1, 2, 2, 3], [1, 2, 2, 3]);
+    let mut linear = LinearGroupByMut::new(&mut first, equal);
+    let mut exponential = ExponentialGroupByKeyMut::new(&mut second, itself);
+    let _ = (linear.next(), exponential.next());
+    let _ = (linear.next_back(), exponential.next_back());
+    is_written(alloc, &(linear, exponential), wanted)
+}
+
+#[test]
+fn texts_behind_calls(rt: HostRuntime) -> Result<(), Fail> {
+    let alloc = rt.alloc();
+    let read = "(LinearGroupBy { slice: [2, 2] }, \
+        ExponentialGroupByKey { remainder: [2, 2] }, \
+        MaskGroups { remainder: [2, 2] })";
+    assert!(rt; read_behind_calls(alloc, read)?);
+    let written = "(LinearGroupByMut { slice: [2, 2] }, ExponentialGroupByKeyMut { remaining: [2, 2] })";
+    assert!(rt; written_behind_calls(alloc, written)?);
+    Ok(())
+}
+
+// How long the text of so many zeros is.
+fn text_len(alloc: Global, zeros: usize) -> Result<usize, AllocError> {
+    let slice = vec![in alloc; 0u8; zeros]?;
+    let text = format!(in alloc; "{:?}", LinearGroupBy::new(&slice, equal_bytes))?;
+    Ok(text.len())
+}
+
+fn equal_bytes(a: &u8, b: &u8) -> bool {
+    a == b
+}
+
+// All elements are written: `0, ` for each but the last.
+#[test]
+fn texts_are_whole(rt: HostRuntime) -> Result<(), Fail> {
+    let alloc = rt.alloc();
+    assert!(rt; text_len(alloc, 1000)? - text_len(alloc, 1)? == 3 * 999);
+    Ok(())
+}
+
+fn shards_written(alloc: Global, taken: usize, wanted: &str) -> Result<bool, AllocError> {
+    let mut shards = LinearGroupBy::new(&[1, 1, 2, 3], equal).shards(3);
+    for _ in 0..taken {
+        let _ = shards.next();
+    }
+    is_written(alloc, &shards, wanted)
+}
+
+// Clones behind a call.
+fn adapters_written(alloc: Global, wanted: &str) -> Result<bool, AllocError> {
+    let mut offsets = LinearNumberGroup::new(&[1, 1, 2]).with_offsets();
+    let mut keys = LinearClassGroup::<AsciiClasses>::new(b"ab1").with_keys();
+    let mut counts = dedup_with_count(LinearNumberGroup::new(&[1, 1, 2]));
+    let _ = (offsets.next(), keys.next(), counts.next());
+    is_written(alloc, &(offsets.clone()?, keys.clone()?, counts.clone()?), wanted)
+}
+
+fn join_written(alloc: Global, wanted: &str) -> Result<bool, AllocError> {
+    let mut join = MergeJoinBy::new(&[1, 3], &[2], |x: &u8, y: &u8| x.cmp(y));
+    let _ = join.next();
+    is_written(alloc, &join.clone()?, wanted)
+}
+
+fn stream_written(alloc: Global, wanted: &str) -> Result<bool, AllocError> {
+    let mut stream = StreamGroups::default();
+    let none = stream.clone()?;
+    let mut parts = stream.number_parts(&[1, 1, 2]);
+    let _ = parts.next();
+    let (copy, kept) = (parts.clone()?, stream.clone()?);
+    is_written(alloc, &(none, copy, kept), wanted)
+}
+
+#[test]
+fn texts_of_adapters(rt: HostRuntime) -> Result<(), Fail> {
+    let alloc = rt.alloc();
+    assert!(rt; shards_written(alloc, 0, "Shards { remainder: [1, 1, 2, 3], count: 3 }")?);
+    assert!(rt; shards_written(alloc, 1, "Shards { remainder: [2, 3], count: 2 }")?);
+    let adapters = "(WithOffsets { groups: MaskGroups { remainder: [2] } }, \
+        WithKeys { groups: MaskGroups { remainder: [49] } }, \
+        DedupWithCount { groups: MaskGroups { remainder: [2] }, .. })";
+    assert!(rt; adapters_written(alloc, adapters)?);
+    assert!(rt; join_written(alloc, "MergeJoinBy { left: [3], right: [2], .. }")?);
+    let stream = "(StreamGroups { kept: None }, \
+        Parts { begins: true, groups: MaskGroups { remainder: [2] } }, \
+        StreamGroups { kept: Some(2) })";
+    assert!(rt; stream_written(alloc, stream)?);
+    assert!(rt; ClassCounter::default().counts() == ClassCounter::new().counts());
     Ok(())
 }
 

@@ -1,7 +1,7 @@
 -- The neighbouring pairs of a list, and the questions along them.
 use Rattle.std.proofs.Common.{◌≡◌, ℕ, zero, suc, ◌+◌, ◌-◌, ◌<◌, Bool, true, false, List, [], ◌∷◌, ◌++◌, length, take, drop, get_or, refl, sym, ap, ◌∙◌, arith, append_assoc, inl, inr}
 use Rattle.std.specs.Prelude.{reverse}
-use Rattle.std.specs.List.{AllByRecursion}
+use Rattle.std.specs.List.{AllByRecursion, slice_index_or}
 use Rattle.std.proofs.lemmas.List.{reverse-append, length-append, length-reverse, get_or-reverse, get_or-append-add}
 use Rattle.std.proofs.Math.Seq.{take-append_seam, drop-append_seam, get_or-append_seam}
 use Rattle.sgb_split.specs.declared.end.End.{End}
@@ -10,6 +10,15 @@ use Rattle.sgb_split.specs.Split.{from, put_at, neighbours, IsOneOf, AreNeighbou
 use Rattle.sgb_split.specs.Linear.{all_answered, questions_along, questions}
 use Rattle.sgb_split.proofs.Lists.AllByRecursion.{all_append, all_of_first, all_of_rest, all_each, all_take, all_drop, all_map, all_of_map}
 use Rattle.sgb_split.proofs.Lists.Ends.{length-from, all_from, all_of_from}
+
+-- what holds of the elements at each place and the next
+pub neighbours_by_place : {A : Type 0} (P : A → A → Type 0) (xs : List A)
+    → ((k j : ℕ) (d : A) → j ≡ suc k → j < length xs → P (slice_index_or xs k d) (slice_index_or xs j d))
+    → AllByRecursion (λ q. P q.0 q.1) (neighbours xs)
+neighbours_by_place P [] h = tt
+neighbours_by_place P (x ∷ []) h = tt
+neighbours_by_place P (x ∷ y ∷ ys) h =
+    (h 0 1 x refl (omega arith), neighbours_by_place P (y ∷ ys) (λ k j d e l. h (suc k) (suc j) d (ap suc e) (omega arith)))
 
 module _ {A : Type 0} where
   -- the pair that stands across two lists, if neither is empty

@@ -8,18 +8,11 @@ use Rattle.std.specs.Ordering.{partial_le, is_lt, ordering_reverse}
 use Rattle.std.specs.declared.cmp.Ordering.{Ordering}
 use Rattle.std.specs.declared.cmp.Ordering.TheVariants.{Less, Equal, Greater}
 use Rattle.sgb_split.specs.Split.{neighbours}
+use Rattle.sgb_split.proofs.Lists.Pairs.{neighbours_by_place}
 use Rattle.sgb_search.specs.Search.{NeverDescends}
 use Rattle.sgb_search.proofs.Searches.AscendingGroups.{along_keys}
 
 module _ {A : Type 0} (P : A → A → Type 0) where
-  pub neighbours_by_place : (xs : List A)
-      → ((k j : ℕ) (d : A) → j ≡ suc k → j < length xs → P (slice_index_or xs k d) (slice_index_or xs j d))
-      → AllByRecursion (λ q. P q.0 q.1) (neighbours xs)
-  neighbours_by_place [] h = tt
-  neighbours_by_place (x ∷ []) h = tt
-  neighbours_by_place (x ∷ y ∷ ys) h =
-      (h 0 1 x refl (omega arith), neighbours_by_place (y ∷ ys) (λ k j d e l. h (suc k) (suc j) d (ap suc e) (omega arith)))
-
   pub place_by_neighbours : (xs : List A) → AllByRecursion (λ q. P q.0 q.1) (neighbours xs) → (k j : ℕ) (d : A) → j ≡ suc k → j < length xs
       → P (slice_index_or xs k d) (slice_index_or xs j d)
   place_by_neighbours [] h k j d e l = absurd (omega arith)

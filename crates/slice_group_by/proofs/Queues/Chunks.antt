@@ -15,7 +15,7 @@ use Rattle.sgb_split.specs.Split.{put_at, first, last, IsAccepted, IsRefusedAcro
 use Rattle.sgb_split.proofs.Lists.Pairs.{in_order}
 use Rattle.sgb_split.proofs.Splits.Split.{takes_piece, takes_nothing}
 use Rattle.slice_group_by.specs.Chunks.{chunk_calls}
-use Rattle.slice_group_by.proofs.Pieces.Adjacent.{neighbours_by_place}
+use Rattle.sgb_split.proofs.Lists.Pairs.{neighbours_by_place}
 
 module _ {A : Type 0} where
   last_at : (xs : List A) (a d : A) → last xs ≡ Some a → get_or xs (length xs - 1) d ≡ a

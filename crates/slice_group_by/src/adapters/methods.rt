@@ -45,4 +45,6 @@ pub trait GroupAdapters: Sized {
     }
 }
 
+// For any type: a bound here would be proved at each use of an adapter. A type that gives no groups is refused where the adapter
+// is used as an iterator.
 impl<Q> GroupAdapters for Q {}

@@ -42,8 +42,11 @@ pub fn chunk_by_agrees<T, F: FnMut(&T, &T) -> bool, Q: GroupQueue<Element = T>>(
 {}
 
 /// On any slice, grouped or not, if the judge depends only on its arguments: a call of binary or exponential groups gives a group
-/// that ends at a local boundary of the remainder, read from the call's end.
+/// that ends at a local boundary of the remainder, read from the call's end (`ends`), and leaves such a judge for the next call
+/// (`computes`).
 pub fn groups_end_locally<T, J: Judge<T>, S: GroupSearch, G: Judged<T, J, Search<S>>>(_groups: &G)
-    ensures { (p : T → T → Bool) (e : End) (s t : G) (group : G.Item) → ComputesBy AreApart J.Judge (G.groups s) p
+    ensures ends { (p : T → T → Bool) (e : End) (s t : G) (group : G.Item) → ComputesBy AreApart J.Judge (G.groups s) p
         → G.GroupQueue.gives e s (Some group) t → IsLocalEnd (from e (G.groups s).remainder) p (length (G.GroupQueue.shows group)) }
+    ensures computes { (p : T → T → Bool) (e : End) (s t : G) (group : G.Item) → ComputesBy AreApart J.Judge (G.groups s) p
+        → G.GroupQueue.gives e s (Some group) t → ComputesBy AreApart J.Judge (G.groups t) p }
 {}

@@ -1,5 +1,5 @@
-//! Laws for the proofs of callers. Each is a function that does nothing: its contract is the law. What is proved from them
-//! stands here too: `walk`, `rank_groups`, `is_sorted_for_groups`, plans of questions, and `refute`.
+//! Laws for the proofs of callers. Each is a function that does nothing: its contract is the law. The files have what is
+//! proved from them too, which the root gives: `walk`, `rank_groups`, `is_sorted_for_groups`, `Plan` and `refute`.
 //!
 //! A function whose contract rests on a law calls it, and then its proof may cite it. Where a law takes a queue, that only
 //! names the type, which may hold a closure: the law is over all of its states.
@@ -45,9 +45,8 @@ pub use pieces::{
     bests_are_greatest, columns_split, equal_pieces_are_copies, pieces_add_up, pieces_by_key,
     pieces_have_keys,
 };
-pub use plans::{Plan, refute, right_plans_ask};
-pub use queue::{GroupQueue, RemainderLen, SliceQueue, SliceQueueMut, walk};
-pub use ranks::rank_groups;
+pub use plans::right_plans_ask;
+pub use queue::{RemainderLen, SliceQueue, SliceQueueMut};
 pub use sgb_groups::shards::sees_shards;
 pub use sgb_search::laws::{
     ascending_is_grouped, ascending_is_searchable, range_places, searchable_is_partitioned,
@@ -59,6 +58,6 @@ pub use sgb_split::laws::{
     computes_on_elements, computes_on_pairs, equality_judges, one_split, pairs_are_elements,
     splits_join,
 };
-pub use sorted::{is_sorted_for_groups, sorts_ascend};
+pub use sorted::sorts_ascend;
 pub use texts::{characters_fit, texts_join};
 pub use writing::notes_keep_pieces;

@@ -83,8 +83,8 @@ impl<S: AsStr> StrGroupBy for S {}
 /// Groups of neighbouring characters of a text's bytes, for writing.
 ///
 /// A method requires what `new` of its type requires, UTF-8 among it, and gives what it gives on all the bytes. The groups
-/// live as long as the borrow of the variable; groups from `new` live as long as the bytes. No contract of a method says
-/// which bytes the variable holds after that borrow, nor what they are then: where that is wanted, call `new`.
+/// live as long as the borrow of the variable. To learn what the bytes are afterwards, call `new`: no contract of a method
+/// says that.
 ///
 /// `GroupByMut` has methods of the same names: where both are imported, a call on bytes names its trait.
 ///

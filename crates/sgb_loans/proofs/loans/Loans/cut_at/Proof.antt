@@ -39,8 +39,8 @@ use Rattle.std.proofs.raw_atomic.Walks.{proved_at, leaves}
 use Rattle.sgb_loans.proofs.Tokens.{cut_at, cuts}
 use Rattle.sgb_loans.specs.Loans.{loan_owns, cut_link, HandsOut, part_at, rest_at}
 use Rattle.sgb_loans.specs.contracts.loans.Loans as loans
-use Rattle.sgb_loans.specs.contracts.loans.split as g
-use Rattle.sgb_loans.proofs.loans.split.Met as callee
+use Rattle.sgb_loans.specs.contracts.loans.split_at_mut as g
+use Rattle.sgb_loans.proofs.loans.split_at_mut.Met as callee
 use Rattle.sgb_loans.specs.contracts.loans.Loans.cut_at.{ended, clauses}
 use Rattle.sgb_loans.specs.contracts.loans.Loans.cut_at.Key.{name as #self}
 use Rattle.sgb_loans.proofs.loans.Loans.cut_at.Statement.{statement}
@@ -51,7 +51,7 @@ cut_at_spec 𝓤 𝓛 𝓜 𝓡 wired T L =
     let H = 𝓛.H in let 𝓣 = tables 𝓤 H 𝓜 𝓡 𝓡.env in let R : RattleType = param 0 T in let LR = param_laws 0 T L in
     let En = ended T in let c = clauses T 𝓛 𝓜.mem 𝓡.returns in let S : RattleType = loans.the_row R in
     let inst = layouts (a_type ∷ []) (T, tt) in let fn = inst_fn inst code.function in
-    let met = callee.met 𝓤 𝓛 𝓜 𝓡 (code.calls-sgb_loans::loans::split 𝓡.env wired) T L in
+    let met = callee.met 𝓤 𝓛 𝓜 𝓡 (code.calls-sgb_loans::loans::split_at_mut 𝓡.env wired) T L in
     let G = triple_of 𝓛 (g.signature T) (g.spec T 𝓛 𝓜.mem 𝓡.returns) in
     let at_end = shr_ref_to (1 ∷ []) tt (plain (λ _. ends.the_row)) in let slice = mut_slice_of (2 ∷ []) tt (plain (λ _. R)) in
     let hs : Stays En.signature.params En.kept = (
