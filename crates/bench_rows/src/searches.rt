@@ -1,7 +1,8 @@
 //! The rows of searches and of plans.
 use crate::lines::differs;
-use slice_group_by::{Plan, refute};
-use slice_group_by::{exponential_search, exponential_search_by, exponential_search_by_key};
+use slice_group_by::{
+    Plan, exponential_search, exponential_search_by, exponential_search_by_key, refute,
+};
 use std::io::{Error, Write};
 
 const NUMBERS: [i32; 13] = [0, 1, 1, 1, 1, 2, 3, 5, 8, 13, 21, 34, 55];

@@ -1,1 +1,2 @@
+pub mod AsOf
 pub mod Names

@@ -2,6 +2,8 @@
 #![tactic(auto)]
 
 pub mod alone;
+pub mod as_of;
+pub mod compaction;
 pub mod kinds;
 pub mod merged;
 pub mod names;

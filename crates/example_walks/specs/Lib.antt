@@ -1,5 +1,6 @@
 pub mod Columns
 pub mod LongGroups
+pub mod LongRuns
 pub mod Runs
 pub mod Tens
 pub mod Totals

@@ -9,6 +9,7 @@ pub mod equal_groups;
 pub mod families;
 pub mod folds;
 pub mod keys;
+pub mod long_runs;
 pub mod loops;
 pub mod offsets;
 pub mod streams;

@@ -12,3 +12,4 @@ pub mod SearchQueue
 pub mod PartitionPoint
 pub mod Ascending
 pub mod AscendingGroups
+pub mod BeforePlace

@@ -1,12 +1,12 @@
 //! Laws of slices that ascend, and of the searches of a slice.
-ghost use Rattle.std.specs.Prelude.{◌≡◌, ◌↔◌, ℕ, ◌<◌, ◌≤◌, ◌++◌, List, Some, length, map};
-ghost use Rattle.std.specs.Prelude.{slice_range};
+ghost use Rattle.std.specs.Prelude.{◌≡◌, ◌↔◌, ℕ, ◌-◌, ◌<◌, ◌≤◌, ◌++◌, Bool, not, List, Some, length, map};
+ghost use Rattle.std.specs.Prelude.{drop, slice_range, take};
 ghost use Rattle.std.specs.List.{slice_get, count_by, filter};
 ghost use Rattle.std.specs.List.Sorted.{IsPartitionedBy};
 ghost use Rattle.std.specs.Ordering.{flip_args, is_lt, is_le, is_eq, is_gt};
 ghost use Rattle.std.specs.declared.cmp.Ordering.{Ordering};
 ghost use Rattle.std.specs.declared.cmp.Ordering.TheVariants.{Equal};
-ghost use Rattle.sgb_split.specs.Split.{IsGrouped};
+ghost use Rattle.sgb_split.specs.Split.{IsGrouped, last};
 ghost use Rattle.sgb_search.specs.Ranges.{IsRangeAt};
 ghost use Rattle.sgb_search.specs.Search.{IsLessEqualGreater, NeverDescends, between};
 
@@ -32,9 +32,19 @@ pub fn ascending_is_searchable<T, K: Ord>()
 {}
 
 /// In a list whose answers are `Less`, then `Equal`, then `Greater` (`ascending_is_searchable`), the elements that are `Less` come
-/// first. A search for a partition point by this test finds where they end.
+/// first (`less`), and so do those that are not `Greater` (`not_greater`). A search for a partition point by either test finds where
+/// they end. What stands before that place are those that pass (`before`), and from it on the others (`behind`). `last` is what the
+/// method `last` of the part before it gives.
 pub fn searchable_is_partitioned<T>()
-    ensures { (ord : T → Ordering) (xs : List T) → IsLessEqualGreater ord xs → IsPartitionedBy (λ x. is_lt (ord x)) xs }
+    ensures less { (ord : T → Ordering) (xs : List T) → IsLessEqualGreater ord xs → IsPartitionedBy (λ x. is_lt (ord x)) xs }
+    ensures not_greater { (ord : T → Ordering) (xs : List T) → IsLessEqualGreater ord xs
+        → IsPartitionedBy (λ x. is_le (ord x)) xs }
+    ensures before { (p : T → Bool) (xs : List T) (place : ℕ) → IsPartitionedBy p xs → place ≡ count_by p xs
+        → take place xs ≡ filter p xs }
+    ensures behind { (p : T → Bool) (xs : List T) (place : ℕ) → IsPartitionedBy p xs → place ≡ count_by p xs
+        → drop place xs ≡ filter (λ x. not (p x)) xs }
+    ensures last { (p : T → Bool) (xs : List T) (place : ℕ) → IsPartitionedBy p xs → place ≡ count_by p xs
+        → slice_get (take place xs) (length (take place xs) - 1) ≡ last (filter p xs) }
 {}
 
 /// Where the equal elements stand, in a list whose answers are `Less`, then `Equal`, then `Greater`: behind as many as are `Less`

@@ -4,3 +4,4 @@ pub mod JoinedParts
 pub mod States
 pub mod StreamParts
 pub mod OverBlocks
+pub mod ClosedGroups

@@ -1,6 +1,6 @@
 //! Laws of groups that go on over the blocks of a stream.
 ghost use Rattle.std.specs.Prelude.{◌≡◌, ◌≢◌, ℕ, ◌+◌, ◌-◌, ◌*◌, ◌<◌, Bool, ◌&&◌, List, [], ◌∷◌, ◌++◌};
-ghost use Rattle.std.specs.Prelude.{length, Option, Some, count_by, flat_map, map, option_map, slice_index_or, slice_set};
+ghost use Rattle.std.specs.Prelude.{length, Option, None, Some, count_by, flat_map, map, option_map, slice_index_or, slice_set};
 ghost use Rattle.std.specs.Borrow.{MutBor};
 ghost use Rattle.std.specs.Fn.{CalledAt};
 ghost use Rattle.std.specs.Iterator.{Drains, Yields};
@@ -12,6 +12,7 @@ ghost use Rattle.slice_group_stream.specs.declared.parts.Parts.{Parts};
 ghost use Rattle.slice_group_stream.specs.Streams.{AsksEnds, GivesBlockPart, across, add_part, add_values, of_nonempty};
 ghost use Rattle.slice_group_stream.specs.Streams.{begins_at, begins_of, change_last, groups_in};
 ghost use Rattle.slice_group_stream.specs.Streams.{last_after, pair_list, with_part, with_parts};
+ghost use Rattle.slice_group_stream.specs.Closing.{ClosedSoFar, take_part};
 ghost use Rattle.sgb_split.specs.Counts.{RaisesJust};
 
 use crate::parts::Parts;
@@ -22,7 +23,7 @@ use slice_group_by::laws::Judged;
 
 /// The parts of a block, joined, are the block, whatever the judge answers: `whole`. If it computes a test, the parts
 /// make the groups of what has come before and of the block: `block`, where `before` are the elements before. How many
-/// of these pass a test that their first elements decide, `count` says, part by part.
+/// these are, `groups` says, and `count` how many of them pass a test that their first elements decide, part by part.
 ///
 /// `kept` says which element the stream keeps. A loop that keeps more than `parts_fold` says keeps it of `with_parts`
 /// of the parts so far: `turn` says what a part more changes, and each is `nonempty`.
@@ -35,6 +36,12 @@ pub fn parts_join<Q: GroupQueue>(_parts: &Parts<Q>)
         → begins_of s ≡ begins_at p (across (last before) block)
         → Drains (GivesBlockPart (Q.gives Front)) s parts
         → with_parts (split p before) (map (λ x. (x.0, Q.shows x.1)) parts) ≡ split p (before ++ block) }
+    ensures groups { (p : Q.Element → Q.Element → Bool) (before block : List Q.Element)
+        (s : Parts Q) (parts : List (Bool × Q.Item))
+        → Q.is_settled (groups_in s) p → Q.remainder (groups_in s) ≡ block
+        → begins_of s ≡ begins_at p (across (last before) block)
+        → Drains (GivesBlockPart (Q.gives Front)) s parts
+        → length (split p (before ++ block)) ≡ length (split p before) + count_by (λ x. x.0) parts }
     ensures count { (test : List Q.Element → Bool)
         → ((group part : List Q.Element) → group ≢ [] → test (group ++ part) ≡ test group)
         → (p : Q.Element → Q.Element → Bool) (before block : List Q.Element)
@@ -77,6 +84,31 @@ pub fn parts_fold<Q: GroupQueue, V>(_parts: &Parts<Q>)
         → Drains (GivesBlockPart (Q.gives Front)) s parts
         → fold (λ values x. add_values (of_nonempty first) more values (x.0, Q.shows x.1)) values parts
         ≡ flat_map (of_nonempty first) (split p (before ++ block)) }
+{}
+
+/// A loop over parts that uses what it kept of a group when the next one begins, and after the last block. `kept` is what it keeps of
+/// a group, of its elements so far, and `close` what it makes of that. Then after a block it has made so much of the groups that are
+/// closed, and keeps so much of the open one, as of all elements that came.
+pub fn parts_close<Q: GroupQueue, V, W>(_parts: &Parts<Q>)
+    ensures { (kept : List Q.Element → V) (more : V → List Q.Element → V) (close : V → List W)
+        → close (kept []) ≡ []
+        → ((group part : List Q.Element) → group ≢ [] → part ≢ [] → more (kept group) part ≡ kept (group ++ part))
+        → (p : Q.Element → Q.Element → Bool) (came block : List Q.Element) (before after : Option Q.Element)
+        (made made' : List W) (value value' : V) (s : Parts Q) (parts : List (Bool × Q.Item))
+        → ClosedSoFar p kept close before made value came
+        → (made', value') ≡ fold (λ m x. take_part kept more close m (x.0, Q.shows x.1)) (made, value) parts
+        → after ≡ last_after before block → begins_of s ≡ begins_at p (across before block)
+        → Q.is_settled (groups_in s) p → Q.remainder (groups_in s) ≡ block
+        → Drains (GivesBlockPart (Q.gives Front)) s parts
+        → ClosedSoFar p kept close after made' value' (came ++ block) }
+{}
+
+/// Before the first block nothing is made (`begins`), and when what is kept after the last is closed too, all groups are (`all`).
+pub fn groups_close<A, V, W>()
+    ensures begins { (p : A → A → Bool) (kept : List A → V) (close : V → List W) → ClosedSoFar p kept close None [] (kept []) [] }
+    ensures all { (p : A → A → Bool) (kept : List A → V) (close : V → List W) (before : Option A) (made : List W) (value : V)
+        (came : List A) → close (kept []) ≡ [] → ClosedSoFar p kept close before made value came
+        → made ++ close value ≡ flat_map (λ group. close (kept group)) (split p came) }
 {}
 
 /// What `add_part` makes of a part that goes on, where the last value stands in a vector and is changed there, as by

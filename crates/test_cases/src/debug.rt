@@ -122,7 +122,11 @@ fn read_behind_calls(alloc: Global, wanted: &str) -> Result<bool, AllocError> {
     let mut exponential = ExponentialGroupByKey::new(&slice, itself);
     let mut numbers = LinearNumberGroup::new(&slice);
     let _ = (linear.next(), exponential.next(), numbers.next());
-    let _ = (linear.next_back(), exponential.next_back(), numbers.next_back());
+    let _ = (
+        linear.next_back(),
+        exponential.next_back(),
+        numbers.next_back(),
+    );
     is_written(alloc, &(linear, exponential, numbers), wanted)
 }
 
@@ -142,7 +146,8 @@ fn texts_behind_calls(rt: HostRuntime) -> Result<(), Fail> {
         ExponentialGroupByKey { remainder: [2, 2] }, \
         MaskGroups { remainder: [2, 2] })";
     assert!(rt; read_behind_calls(alloc, read)?);
-    let written = "(LinearGroupByMut { slice: [2, 2] }, ExponentialGroupByKeyMut { remaining: [2, 2] })";
+    let written =
+        "(LinearGroupByMut { slice: [2, 2] }, ExponentialGroupByKeyMut { remaining: [2, 2] })";
     assert!(rt; written_behind_calls(alloc, written)?);
     Ok(())
 }
@@ -180,7 +185,11 @@ fn adapters_written(alloc: Global, wanted: &str) -> Result<bool, AllocError> {
     let mut keys = LinearClassGroup::<AsciiClasses>::new(b"ab1").with_keys();
     let mut counts = dedup_with_count(LinearNumberGroup::new(&[1, 1, 2]));
     let _ = (offsets.next(), keys.next(), counts.next());
-    is_written(alloc, &(offsets.clone()?, keys.clone()?, counts.clone()?), wanted)
+    is_written(
+        alloc,
+        &(offsets.clone()?, keys.clone()?, counts.clone()?),
+        wanted,
+    )
 }
 
 fn join_written(alloc: Global, wanted: &str) -> Result<bool, AllocError> {

@@ -1,7 +1,8 @@
 //! Searches, plans of questions and merge joins, case by case.
 use slice_group_by::Plan::{Answer, Ask};
-use slice_group_by::{Plan, refute};
-use slice_group_by::{MergeJoin, exponential_search, exponential_search_by, is_sorted_for_groups};
+use slice_group_by::{
+    MergeJoin, Plan, exponential_search, exponential_search_by, is_sorted_for_groups, refute,
+};
 use std::alloc::{AllocError, Global};
 
 #[test]

@@ -3,7 +3,7 @@ use Rattle.std.specs.Prelude.{cond, ◌≡◌, ℕ, ◌≤◌, Bool, true, false
 use Rattle.std.proofs.Common.{refl, sym, ap, ◌∙◌, subst, arith}
 use Rattle.std.specs.List.{AllByRecursion, count_by, filter, slice_index_or}
 use Rattle.std.specs.List.Sorted.{IsPartitionedBy, IsPartitionPoint}
-use Rattle.std.specs.Ordering.{ordering_index, is_lt, is_eq}
+use Rattle.std.specs.Ordering.{ordering_index, is_lt, is_le, is_eq}
 use Rattle.std.specs.declared.cmp.Ordering.{Ordering}
 use Rattle.std.specs.declared.cmp.Ordering.TheVariants.{Less, Equal, Greater}
 use Rattle.std.proofs.Math.Seq.{take-append_seam, drop-append_seam}
@@ -93,6 +93,16 @@ module _ {T : Type 0} (ord : T → Ordering) where
 
   pub less_first : (xs : List T) → IsLessEqualGreater ord xs → IsPartitionedBy (λ x. is_lt (ord x)) xs
   less_first xs up i j d l k e = less_below (ord (slice_index_or xs i d)) (ord (slice_index_or xs j d)) (up i j d l k) e
+
+  le_below : (a b : Ordering) → ordering_index a ≤ ordering_index b → is_le b ≡ true → is_le a ≡ true
+  le_below Less b h e = refl
+  le_below Equal b h e = refl
+  le_below Greater Less h e = absurd (omega arith)
+  le_below Greater Equal h e = absurd (omega arith)
+  le_below Greater Greater h e = absurd (cc e)
+
+  pub not_greater_first : (xs : List T) → IsLessEqualGreater ord xs → IsPartitionedBy (λ x. is_le (ord x)) xs
+  not_greater_first xs up i j d l k e = le_below (ord (slice_index_or xs i d)) (ord (slice_index_or xs j d)) (up i j d l k) e
 
   equal_first : (xs : List T) → IsLessEqualGreater ord xs → AllByRecursion (λ x. is_lt (ord x) ≡ false) xs
       → IsPartitionedBy (λ x. is_eq (ord x)) xs

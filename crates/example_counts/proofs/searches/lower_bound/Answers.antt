@@ -9,5 +9,5 @@ returns g c =
     let sought = c.args.sought.now in
     c.exponential_partition_point.ensures.count (λ x. is_lt (g.T.Ord.cmp x sought))
     (c.always_computes.ensures xs (λ x. is_lt (g.T.Ord.cmp x sought)) _ (always_returns_same _ _ _ (λ a r f' k. search rules)))
-    (c.searchable_is_partitioned.ensures (λ x. g.T.Ord.cmp x sought) xs
+    (c.searchable_is_partitioned.ensures.less (λ x. g.T.Ord.cmp x sought) xs
     (c.ascending_is_searchable.ensures.by_itself sought xs c.requires))
