@@ -1,5 +1,5 @@
 -- How many questions calls ask at one end, and what a search does to a counter.
-use Rattle.std.proofs.Common.{◌≡◌, ℕ, ◌+◌, ◌-◌, ◌*◌, ◌<◌, ◌≤◌, Bool, true, List, [], ◌∷◌, length, Option, Some, subst, ap, refl, arith, ◌∙◌}
+use Rattle.std.proofs.Common.{◌≡◌, ℕ, ◌+◌, ◌-◌, ◌*◌, ◌≤◌, Bool, List, [], ◌∷◌, length, Option, Some, subst, ap, refl, arith}
 use Rattle.std.proofs.Math.Nat.{mul-le-mul_left}
 use Rattle.std.specs.Iterator.{Yields}
 use Rattle.std.specs.Iterator.Adapters.{map_source}
@@ -12,9 +12,7 @@ use Rattle.std.specs.Prelude.{Result}
 use Rattle.std.specs.declared.cmp.Ordering.{Ordering}
 use Rattle.sgb_search.specs.Search.{IsSearch}
 use Rattle.sgb_search.specs.Searching.{digits, answer_place, MayAskAt, AnsweredAt}
-use Rattle.sgb_split.specs.Split.{neighbours}
-use Rattle.sgb_split.proofs.Lists.Pairs.{length-neighbours}
-use Rattle.sgb_split.specs.Judges.{IsRun, IsRunOf, AsksWithin}
+use Rattle.sgb_split.specs.Judges.{AsksWithin}
 use Rattle.sgb_split.proofs.Questions.Calls.{asks_nothing, asks_add}
 use Rattle.sgb_split.proofs.Questions.Counting.{counts_most}
 
