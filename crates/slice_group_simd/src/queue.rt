@@ -5,8 +5,8 @@ use crate::byte_classes::{ByteClasses, ClassJudge};
 use crate::mask_groups::MaskGroups;
 use sgb_linear_group::linear_group::Linear;
 use sgb_numbers::masks::MaskJudge;
-use slice_group_by::adapters::{Keyed, Offsets};
 use slice_group_by::GroupQueue;
+use slice_group_by::adapters::{Keyed, Offsets};
 use slice_group_by::laws::{Judged, RemainderLen, SliceQueue};
 
 impl<'a, T, J: MaskJudge<T> + Drop> GroupQueue for MaskGroups<'a, T, J> {
