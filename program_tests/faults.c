@@ -16,12 +16,12 @@ static ssize_t fails(long code) {
     return -1;
 }
 
-// ONE_BY_ONE: each call takes one byte, and is interrupted once before it does. Behind `at` bytes each call fails by the code `error`.
+// ONE_BY_ONE: each call takes one byte, and is interrupted three times before it does. Behind `at` bytes each call fails by the code `error`.
 static ssize_t call(long way, int fd, void *buffer, size_t count, long at, long error) {
-    static long taken[2], is_interrupted[2];
+    static long taken[2], calls[2];
     if (number("ONE_BY_ONE")) {
-        is_interrupted[way] = !is_interrupted[way];
-        if (is_interrupted[way]) return fails(EINTR);
+        calls[way] = (calls[way] + 1) % 4;
+        if (calls[way]) return fails(EINTR);
         if (count > 1) count = 1;
     }
     if (error && taken[way] == at) return fails(error);

@@ -1,13 +1,19 @@
 -- What sums say of the rows so far.
 use Rattle.std.proofs.Common.{◌≡◌, ℕ, ◌+◌, ◌<◌, List, [], ◌∷◌, ◌++◌, Bool, cond, nat_eq, sum_by, length, get_or, set}
-use Rattle.std.proofs.Common.{flat_map, Option, None, Some, IfSome, refl, sym, ap, ◌∙◌, arith}
+use Rattle.std.proofs.Common.{refl, sym, ap, ◌∙◌, arith, Option, None, Some, IfSome}
+use Rattle.std.specs.Prelude.{option_map}
+use Rattle.csv.specs.declared.writer.Writer.{Writer}
 use Rattle.std.specs.Cmp.Lexicographic.{pointwise}
-use Rattle.std.specs.Io.KnownBytes.{Appends, Keeps}
 use Rattle.std.proofs.lemmas.List.Sums.{sum_by-append, sum_by_push, sum_by-set, get_or-le-sum_by}
-use Rattle.program_parts.proofs.Appended.{appends_kept}
+use Rattle.program_parts.specs.Records.{Record, first_record, names_in, rows_of}
+use Rattle.program_parts.specs.RecordsKept.{AreRead, SaysWhole}
+use Rattle.program_parts.specs.Written.{Writes}
+use Rattle.program_parts.specs.declared.records.Format.{Format}
 use Rattle.grouped_report.specs.Departments.{Row, amount, IsReport, SaysTheSame}
-use Rattle.grouped_report.specs.Report.{sum_line, total_line}
-use Rattle.grouped_report.specs.Runs.{AreRows, Reports}
+use Rattle.grouped_report.specs.Input.{ArePlaces, Says}
+use Rattle.grouped_report.specs.Report.{report_rows}
+use Rattle.grouped_report.specs.Runs.{Reports}
+use Rattle.grouped_report.specs.declared.columns.Places.{Places}
 use Rattle.grouped_report.proofs.Lines.{both}
 
 -- rows say what they say themselves, and what others do that say the same
@@ -70,16 +76,22 @@ module _ (rows : List Row) (place : ℕ) (old : Row) (d : List ℕ) (more : ℕ)
           omega (arith, sum_by-set amount rows place new old inside, sum_by_push amount rows added, here);
     }
 
--- their report is written
-pub reports : (a before written after : Option (List ℕ)) (rows sums : List Row) (w : Bool) → IfSome a (λ bytes. AreRows bytes rows w)
-    → SaysTheSame rows sums → IsReport sums → Appends before written (flat_map sum_line sums ++ total_line sums) → Keeps written after
-    → IfSome a (λ bytes. Reports bytes w before after)
-reports None before written after rows sums w read same is_report writes keeps = tt
-reports (Some bytes) before written after rows sums w read same is_report writes keeps = record {
+-- the report of a table is written
+pub reports : {W : Type 0} (contents : W → Option (List ℕ)) (format : Format) (by sum : List ℕ) (input : Option (List ℕ)) (width : ℕ)
+    (names : Record) (places : Places) (rows sums : List Row) (w : Bool) (before after : Writer W)
+    → IfSome input (λ bytes. width ≡ length (first_record format bytes)) → IfSome input (λ bytes. names ≡ names_in format bytes)
+    → ArePlaces width names by sum places
+    → IfSome (option_map (rows_of format) input) (λ records. AreRead (SaysWhole width (Says places)) records rows w)
+    → SaysTheSame rows sums → IsReport sums → Writes contents before after (report_rows names places sums)
+    → IfSome input (λ bytes. Reports contents format by sum bytes w before after)
+reports contents format by sum None width names places rows sums w before after e f are_places read same is_report writes = tt
+reports contents format by sum (Some bytes) width names places rows sums w before after e f are_places read same is_report writes = record {
+  places = places;
+  are_places = rw (e, f) at are_places;
   rows = rows;
-  are_rows = read;
+  are_read = rw e at read;
   sums = sums;
   same = same;
   is_report = is_report;
-  writes = appends_kept before written after (flat_map sum_line sums ++ total_line sums) writes keeps;
+  writes = rw f at writes;
 }

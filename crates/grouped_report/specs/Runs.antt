@@ -1,28 +1,25 @@
 -- What a run reads and writes.
-use Rattle.std.specs.Prelude.{ℕ, List, ◌++◌, Bool, Option, flat_map}
-use Rattle.std.specs.Io.KnownBytes.{Appends}
-use Rattle.program_parts.specs.Read.{AreRead}
+use Rattle.std.specs.Prelude.{ℕ, List, Bool, Option, length}
+use Rattle.csv.specs.declared.writer.Writer.{Writer}
+use Rattle.program_parts.specs.Records.{first_record, names_in, rows_of}
+use Rattle.program_parts.specs.RecordsKept.{AreRead, SaysWhole}
+use Rattle.program_parts.specs.Written.{Writes}
+use Rattle.program_parts.specs.declared.records.Format.{Format}
 use Rattle.grouped_report.specs.Departments.{Row, IsReport, SaysTheSame}
-use Rattle.grouped_report.specs.Input.{Says, IsWrong}
-use Rattle.grouped_report.specs.Report.{sum_line, total_line}
-use Rattle.grouped_report.specs.declared.row.Problem.{Problem}
+use Rattle.grouped_report.specs.Input.{ArePlaces, Says}
+use Rattle.grouped_report.specs.Report.{report_rows}
+use Rattle.grouped_report.specs.declared.columns.Places.{Places}
 
--- a line says a row, whatever rows stand before it, or this is wrong with it
-abbrev pub SaysRow : List Row → List ℕ → Row → Type 0
-SaysRow before line row = Says line row
-
-abbrev pub IsNoRow : List Row → List ℕ → Problem → Type 0
-IsNoRow before line problem = IsWrong line problem
-
--- these are the rows that the lines of a file say; the others are left out, and `is_whole` says whether there is none
-abbrev pub AreRows : List ℕ → List Row → Bool → Type 0
-AreRows = AreRead SaysRow IsNoRow
-
--- the report of these rows is written
-pub record Reports (bytes : List ℕ) (is_whole : Bool) (before after : Option (List ℕ)) : Type 0 where
-  pub rows : List Row
-  pub are_rows : AreRows bytes rows is_whole
-  pub sums : List Row
-  pub same : SaysTheSame rows sums
-  pub is_report : IsReport sums
-  pub writes : Appends before after (flat_map sum_line sums ++ total_line sums)
+-- The report of a table in these bytes is written, by the columns of these texts: of the rows that its records say. The others are left out,
+-- and `is_whole` says whether there is none.
+pub record Reports {W : Type 0} (contents : W → Option (List ℕ)) (format : Format) (by sum bytes : List ℕ) (is_whole : Bool)
+    (before after : Writer W) : Type 0
+  where
+    pub places : Places
+    pub are_places : ArePlaces (length (first_record format bytes)) (names_in format bytes) by sum places
+    pub rows : List Row
+    pub are_read : AreRead (SaysWhole (length (first_record format bytes)) (Says places)) (rows_of format bytes) rows is_whole
+    pub sums : List Row
+    pub same : SaysTheSame rows sums
+    pub is_report : IsReport sums
+    pub writes : Writes contents before after (report_rows (names_in format bytes) places sums)

@@ -1,30 +1,61 @@
-//! The lines of a report.
-ghost use Rattle.std.specs.Prelude.{◌++◌, flat_map, OnOk};
-ghost use Rattle.std.specs.Io.KnownBytes.{Appends};
-ghost use Rattle.grouped_report.specs.Report.{sum_line, total_line};
+//! The rows of a report.
+ghost use Rattle.std.specs.Prelude.{◌∷◌, [], map, OnOk};
+ghost use Rattle.csv.specs.Records.{field_at, fields_of};
+ghost use Rattle.program_parts.specs.Written.{Writes};
+ghost use Rattle.grouped_report.specs.Report.{names_rows, report_rows, sum_row};
 
+use crate::columns::Places;
 use crate::entry::Entry;
-use crate::fold::total;
+use csv::{ByteRecord, Writer};
+use program_parts::rows::write_row;
+use std::alloc::Global;
 use std::io;
 use std::io::Write;
 
-/// Writes a line for each sum, and one for their total.
-pub fn write_report<W: Write>(sums: &[Entry], out: &mut W) -> io::Result<()>
-    ensures { OnOk result (Appends (W.contents out.old) (W.contents out.new)
-        (flat_map sum_line sums.now ++ total_line sums.now)) }
+/// Writes the names of the two columns, if the table has names, and a row for each sum.
+pub fn write_report<W: Write + Drop>(
+    alloc: Global,
+    names: &ByteRecord,
+    places: Places,
+    sums: &[Entry],
+    out: &mut Writer<W>,
+) -> io::Result<()>
+    ensures { OnOk result (Writes W.contents out.old out.new (report_rows (fields_of names.now) places sums.now)) }
 {
-    for sum in sums {
-        write_sum(sum, out)?;
-    }
-    let Some(total) = total(sums) else {
-        return Err(io::Error::other("the total is no number of 128 bits"));
-    };
-    writeln!(out, "total: {total}")
+    write_names(names, places, out)?;
+    write_sums(alloc, sums, out)
 }
 
-// The line of a sum.
-fn write_sum<W: Write>(sum: &Entry, out: &mut W) -> io::Result<()>
-    ensures { OnOk result (Appends (W.contents out.old) (W.contents out.new) (sum_line sum.now)) }
+// Writes the names of the two columns, if there are any.
+fn write_names<W: Write + Drop>(
+    names: &ByteRecord,
+    places: Places,
+    out: &mut Writer<W>,
+) -> io::Result<()>
+    ensures { OnOk result (Writes W.contents out.old out.new
+        (names_rows (field_at (fields_of names.now) places.by) (field_at (fields_of names.now) places.sum))) }
 {
-    writeln!(out, "department {}: {}", sum.department(), sum.amount())
+    match (names.get(places.by), names.get(places.sum)) {
+        (Some(by), Some(sum)) => write_row(&[by, sum], out),
+        _ => Ok(()),
+    }
+}
+
+// Writes a row for each sum.
+fn write_sums<W: Write + Drop>(alloc: Global, sums: &[Entry], out: &mut Writer<W>) -> io::Result<()>
+    ensures { OnOk result (Writes W.contents out.old out.new (map sum_row sums.now)) }
+{
+    for sum in sums {
+        write_sum(alloc, sum, out)?;
+    }
+    Ok(())
+}
+
+// Writes the row of a sum.
+fn write_sum<W: Write + Drop>(alloc: Global, sum: &Entry, out: &mut Writer<W>) -> io::Result<()>
+    ensures { OnOk result (Writes W.contents out.old out.new (sum_row sum.now ∷ [])) }
+{
+    let amount = sum.amount();
+    let amount = format!(in alloc; "{amount}")?;
+    write_row(&[sum.department(), amount.as_bytes()], out)
 }

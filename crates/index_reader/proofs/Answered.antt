@@ -1,25 +1,30 @@
 -- What is found for each query of a block.
-use Rattle.std.proofs.Common.{◌≡◌, ◌≢◌, Bool, true, false, nat_eq, set, subst, take, ◌+◌, ℕ, ◌<◌, suc, List, []}
+use Rattle.std.proofs.Common.{◌≡◌, ◌≢◌, Bool, true, false, nat_eq, set, subst, take, drop, append-nil, ◌+◌, ℕ, ◌<◌, suc, List, []}
 use Rattle.std.proofs.Common.{◌∷◌, ◌++◌, length, map, flat_map, get_or, Option, refl, sym, ap, ◌∙◌, arith}
 use Rattle.std.proofs.lemmas.Bool.{false≢true}
 use Rattle.std.specs.Prelude.{All, HoldsAt, IsPermutation}
 use Rattle.std.specs.List.{enumerate_from}
-use Rattle.std.proofs.lemmas.List.{length-map, get_or-map, get_or-set_other}
+use Rattle.std.proofs.lemmas.List.{drop_all, length-map, get_or-map, get_or-set_other, take_all}
 use Rattle.std.proofs.Math.Seq.{map-set_same}
 use Rattle.std.proofs.lemmas.Bool.Decides.{nat_tests}
 use Rattle.std.proofs.lemmas.Grind.{flat_map-append, get_or-set_at}
 use Rattle.std.proofs.lemmas.List.Elements.{All-contains, All-from_get_or, All-more, All-nil, Contains-get_or}
 use Rattle.std.proofs.lemmas.List.FromFn.{get_or-enumerate_from, length-enumerate_from}
 use Rattle.std.proofs.lemmas.List.Sorted.{All-permutation, Contains-permutation}
-use Rattle.std.specs.Io.KnownBytes.{Appends}
-use Rattle.program_parts.proofs.Appended.{appends_both}
-use Rattle.index_reader.specs.Answers.{answer_line, line}
-use Rattle.index_reader.specs.Runs.{answers}
+use Rattle.csv.specs.declared.writer.Writer.{Writer}
+use Rattle.program_parts.proofs.Writing.{writes_both}
+use Rattle.program_parts.specs.Written.{Writes}
+use Rattle.index_reader.specs.Answers.{answers, entry_rows, rows}
 use Rattle.index_reader.specs.Blocks.{IsAnswer, IsOneOf, numbered, places_of}
 use Rattle.index_reader.specs.Keys.{of_key}
 use Rattle.index_reader.specs.declared.answer.Answer.{Answer}
 use Rattle.index_reader.specs.declared.block.Query.{Query}
 use Rattle.index_reader.specs.declared.entry.Entry.{Entry}
+
+-- a vector whose elements were changed as a slice has those of the slice
+pub all_changed : {X : Type 0} (n : ℕ) (ys xs : List X) → n ≡ length xs → length ys ≡ length xs → take n (ys ++ drop (length ys) xs) ≡ ys
+all_changed n ys xs e f =
+    ap (take n) (ap (λ l. ys ++ l) (drop_all (length ys) xs (omega (arith, f))) ∙ append-nil ys) ∙ take_all n ys (omega (arith, e, f))
 
 abbrev pub query_of : ℕ × ℕ → Query
 query_of q = record { key = q.1; number = q.0 }
@@ -90,18 +95,19 @@ each_is_found P keys queries (x ∷ xs) same e found =
     All-contains (λ q. HoldsAt P (x ∷ xs) q.number) queries query found
     (Contains-permutation (numbered keys) queries query same among) x)
 
--- the lines of the answers are those of their keys
-pub lines_are : (index : List Entry) (answers : List Answer) → All (IsAnswer index) answers
-    → flat_map (λ answer. line answer.key (places_of answer)) answers
-    ≡ flat_map (λ key. answer_line key (of_key key index)) (map (λ answer. answer.key) answers)
-lines_are index [] all = refl
-lines_are index (x ∷ xs) all =
-    ap (λ places. line x.key places ++ flat_map (λ answer. line answer.key (places_of answer)) xs) (all 0 x (omega arith))
-    ∙ ap (λ rest. answer_line x.key (of_key x.key index) ++ rest) (lines_are index xs (λ k d l. all (suc k) d (omega (arith, l))))
+-- the rows of the answers are those of their keys
+pub rows_are : (index : List Entry) (answers : List Answer) → All (IsAnswer index) answers
+    → flat_map (λ answer. rows answer.key (places_of answer)) answers
+    ≡ flat_map (λ key. entry_rows key (of_key key index)) (map (λ answer. answer.key) answers)
+rows_are index [] all = refl
+rows_are index (x ∷ xs) all =
+    ap (λ places. rows x.key places ++ flat_map (λ answer. rows answer.key (places_of answer)) xs) (all 0 x (omega arith))
+    ∙ ap (λ rest. entry_rows x.key (of_key x.key index) ++ rest) (rows_are index xs (λ k d l. all (suc k) d (omega (arith, l))))
 
 -- the answers to some queries, and then to others
-pub answers_both : (index : List Entry) (xs ys : List ℕ) (before mid after : Option (List ℕ)) → Appends before mid (answers index xs)
-    → Appends mid after (answers index ys) → Appends before after (answers index (xs ++ ys))
-answers_both index xs ys before mid after h k =
-    rw (flat_map-append (λ key. answer_line key (of_key key index)) xs ys)
-    (appends_both before mid after (answers index xs) (answers index ys) h k)
+pub answers_both : {W : Type 0} (contents : W → Option (List ℕ)) (index : List Entry) (xs ys : List ℕ) (before mid after : Writer W)
+    → Writes contents before mid (answers index xs) → Writes contents mid after (answers index ys)
+    → Writes contents before after (answers index (xs ++ ys))
+answers_both contents index xs ys before mid after h k =
+    rw (flat_map-append (λ key. entry_rows key (of_key key index)) xs ys)
+    (writes_both contents before mid after (answers index xs) (answers index ys) h k)

@@ -1,20 +1,33 @@
--- The line that answers a query.
-use Rattle.std.specs.Prelude.{ℕ, List, [], ◌∷◌, ◌++◌, codes, decimal, flat_map, map}
+-- The rows that answer queries.
+use Rattle.std.specs.Prelude.{ℕ, List, [], ◌∷◌, ◌++◌, decimal, flat_map, map, Option, None, Some}
+use Rattle.csv.specs.Records.{field_at}
+use Rattle.program_parts.specs.Records.{Record}
+use Rattle.index_reader.specs.Keys.{of_key}
+use Rattle.index_reader.specs.declared.columns.Fields.{Fields}
 use Rattle.index_reader.specs.declared.entry.Entry.{Entry}
 
--- a place, after a blank
-abbrev pub place_text : ℕ → List ℕ
-place_text place = codes " " ++ decimal place
+-- the row of a key and a place
+abbrev pub place_row : ℕ → ℕ → Record
+place_row key place = decimal key ∷ decimal place ∷ []
 
--- places, or that there are none
-abbrev pub places_text : List ℕ → List ℕ
-places_text [] = codes " none"
-places_text (place ∷ places) = flat_map place_text (place ∷ places)
+-- a row for each of these places
+abbrev pub rows : ℕ → List ℕ → List Record
+rows key places = map (place_row key) places
 
--- a key and these places
-abbrev pub line : ℕ → List ℕ → List ℕ
-line key places = decimal key ++ codes ":" ++ places_text places ++ codes "\n"
+-- a row for each of these entries of the key
+abbrev pub entry_rows : ℕ → List Entry → List Record
+entry_rows key entries = rows key (map (λ entry. entry.place) entries)
 
--- the key, and the places of its entries
-abbrev pub answer_line : ℕ → List Entry → List ℕ
-answer_line key entries = line key (map (λ entry. entry.place) entries)
+-- the answers to queries, in their order: a row for each entry of each key
+abbrev pub answers : List Entry → List ℕ → List Record
+answers index keys = flat_map (λ key. entry_rows key (of_key key index)) keys
+
+-- the row of the names of its columns, if the index has them
+abbrev pub names_rows : Option (List ℕ) → Option (List ℕ) → List Record
+names_rows (Some key) (Some place) = (key ∷ place ∷ []) ∷ []
+names_rows None place = []
+names_rows (Some key) None = []
+
+-- what is written for queries of these keys, by an index whose columns have these names
+abbrev pub answer_rows : Record → Fields → List Entry → List ℕ → List Record
+answer_rows names fields index keys = names_rows (field_at names fields.key) (field_at names fields.place) ++ answers index keys

@@ -1,47 +1,45 @@
 -- What a run reads and writes.
-use Rattle.std.specs.Prelude.{◌≡◌, ℕ, ◌-◌, ◌^◌, nat_eq, min, List, [], ◌∷◌, ◌++◌, length}
-use Rattle.std.specs.Prelude.{flat_map, Bool, ◌&&◌, cond, Option, codes, decimal}
-use Rattle.std.specs.Io.KnownBytes.{Appends}
-use Rattle.program_parts.specs.Read.{AreRead}
-use Rattle.program_parts.specs.Pairs.{IsNumber}
-use Rattle.index_reader.specs.Keys.{IsAscending, Says, IsWrong, IsWrongQuery, of_key}
-use Rattle.index_reader.specs.Answers.{answer_line}
+use Rattle.std.specs.Prelude.{◌≡◌, ℕ, List, [], ◌∷◌, ◌++◌, length, Bool, ◌&&◌, Option}
+use Rattle.csv.specs.declared.writer.Writer.{Writer}
+use Rattle.program_parts.specs.Records.{Record, first_record, names_in, rows_of}
+use Rattle.program_parts.specs.RecordsKept.{AreRead, SaysWhole}
+use Rattle.program_parts.specs.Written.{Writes}
+use Rattle.program_parts.specs.declared.records.Format.{Format}
+use Rattle.index_reader.specs.Answers.{answer_rows}
+use Rattle.index_reader.specs.Columns.{ArePlaces}
+use Rattle.index_reader.specs.Keys.{IsAscending, Says, Asks}
+use Rattle.index_reader.specs.declared.columns.Fields.{Fields}
 use Rattle.index_reader.specs.declared.entry.Entry.{Entry}
-use Rattle.index_reader.specs.declared.entry.Problem.{Problem}
-use Rattle.index_reader.specs.declared.query.QueryProblem.{QueryProblem}
 
--- a line says an entry that may follow these, or this is wrong with it
-abbrev pub SaysEntry : List Entry → List ℕ → Entry → Type 0
-SaysEntry before line entry = Says line entry × IsAscending (before ++ entry ∷ [])
+-- a record says an entry that may follow these
+abbrev pub SaysEntry : Fields → List Entry → Record → Entry → Type 0
+SaysEntry at before fields entry = Says at fields entry × IsAscending (before ++ entry ∷ [])
 
-abbrev pub IsNoEntry : List Entry → List ℕ → Problem → Type 0
-IsNoEntry before line problem = IsWrong before line problem
+-- a record asks for a key, whatever queries stand before it
+abbrev pub SaysQuery : List ℕ → Record → ℕ → Type 0
+SaysQuery before fields key = Asks fields key
 
--- a line asks for a key, whatever queries stand before it, or this is wrong with it
-abbrev pub SaysQuery : List ℕ → List ℕ → ℕ → Type 0
-SaysQuery before line key = IsNumber 32 line key
+-- these are the entries that the records of an index in these bytes say, in columns of these texts
+pub record HasEntries (format : Format) (key place bytes : List ℕ) (fields : Fields) (index : List Entry) (is_whole : Bool) : Type 0 where
+  pub are_places : ArePlaces (length (first_record format bytes)) (names_in format bytes) key place fields
+  pub are_read : AreRead (SaysWhole (length (first_record format bytes)) (SaysEntry fields)) (rows_of format bytes) index is_whole
 
-abbrev pub IsNoQuery : List ℕ → List ℕ → QueryProblem → Type 0
-IsNoQuery before line problem = IsWrongQuery line problem
+-- these are the keys that the records in these bytes ask for
+abbrev pub HasQueries : Format → List ℕ → List ℕ → Bool → Type 0
+HasQueries format bytes keys is_whole =
+    AreRead (SaysWhole (length (first_record format bytes)) SaysQuery) (rows_of format bytes) keys is_whole
 
--- the answers to queries, in order, and how many there are
-abbrev pub answers : List Entry → List ℕ → List ℕ
-answers index keys = flat_map (λ key. answer_line key (of_key key index)) keys
-
-abbrev pub count_text : ℕ → List ℕ
-count_text n = cond (nat_eq n 1) (codes "1 query\n") (decimal n ++ codes " queries\n")
-
-abbrev pub count_line : List ℕ → List ℕ
-count_line keys = count_text (min (length keys) (2 ^ 64 - 1))
-
--- The answers are written to the queries that are kept of the lines of the one file, by the entries that are kept of those of the other;
--- the other lines are left out, and `is_whole` says whether there is none.
-pub record Answers (entries queries : List ℕ) (is_whole : Bool) (before after : Option (List ℕ)) : Type 0 where
-  pub index : List Entry
-  pub keys : List ℕ
-  pub are_entries : Bool
-  pub are_queries : Bool
-  pub reads_index : AreRead SaysEntry IsNoEntry entries index are_entries
-  pub reads_queries : AreRead SaysQuery IsNoQuery queries keys are_queries
-  pub writes : Appends before after (answers index keys ++ count_line keys)
-  pub whole : is_whole ≡ (are_entries && are_queries)
+-- The answers to the queries in the one file are written, by the index in the other, in columns of these texts. Records that are wrong are
+-- left out, and `is_whole` says whether there is none.
+pub record Answers {W : Type 0} (contents : W → Option (List ℕ)) (format other : Format) (key place entries queries : List ℕ) (is_whole : Bool)
+    (before after : Writer W) : Type 0
+  where
+    pub fields : Fields
+    pub index : List Entry
+    pub keys : List ℕ
+    pub are_entries : Bool
+    pub are_queries : Bool
+    pub reads_index : HasEntries format key place entries fields index are_entries
+    pub reads_queries : HasQueries other queries keys are_queries
+    pub writes : Writes contents before after (answer_rows (names_in format entries) fields index keys)
+    pub whole : is_whole ≡ (are_entries && are_queries)

@@ -1,14 +1,14 @@
 //! Queries that are answered together.
 ghost use Rattle.std.specs.Prelude.{◌≡◌, ℕ, List, ◌++◌, All, IsPermutation, HoldsAt, IfOk, OnOk, flat_map, map};
-ghost use Rattle.std.specs.Io.KnownBytes.{Appends};
-ghost use Rattle.index_reader.specs.Answers.{line};
+ghost use Rattle.program_parts.specs.Written.{Writes};
+ghost use Rattle.index_reader.specs.Answers.{answers, rows};
 ghost use Rattle.index_reader.specs.Blocks.{IsAnswer, IsOneOf, numbered, places_of};
-ghost use Rattle.index_reader.specs.Runs.{answers};
 
 use crate::answer::Answer;
 use crate::index::Index;
 use crate::lookup::places_from;
 use crate::output::write_answer;
+use csv::Writer;
 use std::alloc::{AllocError, Global};
 use std::io;
 use std::io::Write;
@@ -24,13 +24,13 @@ pub struct Query {
 ///
 /// They are looked up in the order of the keys, each from where the one before it was found, so that the index is read from
 /// its front to its end.
-pub fn answer_block<W: Write>(
+pub fn answer_block<W: Write + Drop>(
     alloc: Global,
     index: &Index,
     keys: &[u32],
-    out: &mut W,
+    out: &mut Writer<W>,
 ) -> io::Result<()>
-    ensures { OnOk result (Appends (W.contents out.old) (W.contents out.new) (answers index.now keys.now)) }
+    ensures { OnOk result (Writes W.contents out.old out.new (answers index.now keys.now)) }
 {
     let queries = by_key(alloc, keys)?;
     let mut found = unanswered(alloc, keys)?;
@@ -84,9 +84,9 @@ fn find_all<'a>(index: &'a Index, queries: &[Query], answers: &mut [Answer<'a>])
 }
 
 // Writes the answers.
-fn write_answers<W: Write>(answers: &[Answer<'_>], out: &mut W) -> io::Result<()>
-    ensures { OnOk result (Appends (W.contents out.old) (W.contents out.new)
-        (flat_map (λ answer. line answer.key (places_of answer)) answers.now)) }
+fn write_answers<W: Write + Drop>(answers: &[Answer<'_>], out: &mut Writer<W>) -> io::Result<()>
+    ensures { OnOk result (Writes W.contents out.old out.new
+        (flat_map (λ answer. rows answer.key (places_of answer)) answers.now)) }
 {
     for answer in answers {
         write_answer(answer, out)?;

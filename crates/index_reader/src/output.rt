@@ -1,41 +1,61 @@
-//! The lines that answer queries.
-ghost use Rattle.std.specs.Prelude.{OnOk};
-ghost use Rattle.std.specs.Io.KnownBytes.{Appends};
-ghost use Rattle.index_reader.specs.Answers.{line, place_text, places_text};
+//! The rows that answer queries.
+ghost use Rattle.std.specs.Prelude.{◌∷◌, [], OnOk};
+ghost use Rattle.csv.specs.Records.{field_at, fields_of};
+ghost use Rattle.program_parts.specs.Written.{Writes};
+ghost use Rattle.index_reader.specs.Answers.{names_rows, place_row, rows};
 ghost use Rattle.index_reader.specs.Blocks.{places_of};
 
 use crate::answer::Answer;
+use crate::columns::Fields;
+use csv::{ByteRecord, Writer};
+use itoa::Buffer;
+use program_parts::rows::write_row;
 use std::io;
 use std::io::Write;
 
-/// Writes the key, and the places of the answer in their order, or that there are none.
-pub fn write_answer<W: Write>(answer: &Answer<'_>, out: &mut W) -> io::Result<()>
-    ensures { OnOk result
-        (Appends (W.contents out.old) (W.contents out.new) (line answer.now.key (places_of answer.now))) }
+/// Writes the names of the two columns, if the index has names.
+pub fn write_names<W: Write + Drop>(
+    names: &ByteRecord,
+    at: Fields,
+    out: &mut Writer<W>,
+) -> io::Result<()>
+    ensures { OnOk result (Writes W.contents out.old out.new
+        (names_rows (field_at (fields_of names.now) at.key) (field_at (fields_of names.now) at.place))) }
 {
-    write!(out, "{}", answer.key)?;
-    out.write_all(b":")?;
-    write_places(answer, out)?;
-    out.write_all(b"\n")
+    match (names.get(at.key), names.get(at.place)) {
+        (Some(key), Some(place)) => write_row(&[key, place], out),
+        _ => Ok(()),
+    }
 }
 
-// The places, or that there are none.
-fn write_places<W: Write>(answer: &Answer<'_>, out: &mut W) -> io::Result<()>
-    ensures { OnOk result (Appends (W.contents out.old) (W.contents out.new) (places_text (places_of answer.now))) }
+/// Writes a row for each place of the answer, in their order.
+pub fn write_answer<W: Write + Drop>(answer: &Answer<'_>, out: &mut Writer<W>) -> io::Result<()>
+    ensures { OnOk result (Writes W.contents out.old out.new (rows answer.now.key (places_of answer.now))) }
 {
     let Some(first) = answer.first else {
-        return out.write_all(b" none");
+        return Ok(());
     };
-    write_place(first, out)?;
-    for place in answer.others {
-        write_place(*place, out)?;
+    write_place(answer.key, first, out)?;
+    write_places(answer.key, answer.others, out)
+}
+
+// Writes a row for each of these places of the key.
+fn write_places<W: Write + Drop>(key: u32, places: &[u64], out: &mut Writer<W>) -> io::Result<()>
+    ensures { OnOk result (Writes W.contents out.old out.new (rows key places.now)) }
+{
+    for place in places {
+        write_place(key, *place, out)?;
     }
     Ok(())
 }
 
-// A place, after a blank.
-fn write_place<W: Write>(place: u64, out: &mut W) -> io::Result<()>
-    ensures { OnOk result (Appends (W.contents out.old) (W.contents out.new) (place_text place)) }
+// Writes the row of the key and a place. Their texts take no memory of the heap.
+fn write_place<W: Write + Drop>(key: u32, place: u64, out: &mut Writer<W>) -> io::Result<()>
+    ensures { OnOk result (Writes W.contents out.old out.new (place_row key place ∷ [])) }
 {
-    write!(out, " {place}")
+    let mut key_buffer = Buffer::new();
+    let mut place_buffer = Buffer::new();
+    let key = key_buffer.format(key);
+    let place = place_buffer.format(place);
+    write_row(&[key.as_bytes(), place.as_bytes()], out)
 }

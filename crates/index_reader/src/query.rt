@@ -1,25 +1,21 @@
-//! Queries, as they stand in lines, and their keys.
-ghost use Rattle.std.specs.Prelude.{[]};
+//! Queries, as records ask them, and their keys.
+ghost use Rattle.std.specs.Prelude.{ℕ, [], IfErr, IfOk};
+ghost use Rattle.csv.specs.Records.{fields_of};
+ghost use Rattle.index_reader.specs.Keys.{Asks};
 
-use program_parts::keeper::Keeper;
-use program_parts::omitted::Omitted;
+use csv::ByteRecord;
+use program_parts::numbers::number_32;
+use program_parts::records::{RecordKeeper, one_field};
 use std::alloc::Global;
-use std::io::Write;
 use std::{fmt, io};
 
-/// What is wrong with a line of queries.
+/// What is wrong with a query: it is no number of 32 bits.
 #[derive(Clone, Copy)]
-pub enum QueryProblem {
-    NoText,
-    NoKey,
-}
+pub struct NoKey;
 
-impl fmt::Display for QueryProblem {
+impl fmt::Display for NoKey {
     fn fmt<W: fmt::Write>(&self, f: &mut fmt::Formatter<W>) -> fmt::Result {
-        match self {
-            QueryProblem::NoText => write!(f, "the query is not UTF-8"),
-            QueryProblem::NoKey => write!(f, "the query is no number of 32 bits"),
-        }
+        write!(f, "the query is no number of 32 bits")
     }
 }
 
@@ -42,37 +38,41 @@ impl Queries {
     }
 }
 
-impl Keeper for Queries {
+impl RecordKeeper for Queries {
     ghost use Rattle.std.specs.Prelude.{◌≡◌, ℕ, List, ◌++◌};
-    ghost use Rattle.index_reader.specs.Runs.{SaysQuery, IsNoQuery};
-    ghost use Rattle.index_reader.specs.declared.query.QueryProblem.{QueryProblem};
+    ghost use Rattle.index_reader.specs.Runs.{SaysQuery};
+
+    type Problem = NoKey;
 
     ghost Item = { ℕ };
 
-    ghost Problem = { QueryProblem };
-
     // The keys of queries that are answered.
-    ghost Earlier = { List ℕ };
+    ghost Setting = { List ℕ };
 
-    ghost says = { SaysQuery };
-
-    ghost is_wrong = { IsNoQuery };
+    ghost says = { λ answered. SaysQuery };
 
     ghost keeps = { λ answered queries keys. keys ≡ answered ++ queries.keys.items };
 
-    fn keep<E: Write>(
-        &mut self,
-        line: Option<&str>,
-        number: u64,
-        omitted: &mut Omitted<'_>,
-        complaints: &mut E,
-    ) -> io::Result<()> {
-        let Some(text) = line else {
-            return omitted.say(complaints, number, QueryProblem::NoText);
+    fn keep(&mut self, row: &mut ByteRecord) -> io::Result<Result<(), NoKey>> {
+        let key = match parse_query(row) {
+            Ok(key) => key,
+            Err(problem) => return Ok(Err(problem)),
         };
-        match text.parse::<u32>() {
-            Ok(key) => Ok(self.keys.push(key)?),
-            Err(_) => omitted.say(complaints, number, QueryProblem::NoKey),
-        }
+        self.keys.push(key)?;
+        Ok(Ok(()))
+    }
+}
+
+// The key that a record asks for.
+fn parse_query(fields: &ByteRecord) -> Result<u32, NoKey>
+    ensures asks { IfOk result (λ key. Asks (fields_of fields.now) key) }
+    ensures silent { IfErr result (λ _. (key : ℕ) → Asks (fields_of fields.now) key → ⊥) }
+{
+    let Some(field) = one_field(fields) else {
+        return Err(NoKey);
+    };
+    match number_32(field) {
+        Some(key) => Ok(key),
+        None => Err(NoKey),
     }
 }

@@ -1,13 +1,20 @@
 //! Reads an index and queries, and answers them.
-ghost use Rattle.std.specs.Prelude.{◌≡◌, ℕ, List, ◌++◌, IfOk, IfSome, OnOk};
-ghost use Rattle.std.specs.Io.KnownBytes.{Appends};
-ghost use Rattle.program_parts.specs.Read.{AreRead};
-ghost use Rattle.index_reader.specs.Runs.{Answers, IsNoQuery, SaysQuery, answers, count_line, count_text};
+ghost use Rattle.std.specs.Prelude.{◌≡◌, [], ℕ, List, IfOk, IfSome, OnOk, true};
+ghost use Rattle.csv.specs.Writing.{writer_pending};
+ghost use Rattle.program_parts.specs.Written.{Writes};
+ghost use Rattle.index_reader.specs.Answers.{answers};
+ghost use Rattle.index_reader.specs.Runs.{Answers, HasQueries};
 
 use crate::block::answer_block;
-use crate::index::Index;
+use crate::columns::{Columns, fields_of};
+use crate::index::{Index, IndexReader};
+use crate::output::write_names;
 use crate::query::Queries;
-use program_parts::line_reader::{LineReader, keep_lines};
+use csv::Writer;
+use program_parts::input::NamedFile;
+use program_parts::records::{Records, Source};
+use program_parts::rows::pass_on;
+use program_parts::status::{Failure, table_status};
 use std::alloc::Global;
 use std::io;
 use std::io::{Read, Write};
@@ -15,76 +22,81 @@ use std::io::{Read, Write};
 // So many queries at least are answered together.
 const LEAST: usize = 65536;
 
-/// Reads an index and then queries, and writes a line for each query, and the number of queries at the end. What is left out goes
-/// to the complaints, and `false` says that there is some.
+/// Answers the queries by the index, and gives back the status: 0, 2 where a column is missing, or 1 where it failed or a
+/// record is left out. What went wrong is said in lines of complaint.
+pub fn run<I: Read + Drop, Q: Read + Drop, W: Write + Drop, E: Write>(
+    alloc: Global,
+    columns: Columns<'_>,
+    index: Source<'_, I>,
+    queries: Source<'_, Q>,
+    files: &[&NamedFile],
+    out: &mut Writer<W>,
+    complaints: &mut E,
+) -> u8
+    ensures whole { result ≡ 0 → IfSome (I.remaining index.entry.input) (λ entries. IfSome (Q.remaining queries.entry.input)
+        (λ asked. Answers W.contents index.entry.format queries.entry.format columns.entry.key.now columns.entry.place.now
+        entries asked true out.old out.new)) }
+    ensures none_pending { result ≡ 0 → writer_pending out.new ≡ [] }
+{
+    let done = answer_all(alloc, columns, index, queries, out, complaints);
+    table_status("index_reader", done, files, complaints)
+}
+
+/// Reads an index and then queries, and writes a row for each place of each query. What is left out goes to the complaints,
+/// and `false` says that there is some.
 ///
 /// An entry whose key is lower than the greatest key before it is left out, and so are all that follow one key that is
 /// too high, up to a key that is no lower. Each complaint has both keys.
-pub fn answer_all<I: Read + Drop, Q: Read + Drop, W: Write, E: Write>(
+fn answer_all<'a, I: Read + Drop, Q: Read + Drop, W: Write + Drop, E: Write>(
     alloc: Global,
-    index_name: &str,
-    entries: I,
-    queries_name: &str,
-    queries: Q,
-    out: &mut W,
+    columns: Columns<'a>,
+    index: Source<'a, I>,
+    queries: Source<'a, Q>,
+    out: &mut Writer<W>,
     complaints: &mut E,
-) -> io::Result<bool>
-    ensures { IfOk result (λ is_whole. IfSome (I.remaining entries) (λ entries. IfSome (Q.remaining queries)
-        (λ asked. Answers entries asked is_whole (W.contents out.old) (W.contents out.new)))) }
+) -> Result<bool, Failure<'a>>
+    ensures answers { IfOk result (λ is_whole. IfSome (I.remaining index.entry.input) (λ entries. IfSome (Q.remaining queries.entry.input)
+        (λ asked. Answers W.contents index.entry.format queries.entry.format columns.entry.key.now columns.entry.place.now
+        entries asked is_whole out.old out.new))) }
+    ensures none_pending { OnOk result (writer_pending out.new ≡ []) }
 {
-    let mut index = Index::new(alloc);
-    let are_entries = keep_lines(
-        alloc,
-        "index_reader",
-        index_name,
-        entries,
-        &mut index,
-        complaints,
-    )?;
-    let are_queries = answer_queries(alloc, &index, queries_name, queries, out, complaints)?;
-    out.flush()?;
+    let mut records = Records::new(alloc, index)?;
+    let fields = fields_of(columns, &records)?;
+    let mut reader = IndexReader {
+        fields,
+        index: Index::new(alloc),
+    };
+    let are_entries = records.keep_all(&mut reader, complaints)?;
+    write_names(records.names(), fields, out)?;
+    let are_queries = answer_queries(alloc, &reader.index, queries, out, complaints)?;
+    pass_on(out)?;
     Ok(are_entries && are_queries)
 }
 
-// Answers the queries up to the end, and writes how many there were. Whether each line was one.
-fn answer_queries<R: Read + Drop, W: Write, E: Write>(
+// Answers the queries up to the end. Whether each record was one.
+fn answer_queries<R: Read + Drop, W: Write + Drop, E: Write>(
     alloc: Global,
     index: &Index,
-    name: &str,
-    input: R,
-    out: &mut W,
+    source: Source<'_, R>,
+    out: &mut Writer<W>,
     complaints: &mut E,
 ) -> io::Result<bool>
-    ensures { IfOk result (λ is_whole. (keys : List ℕ)
-        × Appends (W.contents out.old) (W.contents out.new) (answers index.now keys ++ count_line keys)
-        × IfSome (R.remaining input) (λ bytes. AreRead SaysQuery IsNoQuery bytes keys is_whole)) }
+    ensures { IfOk result (λ is_whole. (keys : List ℕ) × Writes W.contents out.old out.new (answers index.now keys)
+        × IfSome (R.remaining source.entry.input) (λ bytes. HasQueries source.entry.format bytes keys is_whole)) }
 {
-    let mut lines = LineReader::new(alloc, "index_reader", name, input)?;
+    let mut records = Records::new(alloc, source)?;
     let mut queries = Queries::new(alloc);
-    let mut answered = 0usize;
     for _ in 0..u64::MAX {
-        let found = lines.keep_block(&mut queries, complaints)?;
+        let found = records.keep_next(&mut queries, complaints)?;
         if found && queries.keys.len() < LEAST {
             continue;
         }
         answer_block(alloc, index, &queries.keys, out)?;
-        answered = answered.saturating_add(queries.keys.len());
         queries.keys.clear();
         if !found {
-            let is_whole = lines.finish(complaints)?;
-            write_count(answered, out)?;
+            let is_whole = records.finish(complaints)?;
             return Ok(is_whole);
         }
     }
-    Err(io::Error::other("there are too many lines"))
-}
-
-// Writes how many queries there were.
-fn write_count<W: Write>(queries: usize, out: &mut W) -> io::Result<()>
-    ensures { OnOk result (Appends (W.contents out.old) (W.contents out.new) (count_text queries)) }
-{
-    if queries == 1 {
-        return out.write_all(b"1 query\n");
-    }
-    writeln!(out, "{queries} queries")
+    Err(io::Error::other("there are too many records"))
 }

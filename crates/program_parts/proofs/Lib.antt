@@ -1,8 +1,6 @@
 pub mod Appended
-pub mod BlockLines
-pub mod BlockRead
-pub mod Fed
-pub mod Feeds
-pub mod Given
-pub mod KeptSoFar
-pub mod Written
+pub mod NamesFound
+pub mod NumberText
+pub mod RecordsKept
+pub mod RecordsLeft
+pub mod Writing

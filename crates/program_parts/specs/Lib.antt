@@ -1,8 +1,6 @@
-pub mod Arguments
-pub mod Blocks
-pub mod Kept
-pub mod Lines
-pub mod Pairs
-pub mod Read
-pub mod Reading
-pub mod Unread
+pub mod Columns
+pub mod Decimals
+pub mod Records
+pub mod RecordsKept
+pub mod RecordsLeft
+pub mod Written

@@ -95,17 +95,22 @@ pub fn open_two<'a>(
 }
 
 impl<'a> Read for Input<'a> {
+    // A read that is interrupted is made again.
     fn read(&mut self, buf: &mut [u8]) -> io::Result<usize> {
-        let read = match &mut self.source {
-            Source::Stdin(stdin) => stdin.read(buf),
-            Source::File(file) => file.read(buf),
-        };
-        if let Err(error) = &read {
+        for _ in 0..u64::MAX {
+            let read = match &mut self.source {
+                Source::Stdin(stdin) => stdin.read(buf),
+                Source::File(file) => file.read(buf),
+            };
+            let Err(error) = read else {
+                return read;
+            };
             if error.kind() != ErrorKind::Interrupted {
                 self.file.has_failed.set(true);
+                return Err(error);
             }
         }
-        read
+        Err(io::Error::from(ErrorKind::Interrupted))
     }
 }
 

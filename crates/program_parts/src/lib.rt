@@ -1,13 +1,14 @@
-//! What the programs over standard input share: the blocks of a stream, its lines and what is kept of them, complaints, texts
-//! that are written whole, and the status of a program.
+//! What the programs share: their arguments and files, the blocks of a stream, the records of a table and what is kept of them, rows
+//! as they are written, complaints, and the status of a program.
 #![tactic(auto)]
 
 pub mod arguments;
 pub mod blocks;
+pub mod columns;
 pub mod input;
-pub mod keeper;
-pub mod line_blocks;
-pub mod line_reader;
+pub mod numbers;
 pub mod omitted;
+pub mod records;
+pub mod rows;
 pub mod status;
-pub mod texts;
+pub mod table_options;

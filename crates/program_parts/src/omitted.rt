@@ -29,6 +29,11 @@ impl<'a> Omitted<'a> {
         }
     }
 
+    /// The file.
+    pub fn file(&self) -> &'a str {
+        self.file
+    }
+
     /// Whether none is left out.
     pub fn is_empty(&self) -> bool
         ensures { result ≡ nat_eq self.now.count 0 }

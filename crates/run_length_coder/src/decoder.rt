@@ -1,60 +1,77 @@
-//! Decodes lines of runs.
-ghost use Rattle.std.specs.Prelude.{◌≡◌, ℕ, ◌<◌, ◌^◌, List, [], flat_map, length, All, IfOk, IfSome, IsTrue, OnOk};
+//! Decodes records of runs.
+ghost use Rattle.std.specs.Prelude.{◌≡◌, ℕ, ◌<◌, ◌^◌, List, [], flat_map, length, All, IfOk, IfSome, IsTrue, OnOk, Some};
 ghost use Rattle.std.specs.Io.KnownBytes.{Appends};
 ghost use Rattle.run_length_coder.specs.Coding.{coded, copies};
 ghost use Rattle.run_length_coder.specs.Decoded.{Decodes};
 
-use crate::line::RunError;
+use crate::record::{Problem, parse_run};
 use crate::runs::Run;
-use program_parts::keeper::Keeper;
-use program_parts::line_reader::LineReader;
-use program_parts::omitted::Omitted;
+use csv::ByteRecord;
+use program_parts::records::{Format, RecordKeeper, Records, Source};
 use std::alloc::Global;
 use std::io;
 use std::io::{Read, Write};
 
-/// Writes the bytes of the runs that the lines of the input say, and gives back whether each line says one. One that
-/// says none is left out: a line of complaint for each of the first hundred says why, with the name of the file, and one
-/// at the end how many more there are. It keeps the runs of one block of lines in memory, and a block of what is written.
-pub fn decode<R: Read, W: Write, E: Write>(
+// How the runs stand in a text.
+const FORMAT: Format = Format {
+    has_headers: false,
+    delimiter: b',',
+};
+
+// So many runs are kept before their bytes are written.
+const BLOCK: usize = 1024;
+
+/// Writes the bytes of the runs that the records of the input say, and gives back whether each says one. One that says
+/// none is left out: a line of complaint for each of the first hundred says why, with the name of the file, and one at the
+/// end how many more there are. It keeps a block of runs in memory, and a block of what is written.
+pub fn decode<R: Read + Drop, W: Write, E: Write>(
     alloc: Global,
     name: &str,
-    input: &mut R,
+    input: R,
     out: &mut W,
     complaints: &mut E,
 ) -> io::Result<bool>
-    ensures any { IfOk result (λ are_runs. IfSome (R.remaining input.old)
+    ensures any { IfOk result (λ are_runs. IfSome (R.remaining input)
         (λ bytes. Decodes bytes are_runs (W.contents out.old) (W.contents out.new))) }
 
     // Of what bytes were coded as, these bytes are written.
     ensures again { (bytes : List ℕ) → All (λ byte. byte < 2 ^ 8) bytes → length bytes < 2 ^ 64
-        → R.remaining input.old ≡ Some (coded bytes)
+        → R.remaining input ≡ Some (coded bytes)
         → IfOk result (λ are_runs. IsTrue are_runs × Appends (W.contents out.old) (W.contents out.new) bytes) }
 {
-    let mut lines = LineReader::new(alloc, "run_length_coder", name, input)?;
-    let mut runs = Runs {
-        runs: Vec::new(alloc),
+    let source = Source {
+        program: "run_length_coder",
+        file: name,
+        format: FORMAT,
+        input,
     };
+    let mut records = Records::new(alloc, source)?;
+    let mut runs = Runs::new(alloc);
+    let mut room = Vec::new(alloc);
     for _ in 0..u64::MAX {
-        let found = lines.keep_block(&mut runs, complaints)?;
-        write_runs(alloc, &runs.runs, out)?;
+        let found = records.keep_next(&mut runs, complaints)?;
+        if found && runs.runs.len() < BLOCK {
+            continue;
+        }
+        write_runs(&runs.runs, &mut room, out)?;
         runs.runs.clear();
         if !found {
-            let is_whole = lines.finish(complaints)?;
+            let is_whole = records.finish(complaints)?;
             return Ok(is_whole);
         }
     }
-    Err(io::Error::other("there are too many lines"))
+    Err(io::Error::other("there are too many records"))
 }
 
-// Writes the bytes of these runs.
-fn write_runs<W: Write>(alloc: Global, runs: &[Run], out: &mut W) -> io::Result<()>
+// Writes the bytes of these runs, which it gathers in the room.
+fn write_runs<W: Write>(runs: &[Run], room: &mut Vec<u8>, out: &mut W) -> io::Result<()>
     ensures { OnOk result (Appends (W.contents out.old) (W.contents out.new) (flat_map copies runs.now)) }
 {
+    room.clear();
     for run in runs {
-        run.write_bytes(alloc, out)?;
+        run.put_bytes(room, out)?;
     }
-    Ok(())
+    out.write_all(room)
 }
 
 // The runs whose bytes are not written yet.
@@ -63,38 +80,39 @@ struct Runs {
     runs: Vec<Run>,
 }
 
-impl Keeper for Runs {
-    ghost use Rattle.std.specs.Prelude.{◌++◌};
-    ghost use Rattle.run_length_coder.specs.Decoded.{SaysRun, IsNoRun};
-    ghost use Rattle.run_length_coder.specs.declared.line.RunError.{RunError};
+impl Runs {
+    // No run.
+    fn new(alloc: Global) -> Runs
+        ensures { result.runs.items ≡ [] }
+    {
+        Runs {
+            runs: Vec::new(alloc),
+        }
+    }
+}
+
+impl RecordKeeper for Runs {
+    ghost use Rattle.std.specs.Prelude.{◌≡◌, List, ◌++◌};
+    ghost use Rattle.run_length_coder.specs.Decoded.{SaysRun};
     ghost use Rattle.run_length_coder.specs.declared.runs.Run.{Run};
+
+    type Problem = Problem;
 
     ghost Item = { Run };
 
-    ghost Problem = { RunError };
-
     // The runs whose bytes are written.
-    ghost Earlier = { List Run };
+    ghost Setting = { List Run };
 
-    ghost says = { SaysRun };
-
-    ghost is_wrong = { IsNoRun };
+    ghost says = { λ written. SaysRun };
 
     ghost keeps = { λ written waiting runs. runs ≡ written ++ waiting.runs.items };
 
-    fn keep<E: Write>(
-        &mut self,
-        line: Option<&str>,
-        number: u64,
-        omitted: &mut Omitted<'_>,
-        complaints: &mut E,
-    ) -> io::Result<()> {
-        let Some(text) = line else {
-            return omitted.say(complaints, number, RunError::NoRun);
+    fn keep(&mut self, row: &mut ByteRecord) -> io::Result<Result<(), Problem>> {
+        let run = match parse_run(row) {
+            Ok(run) => run,
+            Err(problem) => return Ok(Err(problem)),
         };
-        match Run::parse(text) {
-            Ok(run) => Ok(self.runs.push(run)?),
-            Err(error) => omitted.say(complaints, number, error),
-        }
+        self.runs.push(run)?;
+        Ok(Ok(()))
     }
 }

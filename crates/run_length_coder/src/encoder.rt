@@ -3,7 +3,7 @@ ghost use Rattle.std.specs.Prelude.{◌≡◌, ℕ, List, ◌++◌, map, nat_eq,
 ghost use Rattle.std.specs.Io.KnownBytes.{Appends};
 ghost use Rattle.slice_group_stream.specs.Split.{last, split};
 ghost use Rattle.slice_group_stream.specs.Streams.{kept_of};
-ghost use Rattle.run_length_coder.specs.Coding.{coded, line_of, longer_run, run_if, run_of, Written};
+ghost use Rattle.run_length_coder.specs.Coding.{coded, longer_run, run_if, run_of, text_of, Written};
 
 use program_parts::blocks::{new_block, read_block};
 use slice_group_stream::StreamGroups;
@@ -12,7 +12,7 @@ use std::alloc::Global;
 use std::io;
 use std::io::{Error, ErrorKind, Read, Write};
 
-/// Writes the line of each run of the bytes that the input has left, each run as long as it can be, however the reads
+/// Writes a record for each run of the bytes that the input has left, each run as long as it can be, however the reads
 /// cut them. It keeps one block in memory. A failed read or write ends it, and so does a run of 2^64 bytes.
 pub fn encode<R: Read, W: Write>(alloc: Global, input: &mut R, out: &mut W) -> io::Result<()>
     ensures { OnOk result (IfSome (R.remaining input.old)
@@ -31,7 +31,7 @@ pub fn encode<R: Read, W: Write>(alloc: Global, input: &mut R, out: &mut W) -> i
     Err(Error::new(ErrorKind::InvalidData, "the input does not end"))
 }
 
-/// Writes the lines of the runs that end in the block, and gives the one that is open behind it. There is none where
+/// Writes the records of the runs that end in the block, and gives the one that is open behind it. There is none where
 /// the count is 0.
 fn write_block<W: Write>(
     stream: &mut StreamGroups<u8>,
@@ -74,12 +74,12 @@ fn longer(count: usize, part: &[u8]) -> io::Result<usize>
     Ok(more)
 }
 
-/// Writes the line of the run that is open, if there is one.
+/// Writes the record of the run that is open, if there is one.
 fn write_run<W: Write>(byte: u8, count: usize, out: &mut W) -> io::Result<()>
-    ensures { OnOk result (Appends (W.contents out.old) (W.contents out.new) (line_of (run_if byte count))) }
+    ensures { OnOk result (Appends (W.contents out.old) (W.contents out.new) (text_of (run_if byte count))) }
 {
     if count == 0 {
         return Ok(());
     }
-    writeln!(out, "{count} {byte}")
+    writeln!(out, "{count},{byte}")
 }

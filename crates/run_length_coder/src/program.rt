@@ -13,16 +13,6 @@ use std::alloc::Global;
 use std::io;
 use std::io::{Read, Write};
 
-/// What `--help` writes.
-pub const USAGE: &str = "\
-usage: run_length_coder [-h | --help] [decode] [FILE]
-
-Writes each run of equal bytes of FILE, or of standard input, as a line `COUNT BYTE`, two decimal numbers.
-With `decode` it reads such lines, with or without a `\\r` at their ends, and writes the bytes again. A line that says no run is
-left out: standard error says why for each of the first hundred, and how many more there are. A line must fit in memory.
-The status is 1 where a line is left out, or reading or writing fails, and 2 where an argument is wrong.
-";
-
 /// Whether bytes are written as runs, or runs as bytes.
 #[derive(Clone, Copy)]
 pub enum Mode {
@@ -30,28 +20,28 @@ pub enum Mode {
     Decode,
 }
 
-/// Encodes or decodes the input, and gives back the status: 0, or 1 where it failed or a line says no run. What went
+/// Encodes or decodes the input, and gives back the status: 0, or 1 where it failed or a record says no run. What went
 /// wrong is said in lines of complaint.
-pub fn run<R: Read, W: Write, E: Write>(
+pub fn run<R: Read + Drop, W: Write, E: Write>(
     alloc: Global,
     mode: Mode,
     name: &str,
-    input: &mut R,
+    input: R,
     files: &[&NamedFile],
     out: &mut W,
     complaints: &mut E,
 ) -> u8
-    ensures encodes { mode ≡ Encode → result ≡ 0 → IfSome (R.remaining input.old)
+    ensures encodes { mode ≡ Encode → result ≡ 0 → IfSome (R.remaining input)
         (λ bytes. Appends (W.contents out.old) (W.contents out.new) (coded bytes)) }
 
-    // Of any input, where each line says a run.
-    ensures decodes_any { mode ≡ Decode → result ≡ 0 → IfSome (R.remaining input.old)
+    // Of any input, where each record says a run.
+    ensures decodes_any { mode ≡ Decode → result ≡ 0 → IfSome (R.remaining input)
         (λ bytes. Decodes bytes true (W.contents out.old) (W.contents out.new)) }
 
     // Of what bytes were coded as.
     ensures decodes { mode ≡ Decode → result ≡ 0
         → (bytes : List ℕ) → All (λ byte. byte < 2 ^ 8) bytes → length bytes < 2 ^ 64
-        → R.remaining input.old ≡ Some (coded bytes) → Appends (W.contents out.old) (W.contents out.new) bytes }
+        → R.remaining input ≡ Some (coded bytes) → Appends (W.contents out.old) (W.contents out.new) bytes }
 
     // Encoding says nothing.
     ensures silent { mode ≡ Encode → result ≡ 0
@@ -65,28 +55,32 @@ pub fn run<R: Read, W: Write, E: Write>(
 }
 
 /// Encodes the input, and sees that all of it is written.
-fn encode_all<R: Read, W: Write>(alloc: Global, input: &mut R, out: &mut W) -> io::Result<bool>
+fn encode_all<R: Read + Drop, W: Write>(
+    alloc: Global,
+    mut input: R,
+    out: &mut W,
+) -> io::Result<bool>
     ensures done { IfOk result IsTrue }
-    ensures bytes { OnOk result (IfSome (R.remaining input.old)
+    ensures bytes { OnOk result (IfSome (R.remaining input)
         (λ bytes. Appends (W.contents out.old) (W.contents out.new) (coded bytes))) }
 {
-    encode(alloc, input, out)?;
+    encode(alloc, &mut input, out)?;
     out.flush()?;
     Ok(true)
 }
 
 /// Decodes the input, and sees that all of it is written.
-fn decode_all<R: Read, W: Write, E: Write>(
+fn decode_all<R: Read + Drop, W: Write, E: Write>(
     alloc: Global,
     name: &str,
-    input: &mut R,
+    input: R,
     out: &mut W,
     complaints: &mut E,
 ) -> io::Result<bool>
-    ensures any { IfOk result (λ are_runs. IfSome (R.remaining input.old)
+    ensures any { IfOk result (λ are_runs. IfSome (R.remaining input)
         (λ bytes. Decodes bytes are_runs (W.contents out.old) (W.contents out.new))) }
     ensures again { (bytes : List ℕ) → All (λ byte. byte < 2 ^ 8) bytes → length bytes < 2 ^ 64
-        → R.remaining input.old ≡ Some (coded bytes)
+        → R.remaining input ≡ Some (coded bytes)
         → IfOk result (λ are_runs. IsTrue are_runs × Appends (W.contents out.old) (W.contents out.new) bytes) }
 {
     let are_runs = decode(alloc, name, input, out, complaints)?;

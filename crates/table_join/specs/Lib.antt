@@ -1,11 +1,8 @@
-pub mod Excerpts
 pub mod Input
 pub mod Joined
 pub mod Joins
 pub mod Kept
 pub mod Kinds
-pub mod Lens
 pub mod Rows
 pub mod Runs
 pub mod Tables
-pub mod Texts

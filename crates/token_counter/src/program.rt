@@ -13,22 +13,6 @@ use std::alloc::Global;
 use std::io;
 use std::io::{Read, Write};
 
-/// What `--help` writes.
-pub const USAGE: &str = "\
-usage: token_counter [-h | --help] [FILE]
-
-Counts the runs of letters, of digits and of white space, each of ASCII, and of other bytes in FILE, or in standard
-input, each run as long as it can be. A run of letters is a word. A `\\r` is white space. A byte of 128 or more is one of
-the other bytes, whether the input is UTF-8 or not. Writes four lines:
-
-  runs of letters: COUNT
-  runs of digits: COUNT
-  runs of white space: COUNT
-  runs of other bytes: COUNT
-
-The status is 1 where reading or writing fails, and 2 where an argument is wrong.
-";
-
 /// Counts the tokens of the input, and gives back the status: 0, or 1 where it failed. What went wrong is said in a line
 /// of complaint.
 pub fn run<R: Read, W: Write, E: Write>(

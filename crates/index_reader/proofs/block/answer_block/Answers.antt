@@ -1,12 +1,11 @@
 use Rattle.std.proofs.Common.{◌≡◌, map, flat_map, length, sym, subst, ap, ◌∙◌}
 use Rattle.std.specs.Prelude.{All, HoldsAt, OnOk}
-use Rattle.std.specs.Io.KnownBytes.{Appends}
+use Rattle.program_parts.specs.Written.{Writes}
 use Rattle.std.proofs.lemmas.List.{length-map}
-use Rattle.index_reader.specs.Answers.{answer_line, line}
+use Rattle.index_reader.specs.Answers.{entry_rows, rows}
 use Rattle.index_reader.specs.Blocks.{IsAnswer, IsOneOf, places_of}
 use Rattle.index_reader.specs.Keys.{of_key}
-use Rattle.index_reader.proofs.Answered.{each_is_found, each_is_one, lines_are}
-use Rattle.program_parts.proofs.BlockRead.{all_changed}
+use Rattle.index_reader.proofs.Answered.{all_changed, each_is_found, each_is_one, rows_are}
 use Rattle.index_reader.proofs.block.answer_block.Goals as goal
 
 pub find_all-requires : goal.find_all-requires
@@ -30,7 +29,7 @@ returns g c =
     (sym c.deref_mut.ensures.len ∙ ap length old) (long ∙ sym as_long) in
     let all = each_is_found (IsAnswer index) c.args.keys.now c.in_ok-queries.queries.items found c.in_ok-queries.ensures long
     (subst (All (λ q. HoldsAt (IsAnswer index) found q.number)) c.deref.ensures.value c.find_all.ensures.found) in
-    let text = ap (flat_map (λ a. line a.key (places_of a))) written ∙ lines_are index found all
-    ∙ ap (flat_map (λ key. answer_line key (of_key key index))) keys in
-    subst (λ t. OnOk c.write_answers.result (Appends (g.W.Write.contents c.args.out.now) (g.W.Write.contents c.write_answers.new.out) t)) text
+    let text = ap (flat_map (λ a. rows a.key (places_of a))) written ∙ rows_are index found all
+    ∙ ap (flat_map (λ key. entry_rows key (of_key key index))) keys in
+    subst (λ t. OnOk c.write_answers.result (Writes g.W.Write.contents c.args.out.now c.write_answers.new.out t)) text
     c.write_answers.ensures

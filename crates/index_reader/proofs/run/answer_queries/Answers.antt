@@ -1,47 +1,39 @@
-use Rattle.std.proofs.Common.{◌≡◌, ◌-◌, ◌^◌, min, arith, refl, [], ◌++◌, append-nil, length, length-append}
-use Rattle.std.proofs.KnownBytes.{Appends-nil}
-use Rattle.program_parts.proofs.Appended.{appends_both}
-use Rattle.program_parts.proofs.KeptSoFar.{none_so_far, are_read}
+use Rattle.std.proofs.Common.{refl, [], ◌++◌, append-nil}
+use Rattle.program_parts.proofs.RecordsKept.{all_kept, none_so_far}
+use Rattle.program_parts.proofs.Writing.{writes_none}
+use Rattle.program_parts.specs.RecordsKept.{SaysWhole}
+use Rattle.program_parts.specs.RecordsLeft.{width_of}
 use Rattle.index_reader.proofs.Answered.{answers_both}
-use Rattle.index_reader.specs.Runs.{SaysQuery, IsNoQuery, answers, count_line}
+use Rattle.index_reader.proofs.Reading.{has_queries}
+use Rattle.index_reader.specs.Runs.{SaysQuery}
 use Rattle.index_reader.proofs.run.answer_queries.Goals as goal
 
 pub loop-init : goal.loop-init
 loop-init g c =
-    let new = c.in_ok-lines.ensures in (
-      [],
-      Appends-nil _,
-      refl,
-      rw (new.all, new.no_line, new.none_left_out, c.new-queries.ensures) (none_so_far SaysQuery IsNoQuery _),
-    )
-
-pub returns-then-not-found : goal.returns-then-not-found
-returns-then-not-found g c =
-    let (done, writes, count, s) = c.loop.invariant in
-    let index = c.args.index.now in
-    let waiting = c.keep_block.new.keeper.keys.items in
-    let keys = done ++ waiting in
-    let (more, is, s') = c.in_ok-found.ensures.kept done _ _ refl s in
-    let wrote = answers_both index done waiting _ _ _ writes (rw c.deref.ensures.value at c.in_ok-answer_block.ensures) in
-    let added = c.saturating_add-answered.ensures in
-    let number : c.saturating_add-answered.result ≡ min (length keys) (2 ^ 64 - 1) =
-    omega (arith, count, added, length-append done waiting) in (
-      keys,
-      appends_both _ _ _ (answers index keys) (count_line keys) wrote (rw number at c.in_ok-write_count.ensures),
-      rw c.in_ok-is_whole.ensures (are_read SaysQuery IsNoQuery _ _ _ keys _ (rw is at s') (c.in_ok-found.ensures.end c.if-not-found.true)),
-    )
+    let new = c.in_ok-records.ensures in
+    let s = none_so_far (SaysWhole (width_of c.in_ok-records.records) SaysQuery) g.R.Read.remaining c.args.source.format _ c.in_ok-records.records new in
+    ([], writes_none g.W.Write.contents _, new.width, rw c.new-queries.ensures s)
 
 pub loop-preserved : goal.loop-preserved
 loop-preserved g c =
-    let (done, writes, count, s) = c.loop.invariant in
-    let index = c.args.index.now in
-    let waiting = c.keep_block.new.keeper.keys.items in
+    let (done, writes, width, s) = c.loop.invariant in
+    let waiting = c.keep_next.new.keeper.keys.items in
     let keys = done ++ waiting in
     let (more, is, s') = c.in_ok-found.ensures.kept done _ _ refl s in
-    let wrote = answers_both index done waiting _ _ _ writes (rw c.deref.ensures.value at c.in_ok-answer_block.ensures) in
-    let added = c.saturating_add-answered.ensures in (
+    let wrote = answers_both g.W.Write.contents c.args.index.now done waiting _ _ _ writes (rw c.deref.ensures.value at c.in_ok-answer_block.ensures) in
+    (keys, wrote, rw c.keep_next.ensures.width width, rw (c.clear.ensures.items, append-nil keys) (rw is at s'))
+
+pub returns-then-not-found : goal.returns-then-not-found
+returns-then-not-found g c =
+    let (done, writes, width, s) = c.loop.invariant in
+    let waiting = c.keep_next.new.keeper.keys.items in
+    let keys = done ++ waiting in
+    let (more, is, s') = c.in_ok-found.ensures.kept done _ _ refl s in
+    let wrote = answers_both g.W.Write.contents c.args.index.now done waiting _ _ _ writes (rw c.deref.ensures.value at c.in_ok-answer_block.ensures) in
+    let end = c.in_ok-found.ensures.end c.if-not-found.true in
+    let said = all_kept _ _ keys _ (rw (is, end) at s') in (
       keys,
       wrote,
-      omega (arith, count, added, length-append done waiting),
-      rw (c.clear.ensures.items, append-nil keys) (rw is at s'),
+      has_queries c.args.source.format (g.R.Read.remaining c.args.source.input) (width_of c.keep_next.new.self) keys _ (rw c.keep_next.ensures.width width)
+          (rw c.in_ok-is_whole.ensures said),
     )

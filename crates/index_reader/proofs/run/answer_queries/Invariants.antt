@@ -1,11 +1,15 @@
-use Rattle.std.proofs.Common.{◌≡◌, ◌++◌, ℕ, ◌-◌, ◌^◌, List, length, min}
-use Rattle.std.specs.Io.KnownBytes.{Appends}
-use Rattle.program_parts.specs.Reading.{HasKept}
-use Rattle.index_reader.specs.Runs.{SaysQuery, IsNoQuery, answers}
+use Rattle.std.proofs.Common.{◌≡◌, ◌++◌, ℕ, IfSome, List, length, option_map}
+use Rattle.program_parts.specs.Records.{first_record, rows_of}
+use Rattle.program_parts.specs.RecordsKept.{HasKept}
+use Rattle.program_parts.specs.RecordsLeft.{width_of}
+use Rattle.program_parts.specs.Written.{Writes}
+use Rattle.index_reader.specs.Answers.{answers}
+use Rattle.index_reader.specs.Runs.{SaysQuery}
 use Rattle.index_reader.proofs.run.answer_queries.Given as goal
 
 abbrev pub invariant-loop : goal.invariant-loop
 invariant-loop g l =
-    (done : List ℕ) × Appends (g.W.Write.contents l.initial.out) (g.W.Write.contents l.out) (answers l.index done)
-    × (l.answered ≡ min (length done) (2 ^ 64 - 1))
-    × HasKept SaysQuery IsNoQuery g.R.Read.remaining (g.R.Read.remaining l.fn.input) l.lines (done ++ l.queries.keys.items)
+    (done : List ℕ) × Writes g.W.Write.contents l.initial.out l.out (answers l.index done)
+    × IfSome (g.R.Read.remaining l.fn.source.input) (λ bytes. width_of l.records ≡ length (first_record l.fn.source.format bytes))
+    × HasKept g.R.Read.remaining SaysQuery (option_map (rows_of l.fn.source.format) (g.R.Read.remaining l.fn.source.input))
+    (done ++ l.queries.keys.items) l.records

@@ -1,0 +1,47 @@
+//! Rows, as they are written.
+ghost use Rattle.std.specs.Prelude.{◌≡◌, ◌∷◌, [], map, IfOk, OnOk};
+ghost use Rattle.csv.specs.Writing.{writer_pending, writer_under};
+ghost use Rattle.program_parts.specs.Written.{IsReady, Writes};
+
+use csv::{Error, ErrorKind, Writer, WriterBuilder};
+use std::alloc::AllocError;
+use std::io;
+use std::io::Write;
+
+/// A writer of rows with this byte between two fields.
+pub fn row_writer<W: Write + Drop>(delimiter: u8, out: W) -> Writer<W>
+    ensures ready { IsReady delimiter result }
+    ensures under { writer_under result ≡ out }
+    ensures none_pending { writer_pending result ≡ [] }
+{
+    WriterBuilder::new().delimiter(delimiter).from_writer(out)
+}
+
+/// Writes a row of these fields.
+pub fn write_row<W: Write + Drop>(fields: &[&[u8]], out: &mut Writer<W>) -> io::Result<()>
+    ensures { OnOk result (Writes W.contents out.old out.new (map (λ field. field.now) fields.now ∷ [])) }
+{
+    match out.write_fields(fields) {
+        Ok(()) => Ok(()),
+        Err(error) => Err(io_error(error)),
+    }
+}
+
+/// Passes on all that is written.
+pub fn pass_on<W: Write + Drop>(out: &mut Writer<W>) -> io::Result<()>
+    ensures writes { OnOk result (Writes W.contents out.old out.new []) }
+    ensures none_pending { OnOk result (writer_pending out.new ≡ []) }
+{
+    match out.flush() {
+        Ok(()) => Ok(()),
+        Err(error) => Err(io_error(error)),
+    }
+}
+
+// The error of a write.
+fn io_error(error: Error) -> io::Error {
+    match error.into_kind() {
+        ErrorKind::Io(error) => error,
+        _ => io::Error::from(AllocError),
+    }
+}
