@@ -45,8 +45,9 @@ def join(words, left, right, expected, delimiter=","):
 
 
 TABLES = [
-    # a left join with no table writes the rows again
-    *(join(["-n", "left"], text, b"", (rows, [[], []])) for text, rows in zip(RFC, RFC_ROWS)),
+    # a left join with no table writes the rows again, but those whose key is lower than one before it
+    *(join(["-n", "left"], text, b"", (rows, [[], []])) for text, rows in zip(RFC, RFC_ROWS) if text != RFC[2]),
+    join(["-n", "left"], RFC[2], b"", ([RFC_ROWS[2][0], RFC_ROWS[2][2]], [[2], []])),
     *(join([kind], RFC[2], RFC[2], joined(kind, RFC[2], RFC[2])) for kind in ("inner", "left", "full", "semi", "anti")),
     grouped([], SUMS, [["department", "amount"], ["Smith, John", "5"], ["b", "3"]]),
     grouped([], MARK + SUMS, [["department", "amount"], ["Smith, John", "5"], ["b", "3"]]),
