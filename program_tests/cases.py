@@ -188,7 +188,7 @@ LONG = [
     ("table_join", ["anti", "-n"], (ROWS, HIGHER_ROWS), ROWS, 8),
     ("table_join", ["anti", "-n"], (HIGHER_ROWS, ROWS), HIGHER_ROWS, 8),
     # long lines now and then, 224 of 60 KB: records that are used again keep their room
-    ("table_join", ["semi", "-n"], (LONG_ROWS, LONG_ROWS), LONG_ROWS, 40),
+    ("table_join", ["semi", "-n"], (LONG_ROWS, LONG_ROWS), LONG_ROWS, 8),
     # 16 MB if all keys that are asked for were kept
     ("index_reader", ["-n"], (b"1,2\n", b"1\n" * 4_000_000), b"1,2\n" * 4_000_000, 8),
 ]
