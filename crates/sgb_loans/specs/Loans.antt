@@ -79,6 +79,13 @@ after_with Back xs after = xs ++ after
 abbrev pub noted : {T : Type 0} → End → List T → Loans T → Loans T
 noted e xs l = record l { before = before_with e l.before xs; after = after_with e xs l.after; cuts = drop 1 l.cuts }
 
+-- what a loop keeps that makes f of the slice named n and notes each part once it is written: no other part is out, and what is noted and
+-- f of the rest make up f of the whole
+pub record NotedSoFar {T : Type 0} (f : List T → List T) (n : GName) (whole : List T) (l : Loans T) (rest : List T) : Type 0 where
+  pub root : l.root ≡ n
+  pub cuts : l.cuts ≡ []
+  pub done : l.before ++ (f rest ++ l.after) ≡ f whole
+
 module _ (T : RattleType) where
   -- the slice named γ is given up for good, and ended as xs
   abbrev pub ended_as : GName → List T.Denot → Fml

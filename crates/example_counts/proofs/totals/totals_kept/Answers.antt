@@ -21,9 +21,11 @@ loop-group-preserved g c =
     record {
       settled = rw (note.remainder, note.judge) (c.calls_take_pieces.ensures.settled same_key Front s t (Some group) steps i.settled);
       fits = grind (arith, sum_by-append);
-      root = search rules;
-      cuts = search rules;
-      done =
-          c.notes_keep_pieces.ensures same_key kept Front s t c.note_front.new.self group _ _ steps i.settled note.remainder
-          note.before note.after (c.of.ensures.value ∙ set_is_kept group.now c.total_of.result c.total_of.ensures) i.done;
+      noted = record {
+        root = search rules;
+        cuts = search rules;
+        done =
+            c.notes_keep_pieces.ensures same_key kept Front s t c.note_front.new.self group _ _ steps i.settled note.remainder
+            note.before note.after (c.of.ensures.value ∙ set_is_kept group.now c.total_of.result c.total_of.ensures) i.noted.done;
+      };
     }
