@@ -193,6 +193,13 @@ LONG = [
     ("index_reader", ["-n"], (b"1,2\n", b"1\n" * 4_000_000), b"1,2\n" * 4_000_000, 8),
 ]
 
+
+def one_key(count):
+    """As many rows of one key and one row of it, and on the side of the one twice as many keys above."""
+    above = b"".join(b"a%09d,1\n" % key for key in range(2 * count))
+    return b",1\n" + above, b",1\n" * count + b"".join(b"m%06d,1\n" % key for key in range(1000))
+
+
 # Arguments that are wrong, and what clap says of them. The files that they name do not exist.
 WRONG_ARGUMENTS = [
     *((name, words, "unexpected argument '-x' found") for name in NAMES for words in (["-x"], ["nofile", "-x"])),

@@ -1,20 +1,20 @@
 -- What sums say of the rows so far.
-use Rattle.std.proofs.Common.{◌≡◌, ℕ, ◌+◌, ◌<◌, List, [], ◌∷◌, ◌++◌, Bool, cond, nat_eq, sum_by, length, get_or, set}
+use Rattle.std.proofs.Common.{◌≡◌, ◌≢◌, ℕ, ◌+◌, List, [], ◌∷◌, ◌++◌, Bool, cond, nat_eq, sum_by, length}
 use Rattle.std.proofs.Common.{refl, sym, ap, ◌∙◌, arith, Option, None, Some, IfSome}
 use Rattle.std.specs.Prelude.{option_map}
 use Rattle.csv.specs.declared.writer.Writer.{Writer}
 use Rattle.std.specs.Cmp.Lexicographic.{pointwise}
-use Rattle.std.proofs.lemmas.List.Sums.{sum_by-append, sum_by_push, sum_by-set, get_or-le-sum_by}
+use Rattle.std.proofs.lemmas.List.Sums.{sum_by-append}
+use Rattle.program_parts.specs.Columns.{IsPlace}
 use Rattle.program_parts.specs.Records.{Record, first_record, names_in, rows_of}
 use Rattle.program_parts.specs.RecordsKept.{AreRead, SaysWhole}
 use Rattle.program_parts.specs.Written.{Writes}
 use Rattle.program_parts.specs.declared.records.Format.{Format}
 use Rattle.grouped_report.specs.Departments.{Row, amount, IsReport, SaysTheSame}
-use Rattle.grouped_report.specs.Input.{ArePlaces, Says}
+use Rattle.grouped_report.specs.Input.{Says}
 use Rattle.grouped_report.specs.Report.{report_rows}
 use Rattle.grouped_report.specs.Runs.{Reports}
 use Rattle.grouped_report.specs.declared.columns.Places.{Places}
-use Rattle.grouped_report.proofs.Lines.{both}
 
 -- rows say what they say themselves, and what others do that say the same
 pub same_self : (xs : List Row) → SaysTheSame xs xs
@@ -45,53 +45,24 @@ same_more xs ys row p = record {
       sum_by-append amount ys (row ∷ []) ∙ ap (λ n. n + sum_by amount (row ∷ [])) p.total ∙ sym (sum_by-append amount xs (row ∷ []));
 }
 
--- with the amount of one row more in an entry of its department
-module _ (rows : List Row) (place : ℕ) (old : Row) (d : List ℕ) (more : ℕ) (inside : place < length rows) (at : old ≡ get_or rows place old)
-    (of : old.department ≡ d)
-  where
-    abbrev added : Row
-    added = record { department = d; amount = more }
-
-    abbrev new : Row
-    new = record { department = d; amount = old.amount + more }
-
-    pub same_added : SaysTheSame (rows ++ added ∷ []) (set rows place new)
-    same_added = record {
-      known =
-          λ e.
-          let f : Row → ℕ = λ row. cond (pointwise nat_eq e row.department) 1 0 in
-          let here = ap f at in
-          let same = ap {B = ℕ} (λ k. cond (pointwise nat_eq e k) 1 0) of in
-          let least = get_or-le-sum_by f rows place old inside in
-          omega (arith, sum_by-set f rows place new old inside, sum_by_push f rows added, here, same, least);
-      amounts =
-          λ e.
-          let f : Row → ℕ = λ row. cond (pointwise nat_eq e row.department) row.amount 0 in
-          let here = ap f at in
-          let same = ap {B = ℕ} (λ k. cond (pointwise nat_eq e k) old.amount 0) of in
-          let parts = both (pointwise nat_eq e d) old.amount more in
-          omega (arith, sum_by-set f rows place new old inside, sum_by_push f rows added, here, same, parts);
-      total =
-          let here = ap amount at in
-          omega (arith, sum_by-set amount rows place new old inside, sum_by_push amount rows added, here);
-    }
-
 -- the report of a table is written
 pub reports : {W : Type 0} (contents : W → Option (List ℕ)) (format : Format) (by sum : List ℕ) (input : Option (List ℕ)) (width : ℕ)
     (names : Record) (places : Places) (rows sums : List Row) (w : Bool) (before after : Writer W)
     → IfSome input (λ bytes. width ≡ length (first_record format bytes)) → IfSome input (λ bytes. names ≡ names_in format bytes)
-    → ArePlaces width names by sum places
+    → (width ≢ 0 → IsPlace width names by places.by) → (width ≢ 0 → IsPlace width names sum places.sum)
     → IfSome (option_map (rows_of format) input) (λ records. AreRead (SaysWhole width (Says places)) records rows w)
     → SaysTheSame rows sums → IsReport sums → Writes contents before after (report_rows names places sums)
     → IfSome input (λ bytes. Reports contents format by sum bytes w before after)
-reports contents format by sum None width names places rows sums w before after e f are_places read same is_report writes = tt
-reports contents format by sum (Some bytes) width names places rows sums w before after e f are_places read same is_report writes = record {
-  places = places;
-  are_places = rw (e, f) at are_places;
-  rows = rows;
-  are_read = rw e at read;
-  sums = sums;
-  same = same;
-  is_report = is_report;
-  writes = rw f at writes;
-}
+reports contents format by sum None width names places rows sums w before after e f by_at sum_at read same is_report writes = tt
+reports contents format by sum (Some bytes) width names places rows sums w before after e f by_at sum_at read same is_report writes =
+    record {
+      places = places;
+      department_at = rw (e, f) at by_at;
+      amount_at = rw (e, f) at sum_at;
+      rows = rows;
+      are_read = rw e at read;
+      sums = sums;
+      same = same;
+      is_report = is_report;
+      writes = rw f at writes;
+    }

@@ -1,13 +1,13 @@
 //! The rows of a report.
 ghost use Rattle.std.specs.Prelude.{◌∷◌, [], map, OnOk};
-ghost use Rattle.csv.specs.Records.{field_at, fields_of};
+ghost use Rattle.csv.specs.Records.{fields_of};
 ghost use Rattle.program_parts.specs.Written.{Writes};
-ghost use Rattle.grouped_report.specs.Report.{names_rows, report_rows, sum_row};
+ghost use Rattle.grouped_report.specs.Report.{report_rows, sum_row};
 
 use crate::columns::Places;
 use crate::entry::Entry;
 use csv::{ByteRecord, Writer};
-use program_parts::rows::write_row;
+use program_parts::rows::{write_row, write_two_names};
 use std::alloc::Global;
 use std::io;
 use std::io::Write;
@@ -22,23 +22,8 @@ pub fn write_report<W: Write + Drop>(
 ) -> io::Result<()>
     ensures { OnOk result (Writes W.contents out.old out.new (report_rows (fields_of names.now) places sums.now)) }
 {
-    write_names(names, places, out)?;
+    write_two_names(names, places.by, places.sum, out)?;
     write_sums(alloc, sums, out)
-}
-
-// Writes the names of the two columns, if there are any.
-fn write_names<W: Write + Drop>(
-    names: &ByteRecord,
-    places: Places,
-    out: &mut Writer<W>,
-) -> io::Result<()>
-    ensures { OnOk result (Writes W.contents out.old out.new
-        (names_rows (field_at (fields_of names.now) places.by) (field_at (fields_of names.now) places.sum))) }
-{
-    match (names.get(places.by), names.get(places.sum)) {
-        (Some(by), Some(sum)) => write_row(&[by, sum], out),
-        _ => Ok(()),
-    }
 }
 
 // Writes a row for each sum.

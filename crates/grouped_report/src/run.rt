@@ -3,7 +3,7 @@ ghost use Rattle.std.specs.Prelude.{◌≡◌, [], IfOk, IfSome, OnOk, true};
 ghost use Rattle.csv.specs.Writing.{writer_pending};
 ghost use Rattle.grouped_report.specs.Runs.{Reports};
 
-use crate::columns::{Columns, places_of};
+use crate::columns::{Columns, Places};
 use crate::output::write_report;
 use crate::row::Adder;
 use crate::sums::Sums;
@@ -47,7 +47,9 @@ fn report_table<'a, R: Read + Drop, W: Write + Drop, E: Write>(
     ensures none_pending { OnOk result (writer_pending out.new ≡ []) }
 {
     let mut records = Records::new(alloc, source)?;
-    let places = places_of(columns, &records)?;
+    let by = records.place_of(columns.by)?;
+    let sum = records.place_of(columns.sum)?;
+    let places = Places { by, sum };
     let mut adder = Adder {
         places,
         sums: Sums::new(alloc),

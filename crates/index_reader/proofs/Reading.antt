@@ -1,12 +1,12 @@
 -- What is read of an index and of queries, and what is written.
-use Rattle.std.proofs.Common.{◌≡◌, ℕ, List, Bool, ◌&&◌, Option, None, Some, IfSome, length, option_map}
+use Rattle.std.proofs.Common.{◌≡◌, ◌≢◌, ℕ, List, Bool, ◌&&◌, Option, None, Some, IfSome, length, option_map}
 use Rattle.csv.specs.declared.writer.Writer.{Writer}
+use Rattle.program_parts.specs.Columns.{IsPlace}
 use Rattle.program_parts.specs.Records.{Record, first_record, names_in, rows_of}
 use Rattle.program_parts.specs.RecordsKept.{AreRead, SaysWhole}
 use Rattle.program_parts.specs.Written.{Writes}
 use Rattle.program_parts.specs.declared.records.Format.{Format}
 use Rattle.index_reader.specs.Answers.{answer_rows}
-use Rattle.index_reader.specs.Columns.{ArePlaces}
 use Rattle.index_reader.specs.Runs.{Answers, HasQueries, SaysEntry, SaysQuery}
 use Rattle.index_reader.specs.declared.columns.Fields.{Fields}
 use Rattle.index_reader.specs.declared.entry.Entry.{Entry}
@@ -20,22 +20,25 @@ has_queries format None width keys w is read = tt
 has_queries format (Some bytes) width keys w is read = rw is at read
 
 -- the answers to the queries, by the index
-module _ {W : Type 0} (contents : W → Option (List ℕ)) (format other : Format) (key place : List ℕ) (width : ℕ) (names : Record) (fields : Fields)
+module _ {W : Type 0} (contents : W → Option (List ℕ)) (format other : Format) (key place : List ℕ) (width : ℕ) (names : Record)
+    (fields : Fields)
     (index : List Entry) (keys : List ℕ) (w v is_whole : Bool) (before after : Writer W) where
   pub answered : (a b : Option (List ℕ)) → IfSome a (λ bytes. width ≡ length (first_record format bytes))
-      → IfSome a (λ bytes. names ≡ names_in format bytes) → ArePlaces width names key place fields
+      → IfSome a (λ bytes. names ≡ names_in format bytes) → (width ≢ 0 → IsPlace width names key fields.key)
+      → (width ≢ 0 → IsPlace width names place fields.place)
       → IfSome (option_map (rows_of format) a) (λ rows. AreRead (SaysWhole width (SaysEntry fields)) rows index w)
-      → is_whole ≡ (w && v) → IfSome b (λ bytes. HasQueries other bytes keys v) → Writes contents before after (answer_rows names fields index keys)
+      → is_whole ≡ (w && v) → IfSome b (λ bytes. HasQueries other bytes keys v)
+      → Writes contents before after (answer_rows names fields index keys)
       → IfSome a (λ entries. IfSome b (λ asked. Answers contents format other key place entries asked is_whole before after))
-  answered None b e f are_places i whole q writes = tt
-  answered (Some bytes) None e f are_places i whole q writes = tt
-  answered (Some bytes) (Some asked) e f are_places i whole q writes = record {
+  answered None b e f key_at place_at i whole q writes = tt
+  answered (Some bytes) None e f key_at place_at i whole q writes = tt
+  answered (Some bytes) (Some asked) e f key_at place_at i whole q writes = record {
     fields = fields;
     index = index;
     keys = keys;
     are_entries = w;
     are_queries = v;
-    reads_index = record { are_places = rw (e, f) at are_places; are_read = rw e at i };
+    reads_index = record { key_at = rw (e, f) at key_at; place_at = rw (e, f) at place_at; are_read = rw e at i };
     reads_queries = q;
     writes = rw f at writes;
     whole = whole;

@@ -1,7 +1,8 @@
 -- The rows that answer queries.
-use Rattle.std.specs.Prelude.{ℕ, List, [], ◌∷◌, ◌++◌, decimal, flat_map, map, Option, None, Some}
+use Rattle.std.specs.Prelude.{ℕ, List, [], ◌∷◌, ◌++◌, decimal, flat_map, map}
 use Rattle.csv.specs.Records.{field_at}
 use Rattle.program_parts.specs.Records.{Record}
+use Rattle.program_parts.specs.Written.{two_names}
 use Rattle.index_reader.specs.Keys.{of_key}
 use Rattle.index_reader.specs.declared.columns.Fields.{Fields}
 use Rattle.index_reader.specs.declared.entry.Entry.{Entry}
@@ -22,12 +23,6 @@ entry_rows key entries = rows key (map (λ entry. entry.place) entries)
 abbrev pub answers : List Entry → List ℕ → List Record
 answers index keys = flat_map (λ key. entry_rows key (of_key key index)) keys
 
--- the row of the names of its columns, if the index has them
-abbrev pub names_rows : Option (List ℕ) → Option (List ℕ) → List Record
-names_rows (Some key) (Some place) = (key ∷ place ∷ []) ∷ []
-names_rows None place = []
-names_rows (Some key) None = []
-
 -- what is written for queries of these keys, by an index whose columns have these names
 abbrev pub answer_rows : Record → Fields → List Entry → List ℕ → List Record
-answer_rows names fields index keys = names_rows (field_at names fields.key) (field_at names fields.place) ++ answers index keys
+answer_rows names fields index keys = two_names (field_at names fields.key) (field_at names fields.place) ++ answers index keys

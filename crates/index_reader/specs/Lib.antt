@@ -1,5 +1,4 @@
 pub mod Answers
 pub mod Blocks
-pub mod Columns
 pub mod Keys
 pub mod Runs

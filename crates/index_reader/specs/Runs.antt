@@ -1,12 +1,12 @@
 -- What a run reads and writes.
 use Rattle.std.specs.Prelude.{◌≡◌, ℕ, List, [], ◌∷◌, ◌++◌, length, Bool, ◌&&◌, Option}
 use Rattle.csv.specs.declared.writer.Writer.{Writer}
+use Rattle.program_parts.specs.Columns.{IsColumn}
 use Rattle.program_parts.specs.Records.{Record, first_record, names_in, rows_of}
 use Rattle.program_parts.specs.RecordsKept.{AreRead, SaysWhole}
 use Rattle.program_parts.specs.Written.{Writes}
 use Rattle.program_parts.specs.declared.records.Format.{Format}
 use Rattle.index_reader.specs.Answers.{answer_rows}
-use Rattle.index_reader.specs.Columns.{ArePlaces}
 use Rattle.index_reader.specs.Keys.{IsAscending, Says, Asks}
 use Rattle.index_reader.specs.declared.columns.Fields.{Fields}
 use Rattle.index_reader.specs.declared.entry.Entry.{Entry}
@@ -21,7 +21,8 @@ SaysQuery before fields key = Asks fields key
 
 -- these are the entries that the records of an index in these bytes say, in columns of these texts
 pub record HasEntries (format : Format) (key place bytes : List ℕ) (fields : Fields) (index : List Entry) (is_whole : Bool) : Type 0 where
-  pub are_places : ArePlaces (length (first_record format bytes)) (names_in format bytes) key place fields
+  pub key_at : IsColumn format bytes key fields.key
+  pub place_at : IsColumn format bytes place fields.place
   pub are_read : AreRead (SaysWhole (length (first_record format bytes)) (SaysEntry fields)) (rows_of format bytes) index is_whole
 
 -- these are the keys that the records in these bytes ask for
@@ -31,7 +32,8 @@ HasQueries format bytes keys is_whole =
 
 -- The answers to the queries in the one file are written, by the index in the other, in columns of these texts. Records that are wrong are
 -- left out, and `is_whole` says whether there is none.
-pub record Answers {W : Type 0} (contents : W → Option (List ℕ)) (format other : Format) (key place entries queries : List ℕ) (is_whole : Bool)
+pub record Answers {W : Type 0} (contents : W → Option (List ℕ)) (format other : Format) (key place entries queries : List ℕ)
+    (is_whole : Bool)
     (before after : Writer W) : Type 0
   where
     pub fields : Fields

@@ -1,32 +1,15 @@
 //! The rows that answer queries.
 ghost use Rattle.std.specs.Prelude.{◌∷◌, [], OnOk};
-ghost use Rattle.csv.specs.Records.{field_at, fields_of};
 ghost use Rattle.program_parts.specs.Written.{Writes};
-ghost use Rattle.index_reader.specs.Answers.{names_rows, place_row, rows};
+ghost use Rattle.index_reader.specs.Answers.{place_row, rows};
 ghost use Rattle.index_reader.specs.Blocks.{places_of};
 
 use crate::answer::Answer;
-use crate::columns::Fields;
-use csv::{ByteRecord, Writer};
+use csv::Writer;
 use itoa::Buffer;
 use program_parts::rows::write_row;
 use std::io;
 use std::io::Write;
-
-/// Writes the names of the two columns, if the index has names.
-pub fn write_names<W: Write + Drop>(
-    names: &ByteRecord,
-    at: Fields,
-    out: &mut Writer<W>,
-) -> io::Result<()>
-    ensures { OnOk result (Writes W.contents out.old out.new
-        (names_rows (field_at (fields_of names.now) at.key) (field_at (fields_of names.now) at.place))) }
-{
-    match (names.get(at.key), names.get(at.place)) {
-        (Some(key), Some(place)) => write_row(&[key, place], out),
-        _ => Ok(()),
-    }
-}
 
 /// Writes a row for each place of the answer, in their order.
 pub fn write_answer<W: Write + Drop>(answer: &Answer<'_>, out: &mut Writer<W>) -> io::Result<()>

@@ -6,14 +6,13 @@ ghost use Rattle.index_reader.specs.Answers.{answers};
 ghost use Rattle.index_reader.specs.Runs.{Answers, HasQueries};
 
 use crate::block::answer_block;
-use crate::columns::{Columns, fields_of};
+use crate::columns::{Columns, Fields};
 use crate::index::{Index, IndexReader};
-use crate::output::write_names;
 use crate::query::Queries;
 use csv::Writer;
 use program_parts::input::NamedFile;
 use program_parts::records::{Records, Source};
-use program_parts::rows::pass_on;
+use program_parts::rows::{pass_on, write_two_names};
 use program_parts::status::{Failure, table_status};
 use std::alloc::Global;
 use std::io;
@@ -61,13 +60,15 @@ fn answer_all<'a, I: Read + Drop, Q: Read + Drop, W: Write + Drop, E: Write>(
     ensures none_pending { OnOk result (writer_pending out.new ≡ []) }
 {
     let mut records = Records::new(alloc, index)?;
-    let fields = fields_of(columns, &records)?;
+    let key = records.place_of(columns.key)?;
+    let place = records.place_of(columns.place)?;
+    let fields = Fields { key, place };
     let mut reader = IndexReader {
         fields,
         index: Index::new(alloc),
     };
     let are_entries = records.keep_all(&mut reader, complaints)?;
-    write_names(records.names(), fields, out)?;
+    write_two_names(records.names(), fields.key, fields.place, out)?;
     let are_queries = answer_queries(alloc, &reader.index, queries, out, complaints)?;
     pass_on(out)?;
     Ok(are_entries && are_queries)

@@ -38,7 +38,14 @@ module _ {A : Type 0} (Says : List A → Record → A → Type 0) where
       → IsSilent Says (before ++ kept) row → AreKept Says before (given ++ row ∷ []) kept
   silent_more before [] kept row none silent = inr (rw (none, append-nil before) at silent, none)
   silent_more before (other ∷ given) kept row (inl (y, more, is, first, rest)) silent =
-      inl (y, more, is, first, silent_more (before ++ y ∷ []) given more row rest (rw (append_assoc before (y ∷ []) more) (rw is at silent)))
+      inl (
+        y,
+        more,
+        is,
+        first,
+        silent_more (before ++ y ∷ []) given more row rest (rw (append_assoc before (y ∷ []) more)
+            (rw is at silent)),
+      )
   silent_more before (other ∷ given) kept row (inr (none, rest)) silent = inr (none, silent_more before given kept row rest silent)
 
   -- of no record
@@ -59,7 +66,8 @@ module _ {A : Type 0} (Says : List A → Record → A → Type 0) where
 
   -- of a table of which none is given yet
   pub none_so_far : {R : Type 0} (remaining : R → Option (List ℕ)) (format : Format) (input : Option (List ℕ)) (records : Records R)
-      → IsNew remaining format input records → KeptSoFar Says (option_map (rows_of format) input) (left_of remaining records) [] (count_of records)
+      → IsNew remaining format input records → KeptSoFar Says (option_map (rows_of format) input) (left_of remaining records) []
+      (count_of records)
   none_so_far remaining format input records new =
       let all = option_map (rows_of format) input in
       none_taken all all _ [] 0 _ (none_kept all) new.left new.none_left_out

@@ -27,10 +27,12 @@ module _ (cfg : Config) where
       by true is = let rest : [] ≡ p.2 = cc (rw is at e) in rw (← rest) (omega arith)
       by false is = cc (rw is at e)
   at_most s fields field (c ∷ rest) p e =
-      by (is_end (step cfg s c).1) refl (at_most (step cfg s c).0 (fields_after (step cfg s c).1 fields field) (field_after (step cfg s c).1 c field) rest p)
+      by (is_end (step cfg s c).1) refl (at_most (step cfg s c).0 (fields_after (step cfg s c).1 fields field) (field_after
+      (step cfg s c).1 c field) rest p)
     where
       by : (b : Bool) → is_end (step cfg s c).1 ≡ b
-          → (next_record cfg (step cfg s c).0 (fields_after (step cfg s c).1 fields field) (field_after (step cfg s c).1 c field) rest ≡ Some p
+          → (next_record cfg (step cfg s c).0 (fields_after (step cfg s c).1 fields field) (field_after
+          (step cfg s c).1 c field) rest ≡ Some p
           → length p.2 ≤ length rest) → length p.2 ≤ suc (length rest)
       by true is later = let same : rest ≡ p.2 = cc (rw is at e) in rw (← same) (omega arith)
       by false is later = let least : length p.2 ≤ length rest = later (rw is at e) in omega arith
@@ -121,8 +123,10 @@ module _ {R : Type 0} (remaining : R → Option (List ℕ)) where
     where
       known : (found : Bool) (y : List ℕ) → is_ready old ≡ true → ReadRecord remaining old new found fields → took_first new ≡ true
           → reader_trim old ≡ trim.None → source_of remaining old ≡ Some y
-          → Gives (Some (left old.config old.state y)) (if found then reader_left remaining new else Some []) (if found then fields ∷ [] else [])
-      known false y is r first unchanged source = none_left old.config old.state y (rows-end remaining old new fields old.config y refl source r)
+          → Gives (Some (left old.config old.state y)) (if found then reader_left remaining new else Some [])
+          (if found then fields ∷ [] else [])
+      known false y is r first unchanged source = none_left old.config old.state y
+          (rows-end remaining old new fields old.config y refl source r)
       known true y is r first unchanged source =
           let (z, at_z, one) = rows-more remaining old new fields old.config old.state y y [] refl source (refl, refl) r in
           let still : is_ready new ≡ true = rw (r.3 ∙ unchanged, first) refl in
@@ -142,7 +146,8 @@ module _ {R : Type 0} (remaining : R → Option (List ℕ)) where
       by true is = source_by (source_of remaining old) refl is
 
   -- none is given yet
-  pub all_left : (reader : Reader R) (cfg : Config) (input : Option (List ℕ)) → reader_trim reader ≡ trim.None → names_headers reader ≡ false
+  pub all_left : (reader : Reader R) (cfg : Config) (input : Option (List ℕ)) → reader_trim reader ≡ trim.None
+      → names_headers reader ≡ false
       → reader_headers reader ≡ None → reader_config reader ≡ cfg → reader_state reader ≡ st.StartRecord
       → source_of remaining reader ≡ option_map strip_bom input
       → reader_left remaining reader ≡ option_map (λ bytes. records cfg (strip_bom bytes)) input
@@ -169,14 +174,16 @@ module _ (f : List ℕ → List Record) where
   first_found of x (Some bytes) (Some rows) fields gives is = rw gives is
 
   -- it is none of the rows
-  pub first_dropped : (input : Option (List ℕ)) (behind : Option (List Record)) (fields : Record) → Gives (option_map f input) behind (fields ∷ [])
+  pub first_dropped : (input : Option (List ℕ)) (behind : Option (List Record)) (fields : Record)
+      → Gives (option_map f input) behind (fields ∷ [])
       → Gives (option_map (λ bytes. drop 1 (f bytes)) input) behind []
   first_dropped None behind fields gives = tt
   first_dropped (Some bytes) None fields gives = absurd gives
   first_dropped (Some bytes) (Some rows) fields gives = rw gives refl
 
   -- or it waits
-  pub first_waits : (input : Option (List ℕ)) (behind : Option (List Record)) (fields : Record) → Gives (option_map f input) behind (fields ∷ [])
+  pub first_waits : (input : Option (List ℕ)) (behind : Option (List Record)) (fields : Record)
+      → Gives (option_map f input) behind (fields ∷ [])
       → Gives (option_map f input) (option_map (λ rows. fields ∷ rows) behind) []
   first_waits None behind fields gives = tt
   first_waits (Some bytes) None fields gives = absurd gives

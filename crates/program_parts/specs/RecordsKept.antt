@@ -42,6 +42,7 @@ module _ {A : Type 0} (Says : List A → Record → A → Type 0) where
     pub counted : count ≡ min left_out (2 ^ 64 - 1)
 
 -- these are kept of the records that a reader of a table gave so far
-abbrev pub HasKept : {A R : Type 0} → (R → Option (List ℕ)) → (List A → Record → A → Type 0) → Option (List Record) → List A → Records R → Type 0
+abbrev pub HasKept : {A R : Type 0} → (R → Option (List ℕ)) → (List A → Record → A → Type 0) → Option (List Record) → List A
+    → Records R → Type 0
 HasKept remaining Says all kept records =
     KeptSoFar (SaysWhole (width_of records) Says) all (left_of remaining records) kept (count_of records)

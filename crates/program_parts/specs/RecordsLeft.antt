@@ -26,7 +26,8 @@ is_ready reader = is_plain (reader_trim reader) && (took_first reader || (not (n
 abbrev pub reader_left : {R : Type 0} → (R → Option (List ℕ)) → Reader R → Option (List Record)
 reader_left remaining reader =
     if is_ready reader
-    then option_map (λ bytes. records_from (reader_config reader) (length bytes + 1) (reader_state reader) bytes) (source_of remaining reader)
+    then option_map (λ bytes. records_from (reader_config reader) (length bytes + 1) (reader_state reader) bytes)
+    (source_of remaining reader)
     else None
 
 -- the record that was read last, and those that the reader has left, of which there is none where the end was read
@@ -52,7 +53,8 @@ abbrev pub count_of : {R : Type 0} → Records R → ℕ
 count_of records = records.omitted.count
 
 -- none of the rows of these bytes is given yet
-pub record IsNew {R : Type 0} (remaining : R → Option (List ℕ)) (format : Format) (input : Option (List ℕ)) (records : Records R) : Type 0 where
+pub record IsNew {R : Type 0} (remaining : R → Option (List ℕ)) (format : Format) (input : Option (List ℕ))
+    (records : Records R) : Type 0 where
   pub left : Gives (option_map (rows_of format) input) (left_of remaining records) []
   pub width : IfSome input (λ bytes. width_of records ≡ length (first_record format bytes))
   pub names : IfSome input (λ bytes. names_of records ≡ names_in format bytes)

@@ -48,20 +48,38 @@ enum Source {
 pub struct Input<'a> {
     file: &'a NamedFile,
     source: Source,
+    given: u64,
+}
+
+/// An input that counts the bytes that it gives.
+pub trait Counted {
+    /// How many it gave so far.
+    fn given(&self) -> u64;
+}
+
+impl<'a> Counted for Input<'a> {
+    fn given(&self) -> u64 {
+        self.given
+    }
 }
 
 impl<'a> Input<'a> {
+    // The input from there, of which nothing is read.
+    fn new(file: &'a NamedFile, source: Source) -> Input<'a> {
+        Input {
+            file,
+            source,
+            given: 0,
+        }
+    }
+
     /// The file of this name, or standard input. `None` where it cannot be opened, and a line of complaint says why.
     pub fn open(rt: &HostRuntime, program: &str, file: &'a NamedFile) -> Option<Input<'a>> {
         if file.is_stdin() {
-            let source = Source::Stdin(rt.stdin());
-            return Some(Input { file, source });
+            return Some(Input::new(file, Source::Stdin(rt.stdin())));
         }
         match File::open(rt, file.name.as_str()) {
-            Ok(opened) => Some(Input {
-                file,
-                source: Source::File(opened),
-            }),
+            Ok(opened) => Some(Input::new(file, Source::File(opened))),
             Err(error) => {
                 let _ = writeln!(rt.stderr(), "{program}: {}: {error}", file.shown);
                 None
@@ -102,12 +120,17 @@ impl<'a> Read for Input<'a> {
                 Source::Stdin(stdin) => stdin.read(buf),
                 Source::File(file) => file.read(buf),
             };
-            let Err(error) = read else {
-                return read;
-            };
-            if error.kind() != ErrorKind::Interrupted {
-                self.file.has_failed.set(true);
-                return Err(error);
+            match read {
+                Ok(len) => {
+                    self.given = self.given.saturating_add(len as u64);
+                    return Ok(len);
+                }
+                Err(error) => {
+                    if error.kind() != ErrorKind::Interrupted {
+                        self.file.has_failed.set(true);
+                        return Err(error);
+                    }
+                }
             }
         }
         Err(io::Error::from(ErrorKind::Interrupted))

@@ -23,11 +23,7 @@ pub fn number_32(text: &[u8]) -> Option<u32>
     ensures is_number { IfSome result (λ n. IsNumber 32 text.now n) }
     ensures none { IfNone result (IsNoNumber 32 text.now) }
 {
-    let number = number_64(text)?;
-    if number > u32::MAX as u64 {
-        return None;
-    }
-    Some(number as u32)
+    u32::try_from(number_64(text)?).ok()
 }
 
 /// The number of 8 bits.
@@ -36,9 +32,5 @@ pub fn number_8(text: &[u8]) -> Option<u8>
     ensures is_number { IfSome result (λ n. IsNumber 8 text.now n) }
     ensures none { IfNone result (IsNoNumber 8 text.now) }
 {
-    let number = number_64(text)?;
-    if number > u8::MAX as u64 {
-        return None;
-    }
-    Some(number as u8)
+    u8::try_from(number_64(text)?).ok()
 }

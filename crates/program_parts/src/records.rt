@@ -6,6 +6,7 @@ ghost use Rattle.program_parts.specs.Records.{config_of};
 ghost use Rattle.program_parts.specs.RecordsLeft.{reader_left};
 
 use crate::columns::{WrongColumn, place_of};
+use crate::input::Counted;
 use crate::omitted::Omitted;
 use csv::{ByteRecord, ErrorKind, Reader, ReaderBuilder};
 use std::alloc::{AllocError, Global};
@@ -306,6 +307,15 @@ impl<'a, R: Read + Drop> Records<'a, R> {
     {
         self.omitted.finish(complaints)?;
         Ok(self.omitted.is_empty())
+    }
+}
+
+impl<'a, R: Read + Counted> Records<'a, R> {
+    /// Whether the input gave no byte behind the record that was read last, but perhaps the line feed that ends it: the next
+    /// record must be waited for.
+    pub fn is_drained(&self) -> bool {
+        let used = self.reader.position().byte();
+        self.reader.get_ref().given().saturating_sub(used) <= 1
     }
 }
 

@@ -1,9 +1,10 @@
 //! Rows, as they are written.
 ghost use Rattle.std.specs.Prelude.{◌≡◌, ◌∷◌, [], map, IfOk, OnOk};
+ghost use Rattle.csv.specs.Records.{field_at, fields_of};
 ghost use Rattle.csv.specs.Writing.{writer_pending, writer_under};
-ghost use Rattle.program_parts.specs.Written.{IsReady, Writes};
+ghost use Rattle.program_parts.specs.Written.{IsReady, Writes, two_names};
 
-use csv::{Error, ErrorKind, Writer, WriterBuilder};
+use csv::{ByteRecord, Error, ErrorKind, Writer, WriterBuilder};
 use std::alloc::AllocError;
 use std::io;
 use std::io::Write;
@@ -24,6 +25,22 @@ pub fn write_row<W: Write + Drop>(fields: &[&[u8]], out: &mut Writer<W>) -> io::
     match out.write_fields(fields) {
         Ok(()) => Ok(()),
         Err(error) => Err(io_error(error)),
+    }
+}
+
+/// Writes the names of the columns at these two places, if there are any.
+pub fn write_two_names<W: Write + Drop>(
+    names: &ByteRecord,
+    first: usize,
+    second: usize,
+    out: &mut Writer<W>,
+) -> io::Result<()>
+    ensures { OnOk result (Writes W.contents out.old out.new
+        (two_names (field_at (fields_of names.now) first) (field_at (fields_of names.now) second))) }
+{
+    match (names.get(first), names.get(second)) {
+        (Some(first), Some(second)) => write_row(&[first, second], out),
+        _ => Ok(()),
     }
 }
 

@@ -18,10 +18,12 @@ module _ (a b c : Option (List ℕ)) (n left k byte : ℕ) (within : left ≤ n)
   copies_end enough p q =
       let sum : n - left + left ≡ n = omega arith in
       let last = subst (Appends b c) (take-replicate left k byte enough) q in
-      subst (Appends a c) (replicate-append-replicate (n - left) left byte ∙ ap (λ m. replicate m byte) sum) (Appends-trans a b c _ _ p last)
+      subst (Appends a c) (replicate-append-replicate (n - left) left byte
+      ∙ ap (λ m. replicate m byte) sum) (Appends-trans a b c _ _ p last)
 
 -- an empty room, filled with a byte
-pub filled : (old new : List ℕ) (len n byte : ℕ) → old ≡ [] → len ≡ 0 → new ≡ take n old ++ replicate (n - len) byte → new ≡ replicate n byte
+pub filled : (old new : List ℕ) (len n byte : ℕ) → old ≡ [] → len ≡ 0 → new ≡ take n old ++ replicate (n - len) byte
+    → new ≡ replicate n byte
 filled old new len n byte none is_empty is =
     let all : n - len ≡ n = omega (arith, is_empty) in
     is ∙ ap (λ l. take n l ++ replicate (n - len) byte) none ∙ ap (λ l. l ++ replicate (n - len) byte) (take_all n [] (omega arith))

@@ -1,5 +1,6 @@
 -- The groups of equal bytes, each a run.
-use Rattle.std.proofs.Common.{◌≡◌, ℕ, suc, ◌<◌, ◌≤◌, ◌^◌, Bool, true, false, List, [], ◌∷◌, ◌++◌, length, replicate, nat_eq, refl, ap, sym, ◌∙◌, arith}
+use Rattle.std.proofs.Common.{◌≡◌, ℕ, suc, ◌<◌, ◌≤◌, ◌^◌, Bool, true, false, List, [], ◌∷◌, ◌++◌, length, replicate, nat_eq}
+use Rattle.std.proofs.Common.{refl, ap, sym, ◌∙◌, arith}
 use Rattle.std.specs.List.{All, AllByRecursion}
 use Rattle.std.proofs.lemmas.Bool.{eqb-true}
 use Rattle.slice_group_stream.specs.Split.{concat, split}
@@ -34,7 +35,14 @@ module _ (x y : ℕ) (ys : List ℕ) (few : length (x ∷ y ∷ ys) < 2 ^ 64) (s
         are_runs = r.are_runs;
       }
   one_more false e r =
-      let run : IsRun (replicate (suc r.more) y) = record { more = r.more; byte = y; is = refl; fits = omega (arith, r.within, few); small = small } in
+      let run : IsRun (replicate (suc r.more) y) = record {
+        more = r.more;
+        byte = y;
+        is = refl;
+        fits = omega
+            (arith, r.within, few);
+        small = small;
+      } in
       record {
         more = 0;
         others = replicate (suc r.more) y ∷ r.others;
@@ -47,7 +55,8 @@ module _ (x y : ℕ) (ys : List ℕ) (few : length (x ∷ y ∷ ys) < 2 ^ 64) (s
 groups : (x : ℕ) (xs : List ℕ) → length (x ∷ xs) < 2 ^ 64 → All (λ b. b < 2 ^ 8) (x ∷ xs) → Groups x xs
 groups x [] few small = record { more = 0; others = []; within = omega arith; cut = refl; covers = refl; are_runs = tt }
 groups x (y ∷ ys) few small =
-    one_more x y ys few (small 1 0 (omega arith)) (nat_eq x y) refl (groups y ys (omega (arith, few)) (λ k d l. small (suc k) d (omega arith)))
+    one_more x y ys few (small 1 0 (omega arith)) (nat_eq x y) refl (groups y ys (omega (arith, few)) (λ k d l. small (suc k) d
+    (omega arith)))
 
 -- each group of bytes is a run, and together they are the bytes
 pub groups_are_runs : (bytes : List ℕ) → length bytes < 2 ^ 64 → All (λ b. b < 2 ^ 8) bytes

@@ -13,7 +13,8 @@ use Rattle.csv.specs.Writing.{default_writer, field_text, needs_byte}
 
 -- a digit is no byte whose value is not below 10
 not_byte : (b c : ℕ) → digit_value b ≡ 36 → digit_value c < 10 → c ≢ b
-not_byte b c none digit e = let P : ℕ → Type 0 = λ x. digit_value x < 10 in let k : digit_value b < 10 = subst P e digit in omega (arith, none)
+not_byte b c none digit e = let P : ℕ → Type 0 = λ x. digit_value x < 10 in let k : digit_value b < 10 = subst P e digit in omega
+    (arith, none)
 
 no_quotes : (ds : List ℕ) → AllDigits 10 ds → list_any (needs_byte default_writer) ds ≡ false
 no_quotes [] h = refl

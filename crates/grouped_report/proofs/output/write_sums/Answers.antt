@@ -9,4 +9,5 @@ loop-sum-preserved g c =
     let sums = c.args.sums.now in
     let i = c.loop-sum.sum-index in
     let next : take (i + 1) sums ≡ take i sums ++ c.sum-item.result ∷ [] = grind (arith, common_steps) in
-    writes_one_more g.W.Write.contents _ c.loop-sum.out c.write_sum.new.out sum_row sums i _ next c.loop-sum.invariant c.in_ok-write_sum.ensures
+    writes_one_more g.W.Write.contents _ c.loop-sum.out c.write_sum.new.out sum_row sums i _ next c.loop-sum.invariant
+    c.in_ok-write_sum.ensures

@@ -10,5 +10,6 @@ loop-place-preserved g c =
     let places = c.args.places.now in
     let i = c.loop-place.place-index in
     let next : take (i + 1) places ≡ take i places ++ slice_index places i ∷ [] = grind (arith, common_steps) in
-    writes_one_more g.W.Write.contents _ c.loop-place.out c.write_place.new.out (place_row c.args.key) places i _ next c.loop-place.invariant
+    writes_one_more g.W.Write.contents _ c.loop-place.out c.write_place.new.out
+    (place_row c.args.key) places i _ next c.loop-place.invariant
     c.in_ok-write_place.ensures

@@ -11,7 +11,8 @@ use Rattle.index_reader.proofs.run.answer_queries.Goals as goal
 pub loop-init : goal.loop-init
 loop-init g c =
     let new = c.in_ok-records.ensures in
-    let s = none_so_far (SaysWhole (width_of c.in_ok-records.records) SaysQuery) g.R.Read.remaining c.args.source.format _ c.in_ok-records.records new in
+    let s = none_so_far (SaysWhole (width_of c.in_ok-records.records) SaysQuery) g.R.Read.remaining c.args.source.format _
+    c.in_ok-records.records new in
     ([], writes_none g.W.Write.contents _, new.width, rw c.new-queries.ensures s)
 
 pub loop-preserved : goal.loop-preserved
@@ -20,7 +21,8 @@ loop-preserved g c =
     let waiting = c.keep_next.new.keeper.keys.items in
     let keys = done ++ waiting in
     let (more, is, s') = c.in_ok-found.ensures.kept done _ _ refl s in
-    let wrote = answers_both g.W.Write.contents c.args.index.now done waiting _ _ _ writes (rw c.deref.ensures.value at c.in_ok-answer_block.ensures) in
+    let wrote = answers_both g.W.Write.contents c.args.index.now done waiting _ _ _ writes
+    (rw c.deref.ensures.value at c.in_ok-answer_block.ensures) in
     (keys, wrote, rw c.keep_next.ensures.width width, rw (c.clear.ensures.items, append-nil keys) (rw is at s'))
 
 pub returns-then-not-found : goal.returns-then-not-found
@@ -29,11 +31,13 @@ returns-then-not-found g c =
     let waiting = c.keep_next.new.keeper.keys.items in
     let keys = done ++ waiting in
     let (more, is, s') = c.in_ok-found.ensures.kept done _ _ refl s in
-    let wrote = answers_both g.W.Write.contents c.args.index.now done waiting _ _ _ writes (rw c.deref.ensures.value at c.in_ok-answer_block.ensures) in
+    let wrote = answers_both g.W.Write.contents c.args.index.now done waiting _ _ _ writes
+    (rw c.deref.ensures.value at c.in_ok-answer_block.ensures) in
     let end = c.in_ok-found.ensures.end c.if-not-found.true in
     let said = all_kept _ _ keys _ (rw (is, end) at s') in (
       keys,
       wrote,
-      has_queries c.args.source.format (g.R.Read.remaining c.args.source.input) (width_of c.keep_next.new.self) keys _ (rw c.keep_next.ensures.width width)
+      has_queries c.args.source.format (g.R.Read.remaining c.args.source.input) (width_of c.keep_next.new.self) keys _
+          (rw c.keep_next.ensures.width width)
           (rw c.in_ok-is_whole.ensures said),
     )

@@ -2,9 +2,11 @@ use Rattle.std.proofs.Common.{◌≡◌, ◌∷◌, ℕ, List, [], Some, None}
 use Rattle.csv.specs.Records.{field_at, fields_of}
 use Rattle.program_parts.specs.Records.{Record}
 use Rattle.program_parts.proofs.records.two_fields.Goals as goal
-use Rattle.program_parts.proofs.records.two_fields.Goals.{in_default-via-in-Some+in-Some+in_default, in_default-via-in-Some+in_default, in_default-via-in_default}
+use Rattle.program_parts.proofs.records.two_fields.Goals.{in_default-via-in-Some+in-Some+in_default}
+use Rattle.program_parts.proofs.records.two_fields.Goals.{in_default-via-in-Some+in_default, in_default-via-in_default}
 
-two : (fields : Record) (first second : List ℕ) → Some first ≡ field_at fields 0 → Some second ≡ field_at fields 1 → None ≡ field_at fields 2
+two : (fields : Record) (first second : List ℕ) → Some first ≡ field_at fields 0 → Some second ≡ field_at fields 1
+    → None ≡ field_at fields 2
     → fields ≡ first ∷ second ∷ []
 unfolding field_at
 two [] first second a b c = cc
@@ -14,7 +16,8 @@ two (x ∷ y ∷ z ∷ rest) first second a b c = cc
 
 pub returns-in-Some-Some-None : goal.returns-in-Some-Some-None
 returns-in-Some-Some-None c =
-    two (fields_of c.args.row.now) _ _ c.in-Some-Some-None.ensures.value c.in-Some-Some-None.ensures'.value c.in-Some-Some-None.ensures''.value
+    two (fields_of c.args.row.now) _ _ c.in-Some-Some-None.ensures.value c.in-Some-Some-None.ensures'.value
+    c.in-Some-Some-None.ensures''.value
 
 pub returns-in_default : goal.returns-in_default
 unfolding field_at

@@ -13,7 +13,8 @@ use Rattle.run_length_coder.proofs.decoder.decode.Goals as goal
 pub loop-init : goal.loop-init
 loop-init g c =
     let new = c.in_ok-records.ensures in
-    let s = none_so_far (SaysWhole (width_of c.in_ok-records.records) SaysRun) g.R.Read.remaining runs_format _ c.in_ok-records.records new in
+    let s = none_so_far (SaysWhole (width_of c.in_ok-records.records) SaysRun) g.R.Read.remaining runs_format _ c.in_ok-records.records
+    new in
     ([], Appends-nil _, new.width, rw c.new-runs.ensures s)
 
 pub loop-preserved : goal.loop-preserved

@@ -12,4 +12,5 @@ abbrev pub invariant-loop : goal.invariant-loop
 invariant-loop g l =
     (done : List Run) × Appends (g.W.Write.contents l.initial.out) (g.W.Write.contents l.out) (flat_map copies done)
     × IfSome (g.R.Read.remaining l.fn.input) (λ bytes. width_of l.records ≡ length (first_record runs_format bytes))
-    × HasKept g.R.Read.remaining SaysRun (option_map (rows_of runs_format) (g.R.Read.remaining l.fn.input)) (done ++ l.runs.runs.items) l.records
+    × HasKept g.R.Read.remaining SaysRun (option_map (rows_of runs_format) (g.R.Read.remaining l.fn.input))
+    (done ++ l.runs.runs.items) l.records

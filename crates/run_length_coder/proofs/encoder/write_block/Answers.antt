@@ -25,7 +25,8 @@ loop-begins-preserved-then-begins g c start runs w =
     let some = c.parts_join.ensures.nonempty _ _ (c.in-Some.begins, c.in-Some.part) c.in-Some.ensures.steps in
     Written-same _ _ _ _ _ _ (sym (fold-append _ runs c.loop-begins.yielded _))
     (rw c.if-begins.true
-    (Written-begins _ _ _ c.in-Some.part.now _ _ (Written-all _ _ _ _ _ _ so_far c.in_ok-write_run.ensures) (begun c.in-Some.part.now some)))
+    (Written-begins _ _ _ c.in-Some.part.now _ _ (Written-all _ _ _ _ _ _ so_far c.in_ok-write_run.ensures)
+    (begun c.in-Some.part.now some)))
 
 pub loop-begins-preserved : goal.loop-begins-preserved
 loop-begins-preserved g c start runs w =

@@ -7,4 +7,5 @@ use Rattle.run_length_coder.proofs.encoder.write_block.Given as goal
 abbrev pub invariant-loop-begins : goal.invariant-loop-begins
 invariant-loop-begins g l =
     (start : Option (List ℕ)) (runs : List (ℕ × ℕ)) → Written start (g.W.Write.contents l.initial.out) runs l.initial.byte l.initial.count
-    → Written start (g.W.Write.contents l.out) (fold (λ runs x. add_part run_of longer_run runs (x.0, x.1.now)) runs l.yielded) l.byte l.count
+    → Written start (g.W.Write.contents l.out) (fold (λ runs x. add_part run_of longer_run runs
+    (x.0, x.1.now)) runs l.yielded) l.byte l.count

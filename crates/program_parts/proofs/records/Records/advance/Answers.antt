@@ -11,5 +11,6 @@ by_found old new false given gives = gives
 
 pub returns-in-Ok-clause-next : goal.returns-in-Ok-clause-next
 returns-in-Ok-clause-next g c =
-    let one = next_read g.R.Read.remaining c.args.self.now.reader c.read_byte_record.new.self c.in-Ok.found _ c.in-Ok.ensures.reads c.in-Ok.ensures.ready in
+    let one = next_read g.R.Read.remaining c.args.self.now.reader c.read_byte_record.new.self c.in-Ok.found _ c.in-Ok.ensures.reads
+    c.in-Ok.ensures.ready in
     rw (c.if-self.false, c.if-self-2.false) (by_found _ _ c.in-Ok.found _ one)

@@ -44,5 +44,6 @@ returns-in_default-clause-kept g c setting all kept keeps s =
       x ∷ [],
       keeps',
       rw (c.advance.ensures.width, c.in_ok-advance.ensures.given)
-          (one_kept _ all _ _ kept _ _ (fields_of c.advance.new.self.row) s gives x (record { len = len; says = says }) c.advance.ensures.none_left_out),
+          (one_kept _ all _ _ kept _ _ (fields_of c.advance.new.self.row) s gives x
+          (record { len = len; says = says }) c.advance.ensures.none_left_out),
     )

@@ -11,7 +11,8 @@ loop-left-preserved g c =
     let room = filled _ _ _ _ run.byte c.clear.ensures.items c.clear.ensures.len c.in_ok-resize.ensures.items in
     record {
       within = omega arith;
-      written = rw (c.len-left.ensures, len) (copies_more _ _ _ run.count c.loop-left.left c.min.result run.byte c.loop-left.invariant.within
+      written = rw (c.len-left.ensures, len) (copies_more _ _ _ run.count c.loop-left.left c.min.result run.byte
+          c.loop-left.invariant.within
           few c.loop-left.invariant.written (rw (c.deref.ensures.value, room) at c.in_ok-write_all.ensures.bytes));
     }
 
