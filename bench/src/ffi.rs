@@ -9,7 +9,7 @@ pub type Text = unsafe extern "C" fn(*const u8, usize) -> usize;
 /// A function of a slice for writing.
 pub type Write = unsafe extern "C" fn(*mut u32, usize) -> usize;
 
-/// A function of the two sides of a join.
+/// A function of a slice and keys that are sought there, or of the two sides of a join.
 pub type Join = unsafe extern "C" fn(*const u32, usize, *const u32, usize) -> usize;
 
 macro_rules! reading {
@@ -60,6 +60,8 @@ extern "C" {
     pub fn text_mut_front(bytes: *mut u8, len: usize) -> usize;
     pub fn text_mut_back(bytes: *mut u8, len: usize) -> usize;
     pub fn searches(xs: *const u32, len: usize, keys: *const u32, count: usize) -> usize;
+    pub fn partition_points(xs: *const u32, len: usize, keys: *const u32, count: usize) -> usize;
+    pub fn equal_places(xs: *const u32, len: usize, keys: *const u32, count: usize) -> usize;
     pub fn merge_join(left: *const u32, left_len: usize, right: *const u32, right_len: usize) -> usize;
     pub fn merge_join_by(left: *const u32, left_len: usize, right: *const u32, right_len: usize) -> usize;
 }

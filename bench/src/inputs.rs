@@ -53,6 +53,20 @@ pub fn slice(count: usize, lengths: Lengths) -> Vec<u32> {
     xs
 }
 
+/// What is searched for: in each number of even numbers a thousand that are there, or odd ones, and numbers near the front.
+pub fn sought() -> Vec<(String, Vec<u32>, Vec<u32>)> {
+    let mut numbers = Numbers(3);
+    let mut keys = |limit: u64, odd: u32| (0..1000).map(|_| 2 * numbers.below(limit) as u32 + odd).collect();
+    let mut inputs = Vec::new();
+    for count in [100, 1000, 10_000, 100_000, 1_000_000] {
+        let xs = slice(count, Lengths::Each(1));
+        inputs.push((format!("of {count}, there"), xs.clone(), keys(count as u64, 0)));
+        inputs.push((format!("of {count}, not there"), xs, keys(count as u64, 1)));
+    }
+    inputs.push(("within the first twenty of 1000000".to_string(), slice(1_000_000, Lengths::Each(1)), keys(20, 0)));
+    inputs
+}
+
 /// About `count` bytes of words, numbers and marks with gaps between them: 2.7 bytes a token.
 pub fn tokens(count: usize) -> Vec<u8> {
     let mut numbers = Numbers(4);

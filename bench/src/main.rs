@@ -12,7 +12,7 @@ mod place;
 mod timing;
 
 use arguments::Wanted;
-use inputs::{slice, text, Lengths, Numbers};
+use inputs::{slice, text, Lengths};
 use timing::{in_turn, shown, Time};
 
 const LENGTHS: [Lengths; 6] = [
@@ -181,18 +181,20 @@ fn texts(rounds: usize) {
 }
 
 fn searches(rounds: usize) {
-    let xs: Vec<u32> = (0..1_000_000).map(|x| 2 * x).collect();
-    let mut numbers = Numbers(3);
-    let anywhere: Vec<u32> = (0..1000).map(|_| numbers.below(2_000_000) as u32).collect();
-    let near: Vec<u32> = (0..1000).map(|_| numbers.below(40) as u32).collect();
-    let peers: [(&str, fn(&[u32], &[u32]) -> usize); 2] =
-        [("`binary_search`", peers::binary_searches), ("galloping and `binary_search`", peers::galloping_searches)];
-    for (what, peer) in peers {
-        head(&format!("Searches beside {what}"), "a search", what);
-        for (name, keys) in [("anywhere in a million", &anywhere), ("within the first twenty", &near)] {
-            let mut ours = || unsafe { ffi::searches(xs.as_ptr(), xs.len(), keys.as_ptr(), keys.len()) };
-            assert_eq!(ours(), peer(&xs, keys), "{what}");
-            row(name, keys.len(), &in_turn(rounds, &mut [&mut ours, &mut || peer(&xs, keys)]));
+    type Peer = fn(&[u32], &[u32]) -> usize;
+    let searches: [(&str, &str, ffi::Join, Peer); 4] = [
+        ("Searches", "`binary_search`", ffi::searches, peers::binary_searches),
+        ("Searches", "galloping and `binary_search`", ffi::searches, peers::galloping_searches),
+        ("Partition points", "galloping and `partition_point`", ffi::partition_points, peers::galloping_partition_points),
+        ("Equal places", "the same twice", ffi::equal_places, peers::galloping_equal_places),
+    ];
+    let inputs = inputs::sought();
+    for (what, beside, search, peer) in searches {
+        head(&format!("{what} beside {beside}"), "a search", beside);
+        for (name, xs, keys) in &inputs {
+            let mut ours = || unsafe { search(xs.as_ptr(), xs.len(), keys.as_ptr(), keys.len()) };
+            assert_eq!(ours(), peer(xs, keys), "{what}");
+            row(name, keys.len(), &in_turn(rounds, &mut [&mut ours, &mut || peer(xs, keys)]));
         }
     }
 }

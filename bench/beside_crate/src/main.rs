@@ -17,7 +17,7 @@ mod place;
 mod timing;
 
 use arguments::Wanted;
-use inputs::{slice, text, Lengths, Numbers};
+use inputs::{slice, text, Lengths};
 use slice_group_by::{exponential_search, GroupBy, GroupByMut, StrGroupBy};
 use timing::{in_turn, shown, Time};
 
@@ -140,12 +140,13 @@ fn main() {
         }
     }
     head("Searches", "a search");
-    let xs: Vec<u32> = (0..1_000_000).map(|x| 2 * x).collect();
-    let mut numbers = Numbers(3);
-    for (name, limit) in [("anywhere in a million", 2_000_000), ("within the first twenty", 40)] {
-        let keys: Vec<u32> = (0..1000).map(|_| numbers.below(limit) as u32).collect();
-        let theirs = || keys.iter().filter(|key| exponential_search(&xs, key).is_ok()).count();
+    for (name, xs, keys) in inputs::sought() {
+        let theirs = || keys.iter().fold(0usize, |sum, key| {
+            let (Ok(place) | Err(place)) = exponential_search(&xs, key);
+            sum.wrapping_mul(31).wrapping_add(place)
+        });
         let ours = || unsafe { ffi::searches(xs.as_ptr(), xs.len(), keys.as_ptr(), keys.len()) };
-        row(name, keys.len(), &in_turn(rounds, &mut [&mut || ours(), &mut || theirs()]));
+        assert_eq!(ours(), theirs(), "searches");
+        row(&name, keys.len(), &in_turn(rounds, &mut [&mut || ours(), &mut || theirs()]));
     }
 }

@@ -9,7 +9,7 @@ use slice_group_by::{
     BinaryGroupMut, ExponentialGroup, ExponentialGroupBy, ExponentialGroupByKey,
     ExponentialGroupByKeyMut, ExponentialGroupByMut, ExponentialGroupMut, LinearGroup,
     LinearGroupBy, LinearGroupByKey, LinearGroupByKeyMut, LinearGroupByMut, LinearGroupMut,
-    MergeJoin, exponential_search,
+    MergeJoin, exponential_equal_places, exponential_partition_point, exponential_search,
 };
 use slice_group_simd::{AsciiClasses, LinearClassGroup, LinearNumberGroup, count_classes};
 use slice_merge_join::MergeJoinBy;
@@ -320,6 +320,29 @@ pub extern "C" fn searches(xs: &[u32], keys: &[u32]) -> usize {
             Ok(place) | Err(place) => place,
         };
         sum = sum.wrapping_mul(31).wrapping_add(place);
+    }
+    sum
+}
+
+/// How many elements are less than each of the keys, in one number.
+#[unsafe(no_mangle)]
+pub extern "C" fn partition_points(xs: &[u32], keys: &[u32]) -> usize {
+    let mut sum = 0usize;
+    for key in keys {
+        let place = exponential_partition_point(xs, |x| x < key);
+        sum = sum.wrapping_mul(31).wrapping_add(place);
+    }
+    sum
+}
+
+/// Where the elements that are equal to each of the keys begin and end, in one number.
+#[unsafe(no_mangle)]
+pub extern "C" fn equal_places(xs: &[u32], keys: &[u32]) -> usize {
+    let mut sum = 0usize;
+    for key in keys {
+        let places = exponential_equal_places(xs, key);
+        sum = sum.wrapping_mul(31).wrapping_add(places.start);
+        sum = sum.wrapping_mul(31).wrapping_add(places.end);
     }
     sum
 }
