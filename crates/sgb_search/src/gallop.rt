@@ -1,5 +1,6 @@
 //! Halving and galloping over places, in either direction.
-ghost use Rattle.std.specs.Prelude.{◌≡◌, ℕ, ◌≤◌};
+ghost use Rattle.std.specs.Prelude.{◌≡◌, ◌≢◌, ℕ, ◌≤◌, Err};
+ghost use Rattle.std.specs.declared.cmp.Ordering.TheVariants.{Equal};
 ghost use Rattle.sgb_split.specs.Judges.{IsCallable};
 ghost use Rattle.std.specs.declared.cmp.Ordering.{Ordering};
 ghost use Rattle.sgb_search.specs.Searching.{as_ordering, binary, exponential, answer_place, IsPlaceSearch, IsBracket, IsBetween};
@@ -86,6 +87,31 @@ pub fn halve<A, P: Places<A>>(
     Err(from)
 }
 
+/// Halves the places from `low` up to, not including, `high`, of which none answers `Equal`, until none is left: the place where the
+/// search ended. At most `digits(high - low)` questions, and no branch on an answer: for answers that nothing predicts.
+#[inline]
+fn bisect<A, P: Places<A>>(asker: &mut A, places: &P, low: usize, high: usize) -> usize
+    requires order { low ≤ high }
+    requires two { (a : P.Answer) → P.reads places.now a ≢ Equal }
+    requires callable { IsCallable (λ s i. P.may_compare s places.now i)
+        (λ s i a t. P.compares s places.now i a t) (IsBetween low high) asker.old }
+    ensures { IsPlaceSearch (λ s i. P.may_compare s places.now i) (λ s i a t. P.compares s places.now i a t)
+        (λ a. P.reads places.now a) binary low high asker.old (Err result) asker.new }
+{
+    let mut from = low;
+    let mut size = high - low;
+    while size > 0 {
+        let middle = from + size / 2;
+        // Two values wait for the answer: where `from` alone does, or two ends do, the compiler makes a branch.
+        if places.compare(asker, middle).is_lt() {
+            from = middle + 1;
+            size -= 1;
+        }
+        size /= 2;
+    }
+    from
+}
+
 /// Doubles the distance from `low` while the place is below `high` and answers `Less`: the ends between which to halve. Its
 /// questions and those of the halving are together at most `2 * digits(from - low + 1) + 1`.
 #[inline]
@@ -131,4 +157,23 @@ pub fn gallop<A, P: Places<A>>(
 {
     let (from, upto) = bracket(asker, places, low, high);
     halve(asker, places, from, upto)
+}
+
+/// Gallops as `gallop` does and then bisects, where no place answers `Equal`: the place where the search ended.
+#[inline]
+pub fn gallop_and_bisect<A, P: Places<A>>(
+    asker: &mut A,
+    places: &P,
+    low: usize,
+    high: usize,
+) -> usize
+    requires order { low ≤ high }
+    requires two { (a : P.Answer) → P.reads places.now a ≢ Equal }
+    requires callable { IsCallable (λ s i. P.may_compare s places.now i)
+        (λ s i a t. P.compares s places.now i a t) (IsBetween low high) asker.old }
+    ensures { IsPlaceSearch (λ s i. P.may_compare s places.now i) (λ s i a t. P.compares s places.now i a t)
+        (λ a. P.reads places.now a) exponential low high asker.old (Err result) asker.new }
+{
+    let (from, upto) = bracket(asker, places, low, high);
+    bisect(asker, places, from, upto)
 }

@@ -1,5 +1,5 @@
 -- Searches whose answers are two sides: the place that they give parts a list that is partitioned.
-use Rattle.std.specs.Prelude.{cond, ◌≡◌, ℕ, ◌≤◌, Bool, true, false, List, [], ◌++◌, length, Result, Ok, Err}
+use Rattle.std.specs.Prelude.{cond, ◌≡◌, ℕ, ◌≤◌, Bool, true, false, List, [], ◌++◌, length, Err}
 use Rattle.std.proofs.Common.{refl, sym, ap, ◌∙◌, subst, arith}
 use Rattle.std.specs.List.{AllByRecursion, count_by, filter, slice_index_or}
 use Rattle.std.specs.List.Sorted.{IsPartitionedBy, IsPartitionPoint}
@@ -10,19 +10,14 @@ use Rattle.std.proofs.Math.Seq.{take-append_seam, drop-append_seam}
 use Rattle.std.proofs.lemmas.List.{append-nil}
 use Rattle.std.proofs.lemmas.List.Elements.{Contains-get_or, filter-append}
 use Rattle.std.proofs.lemmas.List.Sorted.{IsNonDecreasingBy-drop}
-use Rattle.sgb_search.specs.Searching.{as_ordering, answer_place}
-use Rattle.sgb_search.specs.Search.{IsLocalAnswer, IsLocalBoundary, IsLessEqualGreater}
+use Rattle.sgb_search.specs.Searching.{as_ordering}
+use Rattle.sgb_search.specs.Search.{IsLocalBoundary, IsLessEqualGreater}
 use Rattle.sgb_search.specs.Ranges.{IsRange, IsLocalRange, IsRangeAt, IsLocalRangeAt}
 use Rattle.sgb_split.proofs.Lists.Filters.{keeps_all, keeps_none}
 use Rattle.sgb_split.proofs.Lists.AllByRecursion.{all_contains, all_each, all_when, all_of_rest}
 use Rattle.sgb_search.proofs.Searches.PartitionPoint.{taken, dropped, less_count}
-use Rattle.sgb_search.proofs.Searches.Boundaries.{never_equal, side_before, side_after}
+use Rattle.sgb_search.proofs.Searches.Boundaries.{side_before, side_after}
 use Rattle.sgb_search.proofs.Searches.SearchRuns.{region}
-
-pub boundary_of : {T : Type 0} (p : T → Bool) (xs : List T) (r : Result ℕ ℕ) → IsLocalAnswer (λ x. as_ordering (p x)) xs r
-    → IsLocalBoundary (λ x. as_ordering (p x)) xs (answer_place r)
-boundary_of p xs (Ok i) a = absurd (never_equal (p a.0) a.2)
-boundary_of p xs (Err i) b = b
 
 -- where the elements that pass come first, a local boundary parts them from the others
 module _ {T : Type 0} (p : T → Bool) (xs : List T) where
