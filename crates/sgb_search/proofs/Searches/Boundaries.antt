@@ -84,7 +84,11 @@ module _ {A : Type 0} (reads : A → Ordering) where
   answered_right qs rs i o w = (w.0, Contains-append_right qs rs (i, w.0) w.1, w.2)
 
   module _ (qs : List (ℕ × A)) (both : Bool) (low high : ℕ) where
-    -- a search gives `Err` where no answer is Equal
+    pub place_within : (r : Result ℕ ℕ) → Tells reads qs both low high r → answer_place r ≤ high
+    place_within (Ok i) t = omega (arith, t.0.1)
+    place_within (Err i) t = t.1
+
+    -- and gives `Err` where no answer is Equal
     pub ends_at : ((a : A) → reads a ≡ Equal → ⊥) → (r : Result ℕ ℕ) → Tells reads qs both low high r → r ≡ Err (answer_place r)
     ends_at never (Ok i) t = absurd (never t.1.1 t.1.3)
     ends_at never (Err i) t = refl
