@@ -1,5 +1,4 @@
-use Rattle.std.proofs.lemmas.Grind.{common_steps}
-use Rattle.std.proofs.Common.{rules, ◌≡◌, ℕ, cond, min, List, map, nat_eq, sum_by, ap, ◌∙◌, arith}
+use Rattle.std.proofs.Common.{rules, ◌≡◌, ℕ, cond, min, List, map, nat_eq, sum_by, ap, ◌∙◌}
 use Rattle.std.proofs.lemmas.Fn.{always_returns_same}
 use Rattle.std.proofs.lemmas.List.Sorted.{sum_by-IsPermutation, ranks_by}
 use Rattle.std.specs.Cmp.Lexicographic.{pointwise, slice_cmp, texts_ties}
@@ -68,6 +67,3 @@ pub returns-clause-same : goal.returns-clause-same
 returns-clause-same c =
     let r = (goal.at.returns-clause-same c).In-None in
     record { known = known_of r; amounts = amounts_of r; total = total_of r }
-
-pub loop-group-preserved : goal.loop-group-preserved
-loop-group-preserved c = grind (arith, common_steps)

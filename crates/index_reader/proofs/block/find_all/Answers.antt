@@ -1,6 +1,5 @@
 use Rattle.std.proofs.Common.{◌<◌, length, map, sym, subst, get_or, ◌∙◌}
-use Rattle.std.specs.Prelude.{All, HoldsAt}
-use Rattle.std.proofs.lemmas.List.{length-map, take_all}
+use Rattle.std.proofs.lemmas.List.{length-map}
 use Rattle.index_reader.specs.Blocks.{IsAnswer, IsOneOf}
 use Rattle.index_reader.proofs.Answered.{more_found, nothing, same_keys}
 use Rattle.index_reader.proofs.block.find_all.Goals as goal
@@ -24,8 +23,3 @@ loop-query-preserved c =
           more_found answers queries i c.new.result c.loop-query-test.true (IsAnswer c.args.index.now)
           within (rw c.new.ensures.key is) inv.found;
     }
-
-pub returns-clause-found : goal.returns-clause-found
-returns-clause-found c =
-    subst (All (λ q. HoldsAt (IsAnswer c.args.index.now) c.loop-query.answers q.number))
-    (take_all c.loop-query.query-index c.args.queries.now c.loop-query-test.false) c.loop-query.invariant.found

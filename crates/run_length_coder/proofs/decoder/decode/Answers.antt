@@ -1,21 +1,11 @@
-use Rattle.std.proofs.Common.{[], ◌++◌, append-nil, refl}
+use Rattle.std.proofs.Common.{◌++◌, append-nil, refl}
 use Rattle.std.proofs.lemmas.List.Concat.{flat_map-append}
-use Rattle.std.proofs.KnownBytes.{Appends-nil}
 use Rattle.program_parts.proofs.Appended.{appends_both}
-use Rattle.program_parts.proofs.RecordsKept.{all_kept, none_so_far}
-use Rattle.program_parts.specs.RecordsKept.{SaysWhole}
+use Rattle.program_parts.proofs.RecordsKept.{all_kept}
 use Rattle.program_parts.specs.RecordsLeft.{width_of}
-use Rattle.run_length_coder.specs.Coding.{copies, runs_format}
-use Rattle.run_length_coder.specs.Decoded.{SaysRun}
+use Rattle.run_length_coder.specs.Coding.{copies}
 use Rattle.run_length_coder.proofs.Decoding.{decodes, decodes_coded}
 use Rattle.run_length_coder.proofs.decoder.decode.Goals as goal
-
-pub loop-init : goal.loop-init
-loop-init g c =
-    let new = c.in_ok-records.ensures in
-    let s = none_so_far (SaysWhole (width_of c.in_ok-records.records) SaysRun) g.R.Read.remaining runs_format _ c.in_ok-records.records
-    new in
-    ([], Appends-nil _, new.width, rw c.new-runs.ensures s)
 
 pub loop-preserved : goal.loop-preserved
 loop-preserved g c =
