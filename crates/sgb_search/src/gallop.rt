@@ -87,31 +87,6 @@ pub fn halve<A, P: Places<A>>(
     Err(from)
 }
 
-/// Halves the places from `low` up to, not including, `high`, of which none answers `Equal`, until none is left: the place where the
-/// search ended. At most `digits(high - low)` questions, and no branch on an answer: for answers that nothing predicts.
-#[inline]
-fn bisect<A, P: Places<A>>(asker: &mut A, places: &P, low: usize, high: usize) -> usize
-    requires order { low ≤ high }
-    requires two { (a : P.Answer) → P.reads places.now a ≢ Equal }
-    requires callable { IsCallable (λ s i. P.may_compare s places.now i)
-        (λ s i a t. P.compares s places.now i a t) (IsBetween low high) asker.old }
-    ensures { IsPlaceSearch (λ s i. P.may_compare s places.now i) (λ s i a t. P.compares s places.now i a t)
-        (λ a. P.reads places.now a) binary low high asker.old (Err result) asker.new }
-{
-    let mut from = low;
-    let mut size = high - low;
-    while size > 0 {
-        let middle = from + size / 2;
-        // Two values wait for the answer: where `from` alone does, or two ends do, the compiler makes a branch.
-        if places.compare(asker, middle).is_lt() {
-            from = middle + 1;
-            size -= 1;
-        }
-        size /= 2;
-    }
-    from
-}
-
 /// Doubles the distance from `low` while the place is below `high` and answers `Less`: the ends between which to halve. Its
 /// questions and those of the halving are together at most `2 * digits(from - low + 1) + 1`.
 #[inline]
@@ -159,14 +134,10 @@ pub fn gallop<A, P: Places<A>>(
     halve(asker, places, from, upto)
 }
 
-/// Gallops as `gallop` does and then bisects, where no place answers `Equal`: the place where the search ended.
+/// Gallops as `gallop` does, over places of which none answers `Equal`, and halves with no branch on an answer: for answers that
+/// nothing predicts. The place where the search ended, by at most `2 * digits(i - low + 1) + 1` questions for a place i.
 #[inline]
-pub fn gallop_and_bisect<A, P: Places<A>>(
-    asker: &mut A,
-    places: &P,
-    low: usize,
-    high: usize,
-) -> usize
+pub fn bisect<A, P: Places<A>>(asker: &mut A, places: &P, low: usize, high: usize) -> usize
     requires order { low ≤ high }
     requires two { (a : P.Answer) → P.reads places.now a ≢ Equal }
     requires callable { IsCallable (λ s i. P.may_compare s places.now i)
@@ -174,6 +145,16 @@ pub fn gallop_and_bisect<A, P: Places<A>>(
     ensures { IsPlaceSearch (λ s i. P.may_compare s places.now i) (λ s i a t. P.compares s places.now i a t)
         (λ a. P.reads places.now a) exponential low high asker.old (Err result) asker.new }
 {
-    let (from, upto) = bracket(asker, places, low, high);
-    bisect(asker, places, from, upto)
+    let (mut from, upto) = bracket(asker, places, low, high);
+    let mut size = upto - from;
+    while size > 0 {
+        let middle = from + size / 2;
+        // Two values wait for the answer: where `from` alone does, or two ends do, the compiler makes a branch.
+        if places.compare(asker, middle).is_lt() {
+            from = middle + 1;
+            size -= 1;
+        }
+        size /= 2;
+    }
+    from
 }

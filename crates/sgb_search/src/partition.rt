@@ -9,7 +9,7 @@ ghost use Rattle.sgb_search.specs.Search.{IsLocalBoundary};
 ghost use Rattle.sgb_split.specs.Judges.{IsCallableOn, ComputesOn};
 ghost use Rattle.sgb_search.specs.Ranges.{AsksPartition};
 
-use crate::gallop::{Places, before_end, gallop_and_bisect};
+use crate::gallop::{Places, before_end, bisect};
 use std::cmp::Ordering;
 
 // A test of a place in a slice, to which an element belongs by what a function answers of it.
@@ -127,7 +127,7 @@ pub(crate) fn count_before<T, K, S: Test<K>, F: FnMut(&T) -> K>(
     ensures callable { IsCallableOn F.FnMut slice.now f.new }
     ensures computes { (answer : T → K) → ComputesOn F.FnMut slice.now answer f.old → ComputesOn F.FnMut slice.now answer f.new }
 {
-    gallop_and_bisect(f, &Tested { slice, test }, 0, slice.len())
+    bisect(f, &Tested { slice, test }, 0, slice.len())
 }
 
 /// How many elements the predicate accepts, from the first on, of a slice that has those it accepts first: what

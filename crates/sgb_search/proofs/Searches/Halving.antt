@@ -118,7 +118,8 @@ module _ {S A : Type 0} (may : S → ℕ → Type 0) (gives : S → ℕ → A �
         narrows_step is Greater g e from' upto' (inr f) (inr h) = absurd (true≢false (sym h.0))
 
         -- after one of two answers, where size is exact
-        pub bisects_step : middle ≡ from + size / 2 → upto ≡ from + size → (o : Ordering) → o ≡ reads a → reads a ≢ Equal → (from' size' : ℕ)
+        pub bisects_step : middle ≡ from + size / 2 → upto ≡ from + size → (o : Ordering) → o ≡ reads a → reads a ≢ Equal
+            → (from' size' : ℕ)
             → ((true ≡ is_lt o) × (from' ≡ middle + 1) × (size' ≡ size - 1)) ⊎ ((false ≡ is_lt o) × (from' ≡ from) × (size' ≡ size))
             → Narrows low high s from' (from' + size' / 2) (size' / 2) u
         bisects_step is end Less g e from' size' (inl f) =

@@ -6,7 +6,7 @@ abbrev pub invariant-loop-size : goal.invariant-loop-size
 invariant-loop-size g l =
     Narrows (λ s i. g.P.Places.may_compare s l.places i) (λ s i a t. g.P.Places.compares s l.places i a t)
     (λ a. g.P.Places.reads l.places a)
-    l.low l.high l.fn.asker l.from (l.from + l.size) l.size l.asker
+    l.initial.from l.upto l.initial.asker l.from (l.from + l.size) l.size l.asker
 
 abbrev pub decreases-loop-size : goal.decreases-loop-size
 decreases-loop-size g l = l.size
