@@ -1,2 +1,11 @@
-pub mod Lines
-pub mod Reading
+pub mod Adding
+pub mod Closing
+pub mod Orders
+pub mod Lists
+pub mod Pieces
+pub mod Witness
+pub mod Decimals
+pub mod ReadBack
+pub mod Fields
+pub mod Reported
+pub mod Written

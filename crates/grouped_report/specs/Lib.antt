@@ -1,4 +1,6 @@
-pub mod Departments
+pub mod Amounts
+pub mod Groups
 pub mod Input
-pub mod Report
+pub mod Output
 pub mod Runs
+pub mod Sums

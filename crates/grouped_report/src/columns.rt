@@ -1,15 +1,8 @@
-//! The columns that are read.
+//! The columns of a report.
 
-/// The columns of the department and the amount, by their numbers or names.
-#[derive(Clone, Copy)]
-pub struct Columns<'a> {
-    pub by: &'a str,
-    pub sum: &'a str,
-}
-
-/// Their places among the fields of a row, from zero.
-#[derive(Clone, Copy)]
+/// The places of the columns that make the groups, and of those that are added up, among the fields of a row, from zero.
+#[derive(Drop)]
 pub struct Places {
-    pub by: usize,
-    pub sum: usize,
+    pub by: Vec<usize>,
+    pub sum: Vec<usize>,
 }

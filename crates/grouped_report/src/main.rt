@@ -1,91 +1,99 @@
-//! Sums the amounts of each department in the rows of a table.
+//! Summarizes the groups of rows of a table: how many rows each has, and the sums of its amounts.
 //!
-//! The amount of a row is added to the sum of its department. If there is none yet, the row becomes an entry. When there
-//! are as many of these as sums, and a block more, all are sorted, grouped and added up. What is kept in memory is at most
-//! twice the departments and one block, while entries are added up also what that takes and the new sums, and the longest
-//! record.
+//! Rows of a group may stand anywhere: the program keeps a summary of each group, and rows of new groups until there are as many as
+//! summaries. Or groups are runs of neighbouring rows, and it keeps the summary of one.
 #![tactic(auto)]
 
+mod amount;
 mod columns;
-mod entry;
-mod fold;
+mod groups;
 mod output;
+mod reading;
 mod row;
 mod run;
+mod summary;
 mod sums;
 
-use crate::columns::Columns;
-use clap::{Arg, ArgMatches, Command};
-use program_parts::arguments::arguments;
-use program_parts::input::{Input, NamedFile};
-use program_parts::records::{Format, Source};
-use program_parts::rows::row_writer;
-use program_parts::status::exit_code;
-use program_parts::table_options::{column_option, parse, stop, table_command};
+use crate::run::{Question, write_report};
+use clap::{Arg, ArgAction, ArgMatches, Command};
+use program_parts::app::{App, main_of};
+use program_parts::failure::Failure;
+use program_parts::input::Input;
+use program_parts::records::Source;
+use program_parts::rows::{pass_on, row_writer};
+use program_parts::table_options::{column_option, format_of, with_format};
 use std::alloc::{AllocError, Global};
-use std::io;
 use std::io::BufWriter;
 use std::process::ExitCode;
 
-const PROGRAM: &str = "grouped_report";
-
-const ABOUT: &str = "\
-Writes a row for each department of a CSV table, in ascending order of the bytes of its name: the name, and the sum of its
-amounts. An amount is an unsigned number of 64 bits. A record with another amount, or with another number of fields than
-the first record, is left out: standard error says why for each of the first hundred, and how many more there are. The
-status is then 1, and so it is where reading or writing fails. It is 2 where an argument is wrong or a column is missing.
-COLUMN is a number, from 1, or a name in the first record.";
+struct Program;
 
 fn main(rt: HostRuntime) -> ExitCode {
-    exit_code(&rt, PROGRAM, start(&rt))
+    main_of::<Program>(&rt)
 }
 
-// Reads the arguments, runs, and gives back the status.
-fn start(rt: &HostRuntime) -> io::Result<u8> {
-    let Some(words) = arguments(rt, PROGRAM)? else {
-        return Ok(2);
-    };
-    match parse(command(rt.alloc())?, &words) {
-        Ok((format, matches)) => report(rt, format, &matches),
-        Err(error) => stop(rt, &error),
+impl App for Program {
+    const NAME: &'static str = "grouped_report";
+
+    const ABOUT: &'static str = "\
+Writes a row for each group of rows of a CSV table: the fields that they share, how many rows there
+are, and the sums of their amounts. Rows may come in any order, and groups go out in ascending order
+of their fields, byte by byte. An amount is a decimal number such as -12.50; an empty field is none.
+
+Example: grouped_report --by town --by year --count --sum price sales.csv
+
+A COLUMN is a name in the first record, or else a number, from 1.
+Left out are records with another amount, or another number of fields than the first.
+Status: 0 all is reported; 1 a record was left out; 2 it failed.";
+
+    fn arguments<'a>(alloc: Global, command: Command<'a>) -> Result<Command<'a>, AllocError> {
+        let by = column_option(
+            alloc,
+            "by",
+            "A column that the rows of a group share; the first if none is named",
+        );
+        let count = Arg::new(alloc, "count")
+            .long("count")
+            .action(ArgAction::SetTrue)
+            .help("How many rows a group has, as where no column is summed");
+        let sum = column_option(alloc, "sum", "A column that is summed");
+        let runs = Arg::new(alloc, "runs")
+            .long("runs")
+            .action(ArgAction::SetTrue)
+            .help("A row for each run of neighbouring rows, as soon as it ends");
+        let file = Arg::new(alloc, "FILE")
+            .default_value("-")
+            .help("The table; a dash is standard input");
+        with_format(alloc, command)?
+            .arg(by.action(ArgAction::Append))?
+            .arg(count)?
+            .arg(sum.action(ArgAction::Append))?
+            .arg(runs)?
+            .arg(file)
     }
-}
 
-// Writes the report that these arguments ask for.
-fn report(rt: &HostRuntime, format: Format, matches: &ArgMatches<'_>) -> io::Result<u8> {
-    let file = NamedFile::new(rt.alloc(), matches.get_str("FILE").unwrap_or("-"))?;
-    let Some(input) = Input::open(rt, PROGRAM, &file) else {
-        return Ok(1);
-    };
-    let source = Source {
-        program: PROGRAM,
-        file: &file.shown,
-        format,
-        input,
-    };
-    let columns = Columns {
-        by: matches.get_str("by").unwrap_or("1"),
-        sum: matches.get_str("sum").unwrap_or("2"),
-    };
-    let mut out = row_writer(format.delimiter, rt.stdout());
-    let mut complaints = BufWriter::new(rt.alloc(), rt.stderr())?;
-    Ok(run::run(
-        rt.alloc(),
-        source,
-        columns,
-        &[&file],
-        &mut out,
-        &mut complaints,
-    ))
-}
-
-// The arguments.
-fn command<'a>(alloc: Global) -> Result<Command<'a>, AllocError> {
-    let file = Arg::new(alloc, "FILE")
-        .default_value("-")
-        .help("The table; a dash is standard input");
-    table_command(alloc, PROGRAM, ABOUT)?
-        .arg(column_option(alloc, "by", "1", "The column of the departments"))?
-        .arg(column_option(alloc, "sum", "2", "The column of the amounts"))?
-        .arg(file)
+    fn run<'a>(rt: &HostRuntime, matches: &ArgMatches<'a>) -> Result<bool, Failure<'a>> {
+        let format = format_of(matches)?;
+        let file = matches.get_str("FILE").unwrap_or("-");
+        let source = Source {
+            program: Self::NAME,
+            file,
+            format,
+            input: Input::open(rt, file)?,
+        };
+        let sum = matches.get_strs("sum").unwrap_or(&[]);
+        let question = Question {
+            by: matches.get_strs("by").unwrap_or(&[]),
+            sum,
+            counts: matches.get_flag("count") || sum.is_empty(),
+            runs: matches.get_flag("runs"),
+        };
+        let mut out = row_writer(format.delimiter, rt.stdout());
+        let mut complaints = BufWriter::new(rt.alloc(), rt.stderr())?;
+        let done = write_report(rt.alloc(), source, question, &mut out, &mut complaints);
+        if done.is_err() {
+            let _ = pass_on(&mut out);
+        }
+        done
+    }
 }

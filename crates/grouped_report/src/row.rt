@@ -1,73 +1,124 @@
 //! Rows, as records say them.
-ghost use Rattle.std.specs.Prelude.{List, IfErr, IfOk};
-ghost use Rattle.csv.specs.Records.{fields_of};
-ghost use Rattle.program_parts.specs.RecordsKept.{IsSilent};
-ghost use Rattle.grouped_report.specs.Departments.{Row};
-ghost use Rattle.grouped_report.specs.Input.{Says};
+ghost use Rattle.std.specs.Prelude.{◌≡◌, [], ◌∷◌, ◌++◌, map, IfOk, OnOk};
 
-use crate::columns::Places;
-use crate::sums::Sums;
-use csv::ByteRecord;
-use program_parts::records::RecordKeeper;
-use std::{fmt, io};
+use std::alloc::{AllocError, Global};
+use std::cmp::Ordering;
+use std::marker::Model;
 
-/// The amount of a record is no number of 64 bits.
-#[derive(Clone, Copy)]
-pub struct NoAmount;
-
-impl fmt::Display for NoAmount {
-    fn fmt<W: fmt::Write>(&self, f: &mut fmt::Formatter<W>) -> fmt::Result {
-        write!(f, "its amount is no number of 64 bits")
-    }
-}
-
-/// The row that a record says: the fields at these places are the department and the amount.
-fn parse_row(fields: &ByteRecord, places: Places) -> Result<(&[u8], u64), NoAmount>
-    ensures says { IfOk result (λ row. (before : List Row)
-        → Says places before (fields_of fields.now) (record { department = row.0.now; amount = row.1 })) }
-    ensures silent { IfErr result (λ _. (before : List Row) → IsSilent (Says places) before (fields_of fields.now)) }
-{
-    let (Some(department), Some(amount)) = (fields.get(places.by), fields.get(places.sum)) else {
-        return Err(NoAmount);
-    };
-    let Ok(amount) = str::from_utf8(amount) else {
-        return Err(NoAmount);
-    };
-    let Ok(amount) = amount.parse::<u64>() else {
-        return Err(NoAmount);
-    };
-    Ok((department, amount))
-}
-
-/// Adds up the rows that records say.
+/// The fields of a row that its group shares, and its amounts. A row that is cleared keeps the memory of its fields.
 #[derive(Drop)]
-pub struct Adder {
-    pub places: Places,
-    pub sums: Sums,
+pub struct Row {
+    alloc: Global,
+    group: Vec<Vec<u8>>,
+    amounts: Vec<Option<i128>>,
+    spare: Vec<Vec<u8>>,
 }
 
-impl RecordKeeper for Adder {
-    ghost use Rattle.std.specs.Prelude.{◌≡◌};
-    ghost use Rattle.grouped_report.specs.Departments.{Row, SaysTheSame};
-    ghost use Rattle.grouped_report.specs.Input.{Says};
-    ghost use Rattle.grouped_report.specs.declared.columns.Places.{Places};
+impl Model for Row {
+    ghost use Rattle.std.specs.Prelude.{map};
+    ghost use Rattle.grouped_report.specs.Groups.{Row};
 
-    type Problem = NoAmount;
+    ghost Value = { Row };
 
-    ghost Item = { Row };
+    ghost view = { λ row. record { group = map (λ field. field.items) row.group.items; amounts = row.amounts.items } };
+}
 
-    ghost Setting = { Places };
+impl Row {
+    ghost use Rattle.std.specs.Ordering.{nat_cmp};
+    ghost use Rattle.std.specs.Cmp.Lexicographic.{slice_cmp};
+    ghost use Rattle.grouped_report.specs.Groups.{same_group, group_cmp};
 
-    ghost says = { Says };
-
-    ghost keeps = { λ places adder rows. (adder.places ≡ places) × SaysTheSame rows adder.sums };
-
-    fn keep(&mut self, row: &mut ByteRecord) -> io::Result<Result<(), NoAmount>> {
-        let (department, amount) = match parse_row(row, self.places) {
-            Ok(parts) => parts,
-            Err(problem) => return Ok(Err(problem)),
-        };
-        self.sums.add(department, amount)?;
-        Ok(Ok(()))
+    /// No field and no amount.
+    pub fn new(alloc: Global) -> Row
+        ensures group { result.group ≡ [] }
+        ensures amounts { result.amounts ≡ [] }
+    {
+        Row {
+            alloc,
+            group: Vec::new(alloc),
+            amounts: Vec::new(alloc),
+            spare: Vec::new(alloc),
+        }
     }
+
+    /// The fields that its group shares.
+    pub fn group(&self) -> &[Vec<u8>]
+        ensures { map (λ field. field.items) result.now ≡ self.now.group }
+    {
+        &self.group
+    }
+
+    /// The amounts, and `None` where a field has none.
+    pub fn amounts(&self) -> &[Option<i128>]
+        ensures { result.now ≡ self.now.amounts }
+    {
+        &self.amounts
+    }
+
+    /// Whether both are of one group.
+    pub fn is_with(&self, other: &Row) -> bool
+        ensures { result ≡ same_group self.now other.now }
+    {
+        self.group == other.group
+    }
+
+    /// How the groups' fields stand to one another, one after another, byte by byte.
+    pub fn cmp_group(&self, other: &Row) -> Ordering
+        ensures { result ≡ group_cmp self.now.group other.now.group }
+    {
+        self.group.cmp(&other.group)
+    }
+
+    /// Lets the fields and the amounts go, but keeps their memory.
+    pub fn clear(&mut self) -> Result<(), AllocError>
+        ensures group { OnOk result (self.new.group ≡ []) }
+        ensures amounts { OnOk result (self.new.amounts ≡ []) }
+    {
+        self.amounts.clear();
+        self.spare.append(&mut self.group)
+    }
+
+    /// Puts a field behind the others. It allocates only where a cleared row had fewer fields, or shorter ones.
+    pub fn push_field(&mut self, bytes: &[u8]) -> Result<(), AllocError>
+        ensures group { OnOk result (self.new.group ≡ self.old.group ++ bytes.now ∷ []) }
+        ensures amounts { self.new.amounts ≡ self.old.amounts }
+    {
+        let mut field = self.spare.pop().unwrap_or(Vec::new(self.alloc));
+        field.clear();
+        field.extend_from_slice(bytes)?;
+        self.group.push(field)?;
+        Ok(())
+    }
+
+    /// Puts an amount behind the others, or `None` for a field that has none.
+    pub fn push_amount(&mut self, amount: Option<i128>) -> Result<(), AllocError>
+        ensures group { self.new.group ≡ self.old.group }
+        ensures amounts { OnOk result (self.new.amounts ≡ self.old.amounts ++ amount ∷ []) }
+    {
+        self.amounts.push(amount)?;
+        Ok(())
+    }
+
+    /// A copy to keep.
+    pub fn copy(&self) -> Result<Row, AllocError>
+        ensures { IfOk result (λ copy. copy ≡ self.now) }
+    {
+        Ok(Row {
+            alloc: self.alloc,
+            group: copy_fields(self.alloc, &self.group)?,
+            amounts: Vec::from_slice(self.alloc, &self.amounts)?,
+            spare: Vec::new(self.alloc),
+        })
+    }
+}
+
+/// A copy of these fields.
+pub fn copy_fields(alloc: Global, fields: &[Vec<u8>]) -> Result<Vec<Vec<u8>>, AllocError>
+    ensures { IfOk result (λ copy. map (λ field. field.items) copy.items ≡ map (λ field. field.items) fields.now) }
+{
+    let mut copy = Vec::new(alloc);
+    for field in fields {
+        copy.push(Vec::from_slice(alloc, field)?)?;
+    }
+    Ok(copy)
 }

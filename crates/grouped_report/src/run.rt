@@ -1,62 +1,212 @@
-//! Reads the rows of a table, and writes the sums of their amounts.
-ghost use Rattle.std.specs.Prelude.{◌≡◌, [], IfOk, IfSome, OnOk, true};
+//! Reads the rows of a table, and writes the summaries of their groups.
+ghost use Rattle.std.specs.Prelude.{◌≡◌, ◌≢◌, [], ◌∷◌, ◌++◌, List, Option, map, false, true, IfOk, IfSome, OnOk};
+ghost use Rattle.std.specs.List.{AllZip};
 ghost use Rattle.csv.specs.Writing.{writer_pending};
-ghost use Rattle.grouped_report.specs.Runs.{Reports};
+ghost use Rattle.program_parts.specs.Columns.{IsPlace};
+ghost use Rattle.program_parts.specs.Records.{Record};
+ghost use Rattle.program_parts.specs.RecordsKept.{HasKept};
+ghost use Rattle.program_parts.specs.RecordsLeft.{names_of, width_of};
+ghost use Rattle.program_parts.specs.Written.{Writes};
+ghost use Rattle.grouped_report.specs.Input.{AreGroupPlaces, Says};
+ghost use Rattle.grouped_report.specs.Output.{summary_row};
+ghost use Rattle.grouped_report.specs.Runs.{Reports, Summarizes};
 
-use crate::columns::{Columns, Places};
-use crate::output::write_report;
-use crate::row::Adder;
+use crate::columns::Places;
+use crate::groups::Groups;
+use crate::output::{write_names, write_summaries};
+use crate::reading::{Adder, RunKeeper};
+use crate::row::Row;
+use crate::summary::Summary;
 use crate::sums::Sums;
 use csv::Writer;
-use program_parts::input::NamedFile;
+use program_parts::failure::{Failure, IoFailure};
+use program_parts::input::Noted;
 use program_parts::records::{Records, Source};
 use program_parts::rows::pass_on;
-use program_parts::status::{Failure, table_status};
-use std::alloc::Global;
+use slice_group_by::laws::one_split;
+use slice_group_stream::laws::groups_close;
+use std::alloc::{AllocError, Global};
+use std::io;
 use std::io::{Read, Write};
 
-/// Writes the report of a table, and gives back the status: 0, 2 where a column is missing, or 1 where it failed or a record
-/// is left out. What went wrong is said in lines of complaint.
-pub fn run<R: Read + Drop, W: Write + Drop, E: Write>(
-    alloc: Global,
-    source: Source<'_, R>,
-    columns: Columns<'_>,
-    files: &[&NamedFile],
-    out: &mut Writer<W>,
-    complaints: &mut E,
-) -> u8
-    ensures whole { result ≡ 0 → IfSome (R.remaining source.entry.input)
-        (λ bytes. Reports W.contents source.entry.format columns.entry.by.now columns.entry.sum.now bytes true out.old out.new) }
-    ensures none_pending { result ≡ 0 → writer_pending out.new ≡ [] }
-{
-    let done = report_table(alloc, source, columns, out, complaints);
-    table_status("grouped_report", done, files, complaints)
+/// What is asked of a table: the columns that make the groups, and those that are added up.
+#[derive(Clone, Copy)]
+pub struct Question<'a> {
+    pub by: &'a [&'a str],
+    pub sum: &'a [&'a str],
+    /// How many rows a group has is asked for too.
+    pub counts: bool,
+    /// Groups are runs of neighbouring rows.
+    pub runs: bool,
 }
 
-/// Reads rows, and writes a row for each department, in ascending order, with the sum of its amounts. What is left out goes
-/// to the complaints, and `false` says that there is some.
-fn report_table<'a, R: Read + Drop, W: Write + Drop, E: Write>(
+/// Writes the report of a table. `false` says that a record was left out, and the complaints why.
+pub fn write_report<'a, R: Read + Noted + Drop, W: Write + Drop, E: Write>(
     alloc: Global,
     source: Source<'a, R>,
-    columns: Columns<'a>,
+    question: Question<'_>,
     out: &mut Writer<W>,
     complaints: &mut E,
 ) -> Result<bool, Failure<'a>>
     ensures reports { IfOk result (λ is_whole. IfSome (R.remaining source.entry.input)
-        (λ bytes. Reports W.contents source.entry.format columns.entry.by.now columns.entry.sum.now bytes is_whole out.old out.new)) }
+        (λ bytes. Reports W.contents source.entry.format (map (λ column. column.now) question.entry.by.now)
+        (map (λ column. column.now) question.entry.sum.now) question.entry.counts question.entry.runs bytes is_whole out.old out.new)) }
     ensures none_pending { OnOk result (writer_pending out.new ≡ []) }
 {
+    let file = source.file;
     let mut records = Records::new(alloc, source)?;
-    let by = records.place_of(columns.by)?;
-    let sum = records.place_of(columns.sum)?;
+    let by = group_places(alloc, &records, question.by)?;
+    let sum = places_of(alloc, &records, question.sum)?;
     let places = Places { by, sum };
-    let mut adder = Adder {
+    let counts = question.counts;
+    write_names(alloc, file, records.names(), &places, counts, out)?;
+    let is_whole = write_groups(
+        alloc,
+        &mut records,
         places,
+        counts,
+        question.runs,
+        out,
+        complaints,
+    )?;
+    pass_on(out)?;
+    Ok(is_whole)
+}
+
+// The places of the columns that make the groups: the first one where none is named.
+fn group_places<'a, R: Read + Noted + Drop>(
+    alloc: Global,
+    records: &Records<'a, R>,
+    columns: &[&str],
+) -> Result<Vec<usize>, Failure<'a>>
+    ensures { IfOk result (λ places. AreGroupPlaces
+        (λ column place. width_of records.now ≢ 0 → IsPlace (width_of records.now) (names_of records.now) column place)
+        (map (λ column. column.now) columns.now) places.items) }
+{
+    if columns.is_empty() {
+        return Ok(Vec::from_slice(alloc, &[0])?);
+    }
+    places_of(alloc, records, columns)
+}
+
+// The places of these columns.
+fn places_of<'a, R: Read + Noted + Drop>(
+    alloc: Global,
+    records: &Records<'a, R>,
+    columns: &[&str],
+) -> Result<Vec<usize>, Failure<'a>>
+    ensures { IfOk result (λ places. AllZip
+        (λ column place. width_of records.now ≢ 0 → IsPlace (width_of records.now) (names_of records.now) column place)
+        (map (λ column. column.now) columns.now) places.items) }
+{
+    let mut places = Vec::new(alloc);
+    for column in columns {
+        let place = records.place_of(alloc, column)?;
+        push_place(&mut places, place)?;
+    }
+    Ok(places)
+}
+
+// Puts a place behind the others.
+fn push_place(places: &mut Vec<usize>, place: usize) -> Result<(), AllocError>
+    ensures { OnOk result (places.new.items ≡ places.old.items ++ place ∷ []) }
+{
+    places.push(place)?;
+    Ok(())
+}
+
+// Writes the summaries of the groups of the rows: of their runs, or of all that agree.
+fn write_groups<'a, R: Read + Noted + Drop, W: Write + Drop, E: Write>(
+    alloc: Global,
+    records: &mut Records<'a, R>,
+    places: Places,
+    counts: bool,
+    runs: bool,
+    out: &mut Writer<W>,
+    complaints: &mut E,
+) -> Result<bool, IoFailure<'a>>
+    ensures { IfOk result (λ is_whole. (all : Option (List Record)) → HasKept R.remaining (Says places) all [] records.old
+        → Summarizes W.contents counts runs places (width_of records.old) all is_whole out.old out.new) }
+{
+    if runs {
+        write_runs(alloc, records, places, counts, out, complaints)
+    } else {
+        write_sums(alloc, records, places, counts, out, complaints)
+    }
+}
+
+// Reads all rows, adds them up, and writes the summaries in ascending order.
+fn write_sums<'a, R: Read + Noted + Drop, W: Write + Drop, E: Write>(
+    alloc: Global,
+    records: &mut Records<'a, R>,
+    places: Places,
+    counts: bool,
+    out: &mut Writer<W>,
+    complaints: &mut E,
+) -> Result<bool, IoFailure<'a>>
+    ensures { IfOk result (λ is_whole. (all : Option (List Record)) → HasKept R.remaining (Says places) all [] records.old
+        → Summarizes W.contents counts false places (width_of records.old) all is_whole out.old out.new) }
+{
+    let mut adder = Adder {
+        alloc,
+        places,
+        row: Row::new(alloc),
         sums: Sums::new(alloc),
     };
     let is_whole = records.keep_all(&mut adder, complaints)?;
-    let sums = adder.sums.report()?;
-    write_report(alloc, records.names(), places, &sums, out)?;
-    pass_on(out)?;
+    let sums = adder.sums.finish()?;
+    write_summaries(alloc, &sums, counts, out)?;
     Ok(is_whole)
+}
+
+// Reads row by row, and writes the summary of a run when another begins.
+fn write_runs<'a, R: Read + Noted + Drop, W: Write + Drop, E: Write>(
+    alloc: Global,
+    records: &mut Records<'a, R>,
+    places: Places,
+    counts: bool,
+    out: &mut Writer<W>,
+    complaints: &mut E,
+) -> Result<bool, IoFailure<'a>>
+    ensures { IfOk result (λ is_whole. (all : Option (List Record)) → HasKept R.remaining (Says places) all [] records.old
+        → Summarizes W.contents counts true places (width_of records.old) all is_whole out.old out.new) }
+{
+    one_split::<Row>();
+    groups_close::<Row, Option<Summary>, Summary>();
+    let mut keeper = RunKeeper {
+        alloc,
+        places,
+        row: Row::new(alloc),
+        groups: Groups::new(alloc),
+    };
+    for _ in 0..u64::MAX {
+        if !records.keep_next(&mut keeper, complaints)? {
+            keeper.groups.close()?;
+            write_summaries(alloc, &keeper.groups.closed, counts, out)?;
+            let is_whole = records.finish(complaints)?;
+            return Ok(is_whole);
+        }
+        write_closed(alloc, &mut keeper.groups, counts, records.is_drained(), out)?;
+    }
+    Err(IoFailure::from(io::Error::other("there are too many records")))
+}
+
+// Writes the summaries of the groups that are closed. They are passed on at once where more rows must be waited for.
+fn write_closed<W: Write + Drop>(
+    alloc: Global,
+    groups: &mut Groups,
+    counts: bool,
+    waits: bool,
+    out: &mut Writer<W>,
+) -> io::Result<()>
+    ensures writes { OnOk result (Writes W.contents out.old out.new (map (summary_row counts) groups.old.closed.items)) }
+    ensures none_closed { OnOk result (groups.new.closed.items ≡ []) }
+    ensures current { OnOk result (groups.new.current ≡ groups.old.current) }
+{
+    write_summaries(alloc, &groups.closed, counts, out)?;
+    groups.closed.clear();
+    if waits {
+        pass_on(out)?;
+    }
+    Ok(())
 }

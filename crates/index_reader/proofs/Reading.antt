@@ -2,7 +2,7 @@
 use Rattle.std.proofs.Common.{◌≡◌, ◌≢◌, ℕ, List, Bool, ◌&&◌, Option, None, Some, IfSome, length, option_map}
 use Rattle.csv.specs.declared.writer.Writer.{Writer}
 use Rattle.program_parts.specs.Columns.{IsPlace}
-use Rattle.program_parts.specs.Records.{Record, first_record, names_in, rows_of}
+use Rattle.program_parts.specs.Records.{Record, width_in, names_in, rows_of}
 use Rattle.program_parts.specs.RecordsKept.{AreRead, SaysWhole}
 use Rattle.program_parts.specs.Written.{Writes}
 use Rattle.program_parts.specs.declared.records.Format.{Format}
@@ -13,7 +13,7 @@ use Rattle.index_reader.specs.declared.entry.Entry.{Entry}
 
 -- the queries that were read are those of a file
 pub has_queries : (format : Format) (input : Option (List ℕ)) (width : ℕ) (keys : List ℕ) (w : Bool)
-    → IfSome input (λ bytes. width ≡ length (first_record format bytes))
+    → IfSome input (λ bytes. width ≡ width_in format bytes)
     → IfSome (option_map (rows_of format) input) (λ rows. AreRead (SaysWhole width SaysQuery) rows keys w)
     → IfSome input (λ bytes. HasQueries format bytes keys w)
 has_queries format None width keys w is read = tt
@@ -23,7 +23,7 @@ has_queries format (Some bytes) width keys w is read = rw is at read
 module _ {W : Type 0} (contents : W → Option (List ℕ)) (format other : Format) (key place : List ℕ) (width : ℕ) (names : Record)
     (fields : Fields)
     (index : List Entry) (keys : List ℕ) (w v is_whole : Bool) (before after : Writer W) where
-  pub answered : (a b : Option (List ℕ)) → IfSome a (λ bytes. width ≡ length (first_record format bytes))
+  pub answered : (a b : Option (List ℕ)) → IfSome a (λ bytes. width ≡ width_in format bytes)
       → IfSome a (λ bytes. names ≡ names_in format bytes) → (width ≢ 0 → IsPlace width names key fields.key)
       → (width ≢ 0 → IsPlace width names place fields.place)
       → IfSome (option_map (rows_of format) a) (λ rows. AreRead (SaysWhole width (SaysEntry fields)) rows index w)

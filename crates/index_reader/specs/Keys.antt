@@ -3,7 +3,6 @@ use Rattle.std.specs.Prelude.{◌≡◌, ℕ, ◌-◌, List, [], ◌∷◌, leng
 use Rattle.std.specs.List.{filter, slice_get}
 use Rattle.std.specs.Option.{option_map}
 use Rattle.std.specs.List.Sorted.{IsNonDecreasingBy}
-use Rattle.std.specs.Str.{IsUtf8}
 use Rattle.csv.specs.Records.{field_at}
 use Rattle.program_parts.specs.Decimals.{IsNumber}
 use Rattle.program_parts.specs.Records.{Record}
@@ -32,16 +31,13 @@ greatest entries = option_map (λ entry. entry.key) (slice_get entries (length e
 pub record Says (at : Fields) (fields : Record) (entry : Entry) : Type 0 where
   pub key : List ℕ
   pub key_there : field_at fields at.key ≡ Some key
-  pub key_is_text : IsUtf8 key
   pub key_is : IsNumber 32 key entry.key
   pub place : List ℕ
   pub place_there : field_at fields at.place ≡ Some place
-  pub place_is_text : IsUtf8 place
   pub place_is : IsNumber 64 place entry.place
 
 -- the record asks for this key: it is its one field, a number of 32 bits
 pub record Asks (fields : Record) (key : ℕ) : Type 0 where
   pub text : List ℕ
   pub fields_are : fields ≡ text ∷ []
-  pub is_text : IsUtf8 text
   pub key_is : IsNumber 32 text key

@@ -2,7 +2,7 @@
 use Rattle.std.specs.Prelude.{◌≡◌, ℕ, List, [], ◌∷◌, ◌++◌, length, Bool, ◌&&◌, Option}
 use Rattle.csv.specs.declared.writer.Writer.{Writer}
 use Rattle.program_parts.specs.Columns.{IsColumn}
-use Rattle.program_parts.specs.Records.{Record, first_record, names_in, rows_of}
+use Rattle.program_parts.specs.Records.{Record, width_in, names_in, rows_of}
 use Rattle.program_parts.specs.RecordsKept.{AreRead, SaysWhole}
 use Rattle.program_parts.specs.Written.{Writes}
 use Rattle.program_parts.specs.declared.records.Format.{Format}
@@ -23,12 +23,12 @@ SaysQuery before fields key = Asks fields key
 pub record HasEntries (format : Format) (key place bytes : List ℕ) (fields : Fields) (index : List Entry) (is_whole : Bool) : Type 0 where
   pub key_at : IsColumn format bytes key fields.key
   pub place_at : IsColumn format bytes place fields.place
-  pub are_read : AreRead (SaysWhole (length (first_record format bytes)) (SaysEntry fields)) (rows_of format bytes) index is_whole
+  pub are_read : AreRead (SaysWhole (width_in format bytes) (SaysEntry fields)) (rows_of format bytes) index is_whole
 
 -- these are the keys that the records in these bytes ask for
 abbrev pub HasQueries : Format → List ℕ → List ℕ → Bool → Type 0
 HasQueries format bytes keys is_whole =
-    AreRead (SaysWhole (length (first_record format bytes)) SaysQuery) (rows_of format bytes) keys is_whole
+    AreRead (SaysWhole (width_in format bytes) SaysQuery) (rows_of format bytes) keys is_whole
 
 -- The answers to the queries in the one file are written, by the index in the other, in columns of these texts. Records that are wrong are
 -- left out, and `is_whole` says whether there is none.

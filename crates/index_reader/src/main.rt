@@ -15,92 +15,89 @@ mod query;
 mod run;
 
 use crate::columns::Columns;
+use crate::run::answer_all;
 use clap::{Arg, ArgMatches, Command};
-use program_parts::arguments::arguments;
-use program_parts::input::{NamedFile, open_two};
+use program_parts::app::{App, main_of};
+use program_parts::failure::Failure;
+use program_parts::input::open_two;
 use program_parts::records::{Format, Source};
-use program_parts::rows::row_writer;
-use program_parts::status::exit_code;
-use program_parts::table_options::{column_option, parse, stop, table_command};
+use program_parts::rows::{pass_on, row_writer};
+use program_parts::table_options::{column_option, format_of, with_format};
 use std::alloc::{AllocError, Global};
-use std::io;
 use std::io::BufWriter;
 use std::process::ExitCode;
 
-const PROGRAM: &str = "index_reader";
-
-const ABOUT: &str = "\
-Writes a row for each place that a CSV index has of the key of each query, in the order of the queries: the key and the
-place; none for a key that the index does not have. A key is an unsigned number of 32 bits, a place one of 64. The keys of
-the index ascend, and one may stand several times. A query has one field, its key. None is answered before 65,536 have come,
-or the last one. A record that says no entry or no query, whose key is lower than one before it, or that has another number
-of fields than the first record of its file, is left out: standard error says why for each of the first hundred of a file,
-and how many more there are. The status is then 1, and so it is where reading or writing fails. It is 2 where an argument is
-wrong or a column is missing. COLUMN is a number, from 1, or a name in the first record of the index.";
+struct Program;
 
 fn main(rt: HostRuntime) -> ExitCode {
-    exit_code(&rt, PROGRAM, start(&rt))
+    main_of::<Program>(&rt)
 }
 
-// Reads the arguments, runs, and gives back the status.
-fn start(rt: &HostRuntime) -> io::Result<u8> {
-    let Some(words) = arguments(rt, PROGRAM)? else {
-        return Ok(2);
-    };
-    match parse(command(rt.alloc())?, &words) {
-        Ok((format, matches)) => look_up(rt, format, &matches),
-        Err(error) => stop(rt, &error),
+impl App for Program {
+    const NAME: &'static str = "index_reader";
+
+    const ABOUT: &'static str = "\
+Writes the key and the place of each entry of a CSV index that has the key of a query, in the order
+of the queries. A key is an unsigned number of 32 bits, a place one of 64; the keys of the index
+ascend. A query is a record of one field; answers come for 65,536 of them at once.
+
+Example: index_reader index.csv queries.csv
+
+A COLUMN is a name in the first record of the index, or else a number, from 1.
+Left out are records that say no entry or no query, and keys below one before them.
+Status: 0 all is answered; 1 a record was left out; 2 it failed.";
+
+    fn arguments<'a>(alloc: Global, command: Command<'a>) -> Result<Command<'a>, AllocError> {
+        let index = Arg::new(alloc, "INDEX")
+            .required(true)
+            .help("The index; a dash is standard input");
+        let queries = Arg::new(alloc, "QUERIES")
+            .default_value("-")
+            .help("The queries");
+        with_format(alloc, command)?
+            .arg(column_option(alloc, "key", "The column of the keys").default_value("1"))?
+            .arg(column_option(alloc, "place", "The column of the places").default_value("2"))?
+            .arg(index)?
+            .arg(queries)
     }
-}
 
-// Answers the queries that these arguments name.
-fn look_up(rt: &HostRuntime, format: Format, matches: &ArgMatches<'_>) -> io::Result<u8> {
-    let index_file = NamedFile::new(rt.alloc(), matches.get_str("INDEX").unwrap_or("-"))?;
-    let queries_file = NamedFile::new(rt.alloc(), matches.get_str("QUERIES").unwrap_or("-"))?;
-    let (index, queries) = match open_two(rt, PROGRAM, &index_file, &queries_file) {
-        Ok(opened) => opened,
-        Err(status) => return Ok(status),
-    };
-    let index = Source {
-        program: PROGRAM,
-        file: &index_file.shown,
-        format,
-        input: index,
-    };
-    let queries = Source {
-        program: PROGRAM,
-        file: &queries_file.shown,
-        format,
-        input: queries,
-    };
-    let columns = Columns {
-        key: matches.get_str("key").unwrap_or("1"),
-        place: matches.get_str("place").unwrap_or("2"),
-    };
-    let mut out = row_writer(format.delimiter, rt.stdout());
-    let mut complaints = BufWriter::new(rt.alloc(), rt.stderr())?;
-    Ok(run::run(
-        rt.alloc(),
-        columns,
-        index,
-        queries,
-        &[&index_file, &queries_file],
-        &mut out,
-        &mut complaints,
-    ))
-}
-
-// The arguments.
-fn command<'a>(alloc: Global) -> Result<Command<'a>, AllocError> {
-    let index = Arg::new(alloc, "INDEX")
-        .required(true)
-        .help("The index; a dash is standard input");
-    let queries = Arg::new(alloc, "QUERIES")
-        .default_value("-")
-        .help("The queries");
-    table_command(alloc, PROGRAM, ABOUT)?
-        .arg(column_option(alloc, "key", "1", "The column of the keys"))?
-        .arg(column_option(alloc, "place", "2", "The column of the places"))?
-        .arg(index)?
-        .arg(queries)
+    fn run<'a>(rt: &HostRuntime, matches: &ArgMatches<'a>) -> Result<bool, Failure<'a>> {
+        let format = format_of(matches)?;
+        let index = matches.get_str("INDEX").unwrap_or("-");
+        let queries = matches.get_str("QUERIES").unwrap_or("-");
+        let (index_input, queries_input) = open_two(rt, index, queries)?;
+        let columns = Columns {
+            key: matches.get_str("key").unwrap_or("1"),
+            place: matches.get_str("place").unwrap_or("2"),
+        };
+        let index = Source {
+            program: Program::NAME,
+            file: index,
+            format,
+            input: index_input,
+        };
+        let queries = Source {
+            program: Program::NAME,
+            file: queries,
+            format: Format {
+                width: Some(1),
+                ..format
+            },
+            input: queries_input,
+        };
+        let mut out = row_writer(format.delimiter, rt.stdout());
+        let mut complaints = BufWriter::new(rt.alloc(), rt.stderr())?;
+        let done = answer_all(
+            rt.alloc(),
+            columns,
+            index,
+            queries,
+            &mut out,
+            &mut complaints,
+        );
+        if done.is_err() {
+            let _ = pass_on(&mut out);
+        }
+        done
+    }
 }

@@ -1,5 +1,5 @@
 //! Reads an index and queries, and answers them.
-ghost use Rattle.std.specs.Prelude.{◌≡◌, [], ℕ, List, IfOk, IfSome, OnOk, true};
+ghost use Rattle.std.specs.Prelude.{◌≡◌, [], ℕ, List, IfOk, IfSome, OnOk};
 ghost use Rattle.csv.specs.Writing.{writer_pending};
 ghost use Rattle.program_parts.specs.Written.{Writes};
 ghost use Rattle.index_reader.specs.Answers.{answers};
@@ -10,10 +10,10 @@ use crate::columns::{Columns, Fields};
 use crate::index::{Index, IndexReader};
 use crate::query::Queries;
 use csv::Writer;
-use program_parts::input::NamedFile;
+use program_parts::failure::{Failure, IoFailure};
+use program_parts::input::Noted;
 use program_parts::records::{Records, Source};
 use program_parts::rows::{pass_on, write_two_names};
-use program_parts::status::{Failure, table_status};
 use std::alloc::Global;
 use std::io;
 use std::io::{Read, Write};
@@ -21,32 +21,12 @@ use std::io::{Read, Write};
 // So many queries at least are answered together.
 const LEAST: usize = 65536;
 
-/// Answers the queries by the index, and gives back the status: 0, 2 where a column is missing, or 1 where it failed or a
-/// record is left out. What went wrong is said in lines of complaint.
-pub fn run<I: Read + Drop, Q: Read + Drop, W: Write + Drop, E: Write>(
-    alloc: Global,
-    columns: Columns<'_>,
-    index: Source<'_, I>,
-    queries: Source<'_, Q>,
-    files: &[&NamedFile],
-    out: &mut Writer<W>,
-    complaints: &mut E,
-) -> u8
-    ensures whole { result ≡ 0 → IfSome (I.remaining index.entry.input) (λ entries. IfSome (Q.remaining queries.entry.input)
-        (λ asked. Answers W.contents index.entry.format queries.entry.format columns.entry.key.now columns.entry.place.now
-        entries asked true out.old out.new)) }
-    ensures none_pending { result ≡ 0 → writer_pending out.new ≡ [] }
-{
-    let done = answer_all(alloc, columns, index, queries, out, complaints);
-    table_status("index_reader", done, files, complaints)
-}
-
 /// Reads an index and then queries, and writes a row for each place of each query. What is left out goes to the complaints,
 /// and `false` says that there is some.
 ///
 /// An entry whose key is lower than the greatest key before it is left out, and so are all that follow one key that is
 /// too high, up to a key that is no lower. Each complaint has both keys.
-fn answer_all<'a, I: Read + Drop, Q: Read + Drop, W: Write + Drop, E: Write>(
+pub fn answer_all<'a, I: Read + Noted + Drop, Q: Read + Noted + Drop, W: Write + Drop, E: Write>(
     alloc: Global,
     columns: Columns<'a>,
     index: Source<'a, I>,
@@ -60,8 +40,8 @@ fn answer_all<'a, I: Read + Drop, Q: Read + Drop, W: Write + Drop, E: Write>(
     ensures none_pending { OnOk result (writer_pending out.new ≡ []) }
 {
     let mut records = Records::new(alloc, index)?;
-    let key = records.place_of(columns.key)?;
-    let place = records.place_of(columns.place)?;
+    let key = records.place_of(alloc, columns.key)?;
+    let place = records.place_of(alloc, columns.place)?;
     let fields = Fields { key, place };
     let mut reader = IndexReader {
         fields,
@@ -75,13 +55,13 @@ fn answer_all<'a, I: Read + Drop, Q: Read + Drop, W: Write + Drop, E: Write>(
 }
 
 // Answers the queries up to the end. Whether each record was one.
-fn answer_queries<R: Read + Drop, W: Write + Drop, E: Write>(
+fn answer_queries<'a, R: Read + Noted + Drop, W: Write + Drop, E: Write>(
     alloc: Global,
     index: &Index,
-    source: Source<'_, R>,
+    source: Source<'a, R>,
     out: &mut Writer<W>,
     complaints: &mut E,
-) -> io::Result<bool>
+) -> Result<bool, IoFailure<'a>>
     ensures { IfOk result (λ is_whole. (keys : List ℕ) × Writes W.contents out.old out.new (answers index.now keys)
         × IfSome (R.remaining source.entry.input) (λ bytes. HasQueries source.entry.format bytes keys is_whole)) }
 {
@@ -99,5 +79,5 @@ fn answer_queries<R: Read + Drop, W: Write + Drop, E: Write>(
             return Ok(is_whole);
         }
     }
-    Err(io::Error::other("there are too many records"))
+    Err(IoFailure::from(io::Error::other("there are too many records")))
 }

@@ -1,6 +1,5 @@
 pub mod Appended
 pub mod NamesFound
-pub mod NumberText
 pub mod RecordsKept
 pub mod RecordsLeft
 pub mod Writing

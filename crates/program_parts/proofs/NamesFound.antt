@@ -1,7 +1,7 @@
 -- Where a name was found among the first fields of a record.
-use Rattle.std.proofs.Common.{◌≡◌, ℕ, ◌<◌, List, [], ◌∷◌, length, Option, None, Some, suc, zero, arith}
+use Rattle.std.proofs.Common.{◌≡◌, ℕ, ◌<◌, List, [], ◌∷◌, length, Option, None, Some, IfSome, suc, zero, arith}
 use Rattle.csv.specs.Records.{field_at}
-use Rattle.program_parts.specs.Columns.{IsOnlyName}
+use Rattle.program_parts.specs.Columns.{IsNoName, IsOnlyName}
 use Rattle.program_parts.specs.Records.{Record}
 
 -- among so many fields it stands nowhere, or once, at this place
@@ -17,11 +17,19 @@ within (x ∷ xs) name zero is = omega arith
 within (x ∷ xs) name (suc k) is = let later = within xs name k is in omega (arith, later)
 
 -- and among all fields
-pub found_once : (names : Record) (name : List ℕ) (i p : ℕ) → length names ≡ i → Found names name i (Some p) → IsOnlyName names name p
+found_once : (names : Record) (name : List ℕ) (i p : ℕ) → length names ≡ i → Found names name i (Some p) → IsOnlyName names name p
 found_once names name i p len found = record {
   here = found.1;
   nowhere_else = λ k is. let l = within names name k is in found.2 k (omega (arith, l, len)) is;
 }
 
-pub found_nowhere : (names : Record) (name : List ℕ) (i p : ℕ) → length names ≡ i → Found names name i None → IsOnlyName names name p → ⊥
-found_nowhere names name i p len found only = let l = within names name p only.here in found p (omega (arith, l, len)) only.here
+-- what was found of a name among all fields
+pub found_one : (names : Record) (name : List ℕ) (i : ℕ) (found : Option ℕ) → length names ≡ i → Found names name i found
+    → IfSome found (λ place. IsOnlyName names name place)
+found_one names name i None len is = tt
+found_one names name i (Some p) len is = found_once names name i p len is
+
+pub found_none : (names : Record) (name : List ℕ) (i : ℕ) (found : Option ℕ) → length names ≡ i → Found names name i found → found ≡ None
+    → IsNoName names name
+found_none names name i None len is none place at = let l = within names name place at in is place (omega (arith, l, len)) at
+found_none names name i (Some p) len is none place at = cc

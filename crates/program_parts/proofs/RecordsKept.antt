@@ -1,7 +1,6 @@
 -- What is kept of the records that were given so far.
-use Rattle.std.proofs.Common.{◌≡◌, ℕ, ◌+◌, ◌-◌, ◌^◌, List, [], ◌∷◌, ◌++◌, length, length-append, min, nat_eq}
+use Rattle.std.proofs.Common.{◌≡◌, ℕ, ◌+◌, ◌-◌, ◌^◌, List, [], ◌∷◌, ◌++◌, length-append, min, Bool, true}
 use Rattle.std.proofs.Common.{Option, None, Some, IfSome, inl, inr, refl, sym, ap, ◌∙◌, arith, append_assoc, append-nil}
-use Rattle.std.proofs.lemmas.Bool.Decides.{nat_tests}
 use Rattle.std.specs.Prelude.{option_map}
 use Rattle.program_parts.specs.Records.{Record, Gives, rows_of}
 use Rattle.program_parts.specs.RecordsLeft.{IsNew, count_of, left_of}
@@ -73,15 +72,20 @@ module _ {A : Type 0} (Says : List A → Record → A → Type 0) where
       none_taken all all _ [] 0 _ (none_kept all) new.left new.none_left_out
 
   -- all are given
-  pub all_kept : (all : Option (List Record)) (kept : List A) (count : ℕ) → KeptSoFar Says all (Some []) kept count
-      → IfSome all (λ rows. AreRead Says rows kept (nat_eq count 0))
-  all_kept None kept count s = tt
-  all_kept (Some rows) kept count s =
+  pub all_kept : (all : Option (List Record)) (kept : List A) (count : ℕ) (w : Bool) → KeptSoFar Says all (Some []) kept count
+      → (w ≡ true → count ≡ 0) → IfSome all (λ rows. AreRead Says rows kept w)
+  all_kept None kept count w s none = tt
+  all_kept (Some rows) kept count w s none =
       let all : rows ≡ s.given = s.gives ∙ append-nil s.given in
-      record { are_kept = rw all s.are_kept; whole = rw all (same (length kept) (length s.given) s.left_out count s.others s.counted) }
-    where
-      same : (k n m c : ℕ) → n ≡ k + m → c ≡ min m (2 ^ 64 - 1) → nat_eq c 0 ≡ nat_eq k n
-      same k n m c others counted = grind (arith, nat_tests)
+      record {
+        are_kept = rw all s.are_kept;
+        whole =
+            λ is.
+            let zero = none is in
+            let others = s.others in
+            let counted = s.counted in
+            rw all (omega (arith, zero, others, counted));
+      }
 
   -- one record more, that says x, or nothing
   module _ (all a b : Option (List Record)) (kept : List A) (count count' : ℕ) (row : Record) (s : KeptSoFar Says all a kept count)

@@ -1,5 +1,5 @@
 -- The records of a table.
-use Rattle.std.specs.Prelude.{◌≡◌, ℕ, List, [], ◌∷◌, ◌++◌, drop, ⊤, if◌then◌else◌, Option, None, Some}
+use Rattle.std.specs.Prelude.{◌≡◌, ℕ, List, [], ◌∷◌, ◌++◌, drop, ⊤, if◌then◌else◌, length, Option, None, Some, unwrap_or}
 use Rattle.csv.specs.Reading.{default_config, records, strip_bom}
 use Rattle.csv.specs.declared.parser.Config.{Config}
 use Rattle.program_parts.specs.declared.records.Format.{Format}
@@ -23,6 +23,10 @@ first_of (fields ∷ rest) = fields
 
 abbrev pub first_record : Format → List ℕ → Record
 first_record format bytes = first_of (records (config_of format) (strip_bom bytes))
+
+-- how many fields each row has: as the format says, or as many as the first record
+abbrev pub width_in : Format → List ℕ → ℕ
+width_in format bytes = unwrap_or format.width (length (first_record format bytes))
 
 -- the names of the columns, if a table of this format has them
 abbrev pub names_in : Format → List ℕ → Record

@@ -1,10 +1,10 @@
 -- What is kept of records, one after another, and which are left out.
-use Rattle.std.specs.Prelude.{◌≡◌, ℕ, ◌+◌, ◌-◌, ◌^◌, List, [], ◌∷◌, ◌++◌, ◌⊎◌, min, length, nat_eq, Bool, Option, Result, Ok, Err}
+use Rattle.std.specs.Prelude.{◌≡◌, ℕ, ◌+◌, ◌-◌, ◌^◌, List, [], ◌∷◌, ◌++◌, ◌⊎◌, min, length, true, Bool, Option, Result, Ok, Err}
 use Rattle.program_parts.specs.Records.{Record, Gives}
 use Rattle.program_parts.specs.RecordsLeft.{count_of, left_of, width_of}
 use Rattle.program_parts.specs.declared.records.Records.{Records}
 
--- the record has as many fields as the first one, so many, and says x
+-- the record has so many fields, and says x
 pub record SaysWhole {A : Type 0} (width : ℕ) (Says : List A → Record → A → Type 0) (before : List A) (row : Record) (x : A) : Type 0 where
   pub len : length row ≡ width
   pub says : Says before row x
@@ -27,10 +27,10 @@ module _ {A : Type 0} (Says : List A → Record → A → Type 0) where
   TakesRecord Keeps before row (Ok done) = (x : A) × Says before row x × Keeps (before ++ x ∷ [])
   TakesRecord Keeps before row (Err problem) = IsSilent before row × Keeps before
 
-  -- these are kept of the rows of a table, in order; the others say nothing, and `is_whole` says whether there is none
+  -- these are kept of the rows of a table, in order; the others say nothing, and there is none of these if `is_whole` is true
   pub record AreRead (rows : List Record) (kept : List A) (is_whole : Bool) : Type 0 where
     pub are_kept : AreKept [] rows kept
-    pub whole : is_whole ≡ nat_eq (length kept) (length rows)
+    pub whole : is_whole ≡ true → length kept ≡ length rows
 
   -- these are kept of the records that were given so far, and so many are left out
   pub record KeptSoFar (all left : Option (List Record)) (kept : List A) (count : ℕ) : Type 0 where

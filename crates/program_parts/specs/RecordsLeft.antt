@@ -7,7 +7,7 @@ use Rattle.csv.specs.declared.reader.Reader.{Reader}
 use Rattle.csv.specs.declared.reader.Trim.{Trim}
 use Rattle.csv.specs.declared.reader.Trim.TheVariants as trim
 use Rattle.csv.specs.Records.{fields_of}
-use Rattle.program_parts.specs.Records.{Record, Gives, first_record, names_in, rows_of}
+use Rattle.program_parts.specs.Records.{Record, Gives, names_in, rows_of, width_in}
 use Rattle.program_parts.specs.declared.records.Format.{Format}
 use Rattle.program_parts.specs.declared.records.Records.{Records}
 
@@ -42,7 +42,7 @@ abbrev pub left_of : {R : Type 0} → (R → Option (List ℕ)) → Records R �
 left_of remaining records =
     if records.is_waiting then option_map (λ rows. row_of records ∷ rows) (unread_of remaining records) else unread_of remaining records
 
--- how many fields the first record has, the names of the columns, and how many records are left out
+-- how many fields each record has, the names of the columns, and how many records are left out
 abbrev pub width_of : {R : Type 0} → Records R → ℕ
 width_of records = records.width
 
@@ -56,6 +56,6 @@ count_of records = records.omitted.count
 pub record IsNew {R : Type 0} (remaining : R → Option (List ℕ)) (format : Format) (input : Option (List ℕ))
     (records : Records R) : Type 0 where
   pub left : Gives (option_map (rows_of format) input) (left_of remaining records) []
-  pub width : IfSome input (λ bytes. width_of records ≡ length (first_record format bytes))
+  pub width : IfSome input (λ bytes. width_of records ≡ width_in format bytes)
   pub names : IfSome input (λ bytes. names_of records ≡ names_in format bytes)
   pub none_left_out : count_of records ≡ 0

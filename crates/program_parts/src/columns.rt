@@ -1,10 +1,12 @@
 //! Columns, by their numbers or names.
-ghost use Rattle.std.specs.Prelude.{◌≡◌, ◌↔◌, ℕ, IfErr, IfOk, IsTrue, Some};
+ghost use Rattle.std.specs.Prelude.{◌≡◌, ◌↔◌, ℕ, IfErr, IfOk, IfSome, IsTrue, None, Some};
 ghost use Rattle.csv.specs.Records.{field_at, fields_of};
-ghost use Rattle.program_parts.specs.Columns.{IsOnlyName, IsPlace};
+ghost use Rattle.program_parts.specs.Columns.{IsNoName, IsOnlyName, IsPlace};
 
+use crate::shown::{Excerpt, ShownName};
 use csv::ByteRecord;
 use std::fmt;
+use std::fmt::Write;
 
 /// Why no field belongs to a column.
 #[derive(Clone, Copy)]
@@ -19,52 +21,74 @@ pub enum ColumnFault {
     Twice,
 }
 
-/// A column that a table has not.
+/// The complaint that a table in a file does not have a column: why, and which columns there are.
 #[derive(Clone, Copy)]
 pub struct WrongColumn<'a> {
     pub file: &'a str,
     pub column: &'a str,
     pub fault: ColumnFault,
+    pub names: &'a ByteRecord,
 }
 
 impl<'a> fmt::Display for WrongColumn<'a> {
     fn fmt<W: fmt::Write>(&self, f: &mut fmt::Formatter<W>) -> fmt::Result {
-        write!(f, "{}: ", self.file)?;
+        write!(f, "{}: ", ShownName(self.file))?;
         match self.fault {
-            ColumnFault::Zero => write!(f, "there is no column 0: the first one is 1"),
+            ColumnFault::Zero => write!(f, "there is no column 0: the first one is 1")?,
             ColumnFault::Beyond(width) => write!(
                 f,
                 "there is no column {}: the first record ends with column {width}",
                 self.column
-            ),
-            ColumnFault::NoName => write!(f, "no column is named {:?}", self.column),
-            ColumnFault::Twice => write!(f, "two columns are named {:?}", self.column),
+            )?,
+            ColumnFault::NoName => write!(f, "no column is named {:?}", self.column)?,
+            ColumnFault::Twice => write!(f, "two columns are named {:?}", self.column)?,
         }
+        write_names(self.names, f)
     }
 }
 
-/// The place of a column among so many fields, from zero. A text that is a number is that of the column, from 1; any other is
-/// its name, which stands once among the names.
+// So many names are listed at most.
+const MOST: usize = 20;
+
+// Lists the names of the columns, if there are any.
+fn write_names<W: fmt::Write>(names: &ByteRecord, f: &mut fmt::Formatter<W>) -> fmt::Result {
+    for (place, name) in names.iter().take(MOST).enumerate() {
+        let before = if place == 0 {
+            "; the columns are "
+        } else {
+            ", "
+        };
+        write!(f, "{before}{}", Excerpt(name))?;
+    }
+    if names.len() > MOST {
+        f.write_str(", ..")?;
+    }
+    Ok(())
+}
+
+/// The place of a column among so many fields, from zero. A text that stands once among the names is that name; one that is none of
+/// them is the number of the column, from 1.
 pub fn place_of(names: &ByteRecord, width: usize, column: &str) -> Result<usize, ColumnFault>
     ensures found { IfOk result (λ place. IsPlace width (fields_of names.now) column.now place) }
     ensures none { IfErr result (λ _. (place : ℕ) → IsPlace width (fields_of names.now) column.now place → ⊥) }
 {
-    let Ok(number) = column.parse::<usize>() else {
-        return place_of_name(names, column.as_bytes());
-    };
-    if number == 0 {
-        return Err(ColumnFault::Zero);
+    if let Some(place) = place_of_name(names, column.as_bytes())? {
+        return Ok(place);
     }
-    if number > width {
-        return Err(ColumnFault::Beyond(width));
+    match column.parse::<usize>() {
+        Ok(0) => Err(ColumnFault::Zero),
+        Ok(number) if number <= width => Ok(number - 1),
+        Ok(_) => Err(ColumnFault::Beyond(width)),
+        Err(_) => Err(ColumnFault::NoName),
     }
-    Ok(number - 1)
 }
 
-// Where this name stands, if it stands once.
-fn place_of_name(names: &ByteRecord, name: &[u8]) -> Result<usize, ColumnFault>
-    ensures found { IfOk result (λ place. IsOnlyName (fields_of names.now) name.now place) }
-    ensures none { IfErr result (λ _. (place : ℕ) → IsOnlyName (fields_of names.now) name.now place → ⊥) }
+// Where this name stands, if it stands once; `None` where it stands nowhere.
+fn place_of_name(names: &ByteRecord, name: &[u8]) -> Result<Option<usize>, ColumnFault>
+    ensures found { IfOk result (λ found. IfSome found (λ place. IsOnlyName (fields_of names.now) name.now place)) }
+    ensures nowhere { IfOk result (λ found. found ≡ None → IsNoName (fields_of names.now) name.now) }
+    ensures none { IfErr result (λ _. ((place : ℕ) → IsOnlyName (fields_of names.now) name.now place → ⊥)
+        × (IsNoName (fields_of names.now) name.now → ⊥)) }
 {
     let mut found = None;
     for i in 0..names.len() {
@@ -75,10 +99,7 @@ fn place_of_name(names: &ByteRecord, name: &[u8]) -> Result<usize, ColumnFault>
             found = Some(i);
         }
     }
-    match found {
-        Some(place) => Ok(place),
-        None => Err(ColumnFault::NoName),
-    }
+    Ok(found)
 }
 
 // Whether the field at this place is the name.

@@ -1,133 +1,121 @@
 //! What a program reads: a file that is named, or standard input.
+ghost use Rattle.std.specs.Io.{ReadsAtMost};
 
-use std::alloc::{AllocError, Global};
-use std::cell::Cell;
+use crate::failure::{Failure, IoFailure};
 use std::fs::File;
 use std::io;
-use std::io::{ErrorKind, Read, Stdin, Write};
+use std::io::{ErrorKind, Read, Stdin};
 
-/// A file by its name, or standard input by a dash. It has the name as complaints show it, with control characters
-/// escaped, and notes whether a read failed.
-#[derive(Drop)]
-pub struct NamedFile {
-    name: String,
-    pub shown: String,
-    has_failed: Cell<bool>,
-}
-
-impl NamedFile {
-    /// The file of this name.
-    pub fn new(alloc: Global, name: &str) -> Result<NamedFile, AllocError> {
-        Ok(NamedFile {
-            name: String::from_str(alloc, name)?,
-            shown: shown(alloc, name)?,
-            has_failed: Cell::new(false),
-        })
-    }
-
-    /// Whether it is standard input.
-    pub fn is_stdin(&self) -> bool {
-        self.name.as_str() == "-"
-    }
-
-    /// Whether a read of it failed.
-    pub fn has_failed(&self) -> bool {
-        self.has_failed.get()
-    }
-}
-
-/// Where the bytes of an input come from.
+// Where the bytes of an input come from.
 #[derive(Drop)]
 enum Source {
     Stdin(Stdin),
     File(File),
 }
 
-/// What a program reads. A read that fails is noted in the file.
+/// A file, or standard input.
 #[derive(Drop)]
-pub struct Input<'a> {
-    file: &'a NamedFile,
+pub struct Input {
     source: Source,
+    // How many bytes it gave, and how many up to the last one that ends no line.
     given: u64,
+    content: u64,
+    is_over: bool,
 }
 
-/// An input that counts the bytes that it gives.
-pub trait Counted {
-    /// How many it gave so far.
-    fn given(&self) -> u64;
+/// An input that notes what it gives.
+pub trait Noted {
+    /// Whether it gave line ends alone behind its first bytes, as many as are given: more must be waited for.
+    fn is_drained(&self, used: u64) -> bool;
+
+    /// Whether its end was read, and the last byte ends a line.
+    fn ended_with_line(&self) -> bool;
 }
 
-impl<'a> Counted for Input<'a> {
-    fn given(&self) -> u64 {
-        self.given
+impl Noted for Input {
+    fn is_drained(&self, used: u64) -> bool {
+        self.content <= used
+    }
+
+    fn ended_with_line(&self) -> bool {
+        self.is_over && self.content < self.given
     }
 }
 
-impl<'a> Input<'a> {
+impl Input {
     // The input from there, of which nothing is read.
-    fn new(file: &'a NamedFile, source: Source) -> Input<'a> {
+    fn new(source: Source) -> Input {
         Input {
-            file,
             source,
             given: 0,
+            content: 0,
+            is_over: false,
         }
     }
 
-    /// The file of this name, or standard input. `None` where it cannot be opened, and a line of complaint says why.
-    pub fn open(rt: &HostRuntime, program: &str, file: &'a NamedFile) -> Option<Input<'a>> {
-        if file.is_stdin() {
-            return Some(Input::new(file, Source::Stdin(rt.stdin())));
+    /// The file of this name, or standard input by a dash.
+    pub fn open<'a>(rt: &HostRuntime, file: &'a str) -> Result<Input, Failure<'a>> {
+        if file == "-" {
+            return Ok(Input::new(Source::Stdin(rt.stdin())));
         }
-        match File::open(rt, file.name.as_str()) {
-            Ok(opened) => Some(Input::new(file, Source::File(opened))),
-            Err(error) => {
-                let _ = writeln!(rt.stderr(), "{program}: {}: {error}", file.shown);
-                None
-            }
+        match File::open(rt, file) {
+            Ok(opened) => Ok(Input::new(Source::File(opened))),
+            Err(error) => Err(Failure::Io(IoFailure::of_read(file, error))),
         }
+    }
+
+    // The next bytes of the source.
+    fn read_source(&mut self, buf: &mut [u8]) -> io::Result<usize>
+        ensures { ReadsAtMost result buf.new }
+    {
+        match &mut self.source {
+            Source::Stdin(stdin) => stdin.read(buf),
+            Source::File(file) => file.read(buf),
+        }
+    }
+
+    // Notes these bytes, which were read.
+    fn note(&mut self, bytes: &[u8]) {
+        if bytes.is_empty() {
+            self.is_over = true;
+        }
+        let ends_line = |byte: &u8| *byte == b'\n' || *byte == b'\r';
+        let ends = bytes
+            .iter()
+            .rev()
+            .take_while(|byte| ends_line(byte))
+            .count();
+        let content = bytes.len().saturating_sub(ends);
+        if content > 0 {
+            self.content = self.given.saturating_add(content as u64);
+        }
+        self.given = self.given.saturating_add(bytes.len() as u64);
     }
 }
 
-/// Opens two files. Where that fails, a line of complaint says why, and the `Err` is the
-/// status of the program: 2 if both are standard input, 1 if one cannot be opened.
+/// Opens two files, of which one at most may be standard input.
 pub fn open_two<'a>(
     rt: &HostRuntime,
-    program: &str,
-    first: &'a NamedFile,
-    second: &'a NamedFile,
-) -> Result<(Input<'a>, Input<'a>), u8> {
-    if first.is_stdin() && second.is_stdin() {
-        let _ = writeln!(
-            rt.stderr(),
-            "{program}: both files cannot be standard input"
-        );
-        return Err(2);
+    first: &'a str,
+    second: &'a str,
+) -> Result<(Input, Input), Failure<'a>> {
+    if first == "-" && second == "-" {
+        return Err(Failure::Usage("both files cannot be standard input"));
     }
-    let Some(first) = Input::open(rt, program, first) else {
-        return Err(1);
-    };
-    let Some(second) = Input::open(rt, program, second) else {
-        return Err(1);
-    };
-    Ok((first, second))
+    Ok((Input::open(rt, first)?, Input::open(rt, second)?))
 }
 
-impl<'a> Read for Input<'a> {
+impl Read for Input {
     // A read that is interrupted is made again.
     fn read(&mut self, buf: &mut [u8]) -> io::Result<usize> {
         for _ in 0..u64::MAX {
-            let read = match &mut self.source {
-                Source::Stdin(stdin) => stdin.read(buf),
-                Source::File(file) => file.read(buf),
-            };
-            match read {
+            match self.read_source(buf) {
                 Ok(len) => {
-                    self.given = self.given.saturating_add(len as u64);
+                    self.note(buf.get(..len).unwrap_or(&[]));
                     return Ok(len);
                 }
                 Err(error) => {
                     if error.kind() != ErrorKind::Interrupted {
-                        self.file.has_failed.set(true);
                         return Err(error);
                     }
                 }
@@ -135,19 +123,4 @@ impl<'a> Read for Input<'a> {
         }
         Err(io::Error::from(ErrorKind::Interrupted))
     }
-}
-
-// The text as complaints show it: a control character has its code or its letter behind a backslash.
-fn shown(alloc: Global, text: &str) -> Result<String, AllocError> {
-    let mut shown = String::new(alloc);
-    for character in text.chars() {
-        if character.is_control() {
-            for escaped in character.escape_default() {
-                shown.push(escaped)?;
-            }
-        } else {
-            shown.push(character)?;
-        }
-    }
-    Ok(shown)
 }

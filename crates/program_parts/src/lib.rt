@@ -1,14 +1,15 @@
-//! What the programs share: their arguments and files, the blocks of a stream, the records of a table and what is kept of them, rows
-//! as they are written, complaints, and the status of a program.
+//! What the programs share: what their `main` does, their files, the blocks of a stream, the records of a table and what is kept of
+//! them, rows as they are written, and complaints.
 #![tactic(auto)]
 
-pub mod arguments;
+pub mod app;
 pub mod blocks;
 pub mod columns;
+pub mod failure;
 pub mod input;
 pub mod numbers;
 pub mod omitted;
 pub mod records;
 pub mod rows;
-pub mod status;
+pub mod shown;
 pub mod table_options;

@@ -1,14 +1,15 @@
-//! Lines that are left out, and what is said of them.
+//! Records that are left out, and what is said of them.
 ghost use Rattle.std.specs.Prelude.{◌≡◌, ◌+◌, nat_eq, min};
 
+use crate::shown::ShownName;
 use std::fmt::Display;
 use std::io;
 use std::io::Write;
 
-/// So many lines of a file are complained of one by one.
+/// So many records of a file are complained of one by one.
 const MOST_SHOWN: u64 = 100;
 
-/// How many lines of a file are left out so far. A complaint names the program and the file. The count ends at the
+/// How many records of a file are left out so far. A complaint names the program and the file. The count ends at the
 /// greatest number of 64 bits.
 #[derive(Clone, Copy)]
 pub struct Omitted<'a> {
@@ -41,7 +42,7 @@ impl<'a> Omitted<'a> {
         self.count == 0
     }
 
-    /// The line of this number is left out. A line of complaint says so, and why, if it is one of the first hundred. A buffered
+    /// The record of this number is left out. A line of complaint says so, and why, if it is one of the first hundred. A buffered
     /// writer passes it on in one write.
     pub fn say<W: Write, P: Display + Drop>(
         &mut self,
@@ -54,11 +55,8 @@ impl<'a> Omitted<'a> {
         let is_shown = self.count < MOST_SHOWN;
         self.count = self.count.saturating_add(1);
         if is_shown {
-            writeln!(
-                out,
-                "{}: {}: line {number} is left out: {problem}",
-                self.program, self.file
-            )?;
+            self.begin(out)?;
+            writeln!(out, "record {number} is left out: {problem}")?;
             out.flush()?;
         }
         Ok(())
@@ -70,19 +68,20 @@ impl<'a> Omitted<'a> {
         if more == 0 {
             return Ok(());
         }
-        if more == 1 {
-            writeln!(
-                out,
-                "{}: {}: 1 more line is left out",
-                self.program, self.file
-            )?;
-        } else {
-            writeln!(
-                out,
-                "{}: {}: {more} more lines are left out",
-                self.program, self.file
-            )?;
-        }
+        self.begin(out)?;
+        writeln!(out, "records that are left out too: {more}")?;
         out.flush()
+    }
+
+    /// Says that the record of this number, the last one, ends within quotes.
+    pub fn say_open<W: Write>(&self, out: &mut W, number: u64) -> io::Result<()> {
+        self.begin(out)?;
+        writeln!(out, "the quote of record {number} is never closed")?;
+        out.flush()
+    }
+
+    // Begins a complaint.
+    fn begin<W: Write>(&self, out: &mut W) -> io::Result<()> {
+        write!(out, "{}: {}: ", self.program, ShownName(self.file))
     }
 }

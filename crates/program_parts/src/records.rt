@@ -5,8 +5,9 @@ ghost use Rattle.csv.specs.Records.{fields_of};
 ghost use Rattle.program_parts.specs.Records.{config_of};
 ghost use Rattle.program_parts.specs.RecordsLeft.{reader_left};
 
-use crate::columns::{WrongColumn, place_of};
-use crate::input::Counted;
+use crate::columns::{ColumnFault, WrongColumn, place_of};
+use crate::failure::{Failure, IoFailure};
+use crate::input::Noted;
 use crate::omitted::Omitted;
 use csv::{ByteRecord, ErrorKind, Reader, ReaderBuilder};
 use std::alloc::{AllocError, Global};
@@ -21,6 +22,8 @@ pub struct Format {
     pub has_headers: bool,
     /// The byte between two fields.
     pub delimiter: u8,
+    /// How many fields each record has. If that is not known, it is as many as the first one has.
+    pub width: Option<usize>,
 }
 
 /// A table to be read. A complaint about a record that is left out names the program and the file.
@@ -60,35 +63,20 @@ pub trait RecordKeeper {
             → TakesRecord (says setting) (keeps setting self.new) kept (fields_of row.old) taken) };
 }
 
-/// A record has another number of fields than the first record of its table.
+/// A record has another number of fields than it must have.
 #[derive(Clone, Copy)]
 struct OtherWidth {
     width: usize,
-    first: usize,
+    wanted: usize,
 }
 
 impl fmt::Display for OtherWidth {
     fn fmt<W: fmt::Write>(&self, f: &mut fmt::Formatter<W>) -> fmt::Result {
         write!(
             f,
-            "it has {}, the first record {}",
-            Fields(self.width),
-            self.first
+            "its number of fields is {}, not {}",
+            self.width, self.wanted
         )
-    }
-}
-
-// So many fields.
-#[derive(Clone, Copy)]
-struct Fields(usize);
-
-impl fmt::Display for Fields {
-    fn fmt<W: fmt::Write>(&self, f: &mut fmt::Formatter<W>) -> fmt::Result {
-        if self.0 == 1 {
-            write!(f, "1 field")
-        } else {
-            write!(f, "{} fields", self.0)
-        }
     }
 }
 
@@ -98,26 +86,26 @@ pub struct Records<'a, R> {
     reader: Reader<R>,
     row: ByteRecord,
     names: ByteRecord,
-    // How many fields the first record has.
+    // How many fields each record has.
     width: usize,
     // The record was read, and is not given yet.
     is_waiting: bool,
     // The end was read.
     is_over: bool,
-    // The first record ends with a line feed alone, and so do the others, as is taken for the lines of complaints.
-    has_feeds: bool,
+    // The record that was read last ends within quotes.
+    is_open: bool,
     omitted: Omitted<'a>,
 }
 
-impl<'a, R: Read + Drop> Records<'a, R> {
-    ghost use Rattle.std.specs.Prelude.{◌++◌, Option, Some, false, if◌then◌else◌, IfErr, IfSome, OnOk, nat_eq};
+impl<'a, R: Read + Noted + Drop> Records<'a, R> {
+    ghost use Rattle.std.specs.Prelude.{◌++◌, Option, Some, true, false, if◌then◌else◌, IfSome, OnOk};
     ghost use Rattle.program_parts.specs.Columns.{IsPlace};
     ghost use Rattle.program_parts.specs.Records.{Gives, Record};
     ghost use Rattle.program_parts.specs.RecordsLeft.{IsNew, count_of, left_of, names_of, width_of};
     ghost use Rattle.program_parts.specs.RecordsKept.{AreRead, HasKept, SaysWhole};
 
     /// The rows of a table, of which none is given yet. The first record is read.
-    pub fn new(alloc: Global, source: Source<'a, R>) -> io::Result<Records<'a, R>>
+    pub fn new(alloc: Global, source: Source<'a, R>) -> Result<Records<'a, R>, IoFailure<'a>>
         ensures { IfOk result (λ records. IsNew R.remaining source.entry.format (R.remaining source.entry.input) records) }
     {
         let format = source.format;
@@ -125,14 +113,14 @@ impl<'a, R: Read + Drop> Records<'a, R> {
             reader: reader_of(alloc, format, source.input),
             row: ByteRecord::new(alloc),
             names: ByteRecord::new(alloc),
-            width: 0,
+            width: format.width.unwrap_or(0),
             is_waiting: false,
             is_over: false,
-            has_feeds: false,
+            is_open: false,
             omitted: Omitted::none(source.program, source.file),
         };
         if records.advance()? {
-            records.width = records.row.len();
+            records.width = format.width.unwrap_or(records.row.len());
             if format.has_headers {
                 records.names = mem::replace(&mut records.row, ByteRecord::new(alloc));
             } else {
@@ -159,34 +147,45 @@ impl<'a, R: Read + Drop> Records<'a, R> {
         mem::replace(&mut self.names, ByteRecord::new(alloc))
     }
 
-    /// How many fields the first record has. All rows have as many.
+    /// How many fields each row has.
     pub fn width(&self) -> usize
         ensures { result ≡ width_of self.now }
     {
         self.width
     }
 
-    /// The place of a column among the fields of a row, from zero. Where the table has no record, it is zero for each column.
-    pub fn place_of(&self, column: &'a str) -> Result<usize, WrongColumn<'a>>
-        ensures found { IfOk result (λ place. width_of self.now ≢ 0
-            → IsPlace (width_of self.now) (names_of self.now) column.now place) }
-        ensures none { IfErr result (λ _. (place : ℕ) → IsPlace (width_of self.now) (names_of self.now) column.now place → ⊥) }
+    /// The place of a column among the fields of a row, from zero. Where the table has no record, it is zero for each column. The
+    /// failure has a complaint with the names that there are.
+    pub fn place_of(&self, alloc: Global, column: &str) -> Result<usize, Failure<'a>>
+        ensures { IfOk result (λ place. width_of self.now ≢ 0 → IsPlace (width_of self.now) (names_of self.now) column.now place) }
     {
         if self.width == 0 {
             return Ok(0);
         }
         match place_of(&self.names, self.width, column) {
             Ok(place) => Ok(place),
-            Err(fault) => Err(WrongColumn {
-                file: self.omitted.file(),
-                column,
-                fault,
-            }),
+            Err(fault) => Err(self.without_column(alloc, column, fault)?),
         }
     }
 
+    // The failure that says why there is no such column.
+    fn without_column(
+        &self,
+        alloc: Global,
+        column: &str,
+        fault: ColumnFault,
+    ) -> Result<Failure<'a>, AllocError> {
+        let wrong = WrongColumn {
+            file: self.omitted.file(),
+            column,
+            fault,
+            names: &self.names,
+        };
+        Ok(Failure::Column(format!(in alloc; "{wrong}")?))
+    }
+
     // Reads the next record in the place of the one before. `false` where none is left.
-    fn advance(&mut self) -> io::Result<bool>
+    fn advance(&mut self) -> Result<bool, IoFailure<'a>>
         ensures next { IfOk result (λ found. Gives (left_of R.remaining self.old) (left_of R.remaining self.new)
             (if found then fields_of self.new.row ∷ [] else [])) }
         ensures end { IfOk result (λ found. found ≡ false → left_of R.remaining self.new ≡ Some []) }
@@ -205,23 +204,23 @@ impl<'a, R: Read + Drop> Records<'a, R> {
         match self.reader.read_byte_record(&mut self.row) {
             Ok(found) => {
                 self.is_over = !found;
-                self.has_feeds = self.has_feeds_so_far();
+                self.is_open = self.is_left_open();
                 Ok(found)
             }
             Err(error) => match error.into_kind() {
-                ErrorKind::Io(error) => Err(error),
-                _ => Err(io::Error::from(AllocError)),
+                ErrorKind::Io(error) => Err(IoFailure::of_read(self.omitted.file(), error)),
+                _ => Err(IoFailure::from(AllocError)),
             },
         }
     }
 
-    /// Keeps what the next record says, or leaves it out, and a line of complaint says why: it has not as many fields as the
-    /// first record, or it says nothing. `false` where none is left.
+    /// Keeps what the next record says, or leaves it out, and a line of complaint says why: it has another number of fields, or it
+    /// says nothing. `false` where none is left.
     pub fn keep_next<K: RecordKeeper, E: Write>(
         &mut self,
         keeper: &mut K,
         complaints: &mut E,
-    ) -> io::Result<bool>
+    ) -> Result<bool, IoFailure<'a>>
         ensures kept { OnOk result ((setting : K.Setting) (all : Option (List Record)) (kept : List K.Item)
             → K.keeps setting keeper.old kept → HasKept R.remaining (K.says setting) all kept self.old
             → (more : List K.Item) × K.keeps setting keeper.new (kept ++ more)
@@ -236,15 +235,15 @@ impl<'a, R: Read + Drop> Records<'a, R> {
         if self.row.len() != self.width {
             let problem = OtherWidth {
                 width: self.row.len(),
-                first: self.width,
+                wanted: self.width,
             };
-            let line = self.line();
-            self.omitted.say(complaints, line, problem)?;
+            let number = self.number();
+            self.omitted.say(complaints, number, problem)?;
             return Ok(true);
         }
         if let Err(problem) = keeper.keep(&mut self.row)? {
-            let line = self.line();
-            self.omitted.say(complaints, line, problem)?;
+            let number = self.number();
+            self.omitted.say(complaints, number, problem)?;
         }
         Ok(true)
     }
@@ -254,7 +253,7 @@ impl<'a, R: Read + Drop> Records<'a, R> {
         &mut self,
         keeper: &mut K,
         complaints: &mut E,
-    ) -> io::Result<bool>
+    ) -> Result<bool, IoFailure<'a>>
         ensures kept { IfOk result (λ is_whole. (setting : K.Setting) (all : Option (List Record)) → K.keeps setting keeper.old []
             → HasKept R.remaining (K.says setting) all [] self.old
             → (kept : List K.Item) × K.keeps setting keeper.new kept
@@ -267,55 +266,42 @@ impl<'a, R: Read + Drop> Records<'a, R> {
                 return Ok(is_whole);
             }
         }
-        Err(io::Error::other("there are too many records"))
+        Err(IoFailure::from(io::Error::other("there are too many records")))
     }
 
-    // The line that the record begins on which was read last. Where the reader began to read it, the line feed behind a carriage
-    // return and empty lines may stand before it.
-    fn line(&self) -> u64 {
-        let own = u64::from(self.has_feeds);
-        let before = self.row.position().map_or(0, |position| position.line());
-        before.saturating_add(self.feeds().saturating_sub(own))
+    // The number of the record that was read last, from 1: that of the names counts too.
+    fn number(&self) -> u64 {
+        self.reader.position().record()
     }
 
-    // Whether the first record ends with a line feed alone.
-    fn has_feeds_so_far(&self) -> bool {
-        if self.reader.position().record() == 1 {
-            self.feeds() > 0
-        } else {
-            self.has_feeds
+    // Whether the record that was read last ends within quotes: it was read at the end of the input, whose last byte ends a line and
+    // is the field's. Behind the quotes it had ended the record.
+    fn is_left_open(&self) -> bool {
+        if self.is_over {
+            return self.is_open;
         }
+        matches!(self.row.as_slice().last(), Some(b'\n' | b'\r'))
+            && self.reader.get_ref().ended_with_line()
     }
 
-    // How many line feeds were read with the record, but for those in its fields.
-    fn feeds(&self) -> u64 {
-        let after = self.reader.position().line();
-        let before = self.row.position().map_or(0, |position| position.line());
-        let inside = self
-            .row
-            .as_slice()
-            .iter()
-            .filter(|byte| **byte == b'\n')
-            .count();
-        after.saturating_sub(before).saturating_sub(inside as u64)
-    }
-
-    /// Says how many more records were left out than were complained of, where all are read. Gives back whether none was left
-    /// out.
+    /// Says how many more records were left out than were complained of, and whether the last one ends within quotes, where all are
+    /// read. Gives back whether there is nothing to say: it is `false` if one was left out.
     pub fn finish<E: Write>(&self, complaints: &mut E) -> io::Result<bool>
-        ensures { IfOk result (λ is_whole. is_whole ≡ nat_eq (count_of self.now) 0) }
+        ensures { IfOk result (λ is_whole. is_whole ≡ true → count_of self.now ≡ 0) }
     {
         self.omitted.finish(complaints)?;
+        if self.is_open {
+            self.omitted.say_open(complaints, self.number())?;
+            return Ok(false);
+        }
         Ok(self.omitted.is_empty())
     }
-}
 
-impl<'a, R: Read + Counted> Records<'a, R> {
-    /// Whether the input gave no byte behind the record that was read last, but perhaps the line feed that ends it: the next
-    /// record must be waited for.
+    /// Whether the input gave nothing but line ends behind the record that was read last: the next record must be waited for.
     pub fn is_drained(&self) -> bool {
-        let used = self.reader.position().byte();
-        self.reader.get_ref().given().saturating_sub(used) <= 1
+        self.reader
+            .get_ref()
+            .is_drained(self.reader.position().byte())
     }
 }
 

@@ -22,10 +22,14 @@ pub fn row_writer<W: Write + Drop>(delimiter: u8, out: W) -> Writer<W>
 pub fn write_row<W: Write + Drop>(fields: &[&[u8]], out: &mut Writer<W>) -> io::Result<()>
     ensures { OnOk result (Writes W.contents out.old out.new (map (λ field. field.now) fields.now ∷ [])) }
 {
-    match out.write_fields(fields) {
-        Ok(()) => Ok(()),
-        Err(error) => Err(io_error(error)),
-    }
+    out.write_fields(fields).map_err(io_error)
+}
+
+/// Writes a row.
+pub fn write_record<W: Write + Drop>(row: &ByteRecord, out: &mut Writer<W>) -> io::Result<()>
+    ensures { OnOk result (Writes W.contents out.old out.new (fields_of row.now ∷ [])) }
+{
+    out.write_byte_record(row).map_err(io_error)
 }
 
 /// Writes the names of the columns at these two places, if there are any.
@@ -49,10 +53,7 @@ pub fn pass_on<W: Write + Drop>(out: &mut Writer<W>) -> io::Result<()>
     ensures writes { OnOk result (Writes W.contents out.old out.new []) }
     ensures none_pending { OnOk result (writer_pending out.new ≡ []) }
 {
-    match out.flush() {
-        Ok(()) => Ok(()),
-        Err(error) => Err(io_error(error)),
-    }
+    out.flush().map_err(io_error)
 }
 
 // The error of a write.

@@ -8,9 +8,9 @@ use Rattle.program_parts.specs.declared.records.Format.{Format}
 use Rattle.slice_group_stream.specs.Split.{last, split, without_last}
 use Rattle.run_length_coder.specs.declared.runs.Run.{Run}
 
--- runs stand in CSV as `csv`'s defaults write it: commas, and no names of columns
+-- runs stand in CSV as `csv`'s defaults write it: commas, two fields a record, and no names of columns
 abbrev pub runs_format : Format
-runs_format = record { has_headers = false; delimiter = 44 }
+runs_format = record { has_headers = false; delimiter = 44; width = Some 2 }
 
 -- the bytes of a run
 abbrev pub copies : Run → List ℕ

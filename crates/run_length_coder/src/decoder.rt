@@ -1,12 +1,16 @@
 //! Decodes records of runs.
-ghost use Rattle.std.specs.Prelude.{◌≡◌, ℕ, ◌<◌, ◌^◌, List, [], flat_map, length, All, IfOk, IfSome, IsTrue, OnOk, Some};
+ghost use Rattle.std.specs.Prelude.{◌≡◌, ℕ, ◌<◌, ◌^◌, List, [], flat_map, length, All, IfOk, IfSome, OnOk, Some};
 ghost use Rattle.std.specs.Io.KnownBytes.{Appends};
 ghost use Rattle.run_length_coder.specs.Coding.{coded, copies};
 ghost use Rattle.run_length_coder.specs.Decoded.{Decodes};
 
-use crate::record::{Problem, parse_run};
+use crate::Program;
+use crate::record::parse_run;
 use crate::runs::Run;
 use csv::ByteRecord;
+use program_parts::app::App;
+use program_parts::failure::IoFailure;
+use program_parts::input::Noted;
 use program_parts::records::{Format, RecordKeeper, Records, Source};
 use std::alloc::Global;
 use std::io;
@@ -16,32 +20,32 @@ use std::io::{Read, Write};
 const FORMAT: Format = Format {
     has_headers: false,
     delimiter: b',',
+    width: Some(2),
 };
 
 // So many runs are kept before their bytes are written.
 const BLOCK: usize = 1024;
 
-/// Writes the bytes of the runs that the records of the input say, and gives back whether each says one. One that says
-/// none is left out: a line of complaint for each of the first hundred says why, with the name of the file, and one at the
-/// end how many more there are. It keeps a block of runs in memory, and a block of what is written.
-pub fn decode<R: Read + Drop, W: Write, E: Write>(
+/// Writes the bytes of the runs that the records of the input, this file, say. One that says none is left out, and a complaint
+/// says why; then `false` comes back. It keeps a block of runs in memory, and a block of what is written.
+pub fn decode<'a, R: Read + Noted + Drop, W: Write, E: Write>(
     alloc: Global,
-    name: &str,
+    file: &'a str,
     input: R,
     out: &mut W,
     complaints: &mut E,
-) -> io::Result<bool>
+) -> Result<bool, IoFailure<'a>>
     ensures any { IfOk result (λ are_runs. IfSome (R.remaining input)
         (λ bytes. Decodes bytes are_runs (W.contents out.old) (W.contents out.new))) }
 
     // Of what bytes were coded as, these bytes are written.
     ensures again { (bytes : List ℕ) → All (λ byte. byte < 2 ^ 8) bytes → length bytes < 2 ^ 64
         → R.remaining input ≡ Some (coded bytes)
-        → IfOk result (λ are_runs. IsTrue are_runs × Appends (W.contents out.old) (W.contents out.new) bytes) }
+        → OnOk result (Appends (W.contents out.old) (W.contents out.new) bytes) }
 {
     let source = Source {
-        program: "run_length_coder",
-        file: name,
+        program: Program::NAME,
+        file,
         format: FORMAT,
         input,
     };
@@ -56,11 +60,12 @@ pub fn decode<R: Read + Drop, W: Write, E: Write>(
         write_runs(&runs.runs, &mut room, out)?;
         runs.runs.clear();
         if !found {
-            let is_whole = records.finish(complaints)?;
-            return Ok(is_whole);
+            let are_runs = records.finish(complaints)?;
+            out.flush()?;
+            return Ok(are_runs);
         }
     }
-    Err(io::Error::other("there are too many records"))
+    Err(IoFailure::from(io::Error::other("there are too many records")))
 }
 
 // Writes the bytes of these runs, which it gathers in the room.
@@ -77,6 +82,7 @@ fn write_runs<W: Write>(runs: &[Run], room: &mut Vec<u8>, out: &mut W) -> io::Re
 // The runs whose bytes are not written yet.
 #[derive(Drop)]
 struct Runs {
+    alloc: Global,
     runs: Vec<Run>,
 }
 
@@ -86,6 +92,7 @@ impl Runs {
         ensures { result.runs.items ≡ [] }
     {
         Runs {
+            alloc,
             runs: Vec::new(alloc),
         }
     }
@@ -96,7 +103,7 @@ impl RecordKeeper for Runs {
     ghost use Rattle.run_length_coder.specs.Decoded.{SaysRun};
     ghost use Rattle.run_length_coder.specs.declared.runs.Run.{Run};
 
-    type Problem = Problem;
+    type Problem = String;
 
     ghost Item = { Run };
 
@@ -107,10 +114,10 @@ impl RecordKeeper for Runs {
 
     ghost keeps = { λ written waiting runs. runs ≡ written ++ waiting.runs.items };
 
-    fn keep(&mut self, row: &mut ByteRecord) -> io::Result<Result<(), Problem>> {
+    fn keep(&mut self, row: &mut ByteRecord) -> io::Result<Result<(), String>> {
         let run = match parse_run(row) {
             Ok(run) => run,
-            Err(problem) => return Ok(Err(problem)),
+            Err(problem) => return Ok(Err(format!(in self.alloc; "{problem}")?)),
         };
         self.runs.push(run)?;
         Ok(Ok(()))

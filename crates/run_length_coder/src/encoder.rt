@@ -6,15 +6,21 @@ ghost use Rattle.slice_group_stream.specs.Streams.{kept_of};
 ghost use Rattle.run_length_coder.specs.Coding.{coded, longer_run, run_if, run_of, text_of, Written};
 
 use program_parts::blocks::{new_block, read_block};
+use program_parts::failure::IoFailure;
 use slice_group_stream::StreamGroups;
 use slice_group_stream::laws::{parts_fold, parts_join};
 use std::alloc::Global;
 use std::io;
-use std::io::{Error, ErrorKind, Read, Write};
+use std::io::{Read, Write};
 
-/// Writes a record for each run of the bytes that the input has left, each run as long as it can be, however the reads
-/// cut them. It keeps one block in memory. A failed read or write ends it, and so does a run of 2^64 bytes.
-pub fn encode<R: Read, W: Write>(alloc: Global, input: &mut R, out: &mut W) -> io::Result<()>
+/// Writes a record for each run of the bytes that the input, this file, has left, each run as long as it can be, however the
+/// reads cut them. It keeps one block in memory. A failed read or write ends it, and so does a run of 2^64 bytes.
+pub fn encode<'a, R: Read, W: Write>(
+    alloc: Global,
+    file: &'a str,
+    input: &mut R,
+    out: &mut W,
+) -> Result<(), IoFailure<'a>>
     ensures { OnOk result (IfSome (R.remaining input.old)
         (λ bytes. Appends (W.contents out.old) (W.contents out.new) (coded bytes))) }
 {
@@ -22,13 +28,15 @@ pub fn encode<R: Read, W: Write>(alloc: Global, input: &mut R, out: &mut W) -> i
     let mut stream = StreamGroups::new();
     let (mut byte, mut count) = (0u8, 0usize);
     for _ in 0..u64::MAX {
-        let len = read_block(input, &mut block)?;
+        let len = read_block(file, input, &mut block)?;
         if len == 0 {
-            return write_run(byte, count, out);
+            write_run(byte, count, out)?;
+            out.flush()?;
+            return Ok(());
         }
         (byte, count) = write_block(&mut stream, byte, count, &block[..len], out)?;
     }
-    Err(Error::new(ErrorKind::InvalidData, "the input does not end"))
+    Err(IoFailure::from(io::Error::other("the input does not end")))
 }
 
 /// Writes the records of the runs that end in the block, and gives the one that is open behind it. There is none where
@@ -69,7 +77,7 @@ fn longer(count: usize, part: &[u8]) -> io::Result<usize>
         return Ok(0);
     }
     let Some(more) = count.checked_add(part.len()) else {
-        return Err(Error::new(ErrorKind::InvalidData, "a run is too long to be counted"));
+        return Err(io::Error::other("a run is too long to be counted"));
     };
     Ok(more)
 }

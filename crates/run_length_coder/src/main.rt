@@ -1,93 +1,73 @@
 //! Codes bytes as CSV, a record for each run of equal bytes: input of any size, in the memory of one block. With `decode` it
-//! reads such records, and writes the bytes again. `program.rt` has what it does.
-//!
-//! The stored input is records of runs, of which some say none.
+//! reads such records, and writes the bytes again.
 #![tactic(auto)]
 
 mod decoder;
 mod encoder;
-mod program;
 mod record;
 mod runs;
 
-use crate::program::Mode;
-use clap::{Arg, ArgMatches, Command, Error};
-use program_parts::arguments::arguments;
-use program_parts::input::{Input, NamedFile};
-use program_parts::status::exit_code;
-use program_parts::table_options::{plain_command, stop};
+use crate::decoder::decode;
+use crate::encoder::encode;
+use clap::{Arg, ArgMatches, Command};
+use program_parts::app::{App, main_of};
+use program_parts::failure::Failure;
+use program_parts::input::Input;
 use std::alloc::{AllocError, Global};
-use std::io;
-use std::io::BufWriter;
+use std::io::{BufWriter, Write};
 use std::process::ExitCode;
 
-const PROGRAM: &str = "run_length_coder";
-
-const ABOUT: &str = "\
-Codes the runs of equal bytes of a file as CSV, or decodes such CSV. A record has two fields, how many equal bytes there
-are and the byte, both as decimal numbers; no record has the names of columns.";
-
-const DECODES: &str = "\
-Writes the bytes of runs again. A record that says no run is left out: standard error says why for each of the first
-hundred, and how many more there are. The status is then 1, and so it is where reading or writing fails. It is 2 where an
-argument is wrong.";
+struct Program;
 
 fn main(rt: HostRuntime) -> ExitCode {
-    exit_code(&rt, PROGRAM, start(&rt))
+    main_of::<Program>(&rt)
 }
 
-// Reads the arguments, runs, and gives back the status.
-fn start(rt: &HostRuntime) -> io::Result<u8> {
-    let Some(words) = arguments(rt, PROGRAM)? else {
-        return Ok(2);
-    };
-    match parse(rt.alloc(), &words) {
-        Ok(matches) => code(rt, &matches),
-        Err(error) => stop(rt, &error),
+impl App for Program {
+    const NAME: &'static str = "run_length_coder";
+
+    const ABOUT: &'static str = "\
+Codes the bytes of a file as CSV, a record for each run of equal bytes, or decodes such CSV. A
+record has two fields, how many bytes there are and which one, as decimal numbers: `3,97` is `aaa`.
+No record has the names of columns.
+
+Example: run_length_coder photo.raw > photo.csv; run_length_coder decode photo.csv > photo.raw
+
+Left out by decode are records that say no run; standard error says which, and why.
+Status: 0 all is coded; 1 a record was left out; 2 it failed.";
+
+    fn arguments<'a>(alloc: Global, command: Command<'a>) -> Result<Command<'a>, AllocError> {
+        let encode = Command::new(alloc, "encode")
+            .about("Writes a record for each run of equal bytes, which is the default")
+            .override_usage("run_length_coder encode [FILE]")
+            .arg(file(alloc))?;
+        let decode = Command::new(alloc, "decode")
+            .about("Writes the bytes of runs again")
+            .override_usage("run_length_coder decode [FILE]")
+            .arg(file(alloc))?;
+        command
+            .disable_help_subcommand(true)
+            .args_conflicts_with_subcommands(true)
+            .arg(file(alloc))?
+            .subcommand(encode)?
+            .subcommand(decode)
     }
-}
 
-// Encodes or decodes, as these arguments say.
-fn code(rt: &HostRuntime, matches: &ArgMatches<'_>) -> io::Result<u8> {
-    let (mode, name) = mode_and_file(matches);
-    let file = NamedFile::new(rt.alloc(), name)?;
-    let Some(input) = Input::open(rt, PROGRAM, &file) else {
-        return Ok(1);
-    };
-    let mut out = BufWriter::with_capacity(rt.alloc(), 65536, rt.stdout())?;
-    let mut complaints = BufWriter::new(rt.alloc(), rt.stderr())?;
-    Ok(program::run(
-        rt.alloc(),
-        mode,
-        &file.shown,
-        input,
-        &[&file],
-        &mut out,
-        &mut complaints,
-    ))
-}
-
-// What the words say.
-fn parse<'a>(alloc: Global, words: &'a [String]) -> Result<ArgMatches<'a>, Error> {
-    command(alloc)?.try_get_matches_from(words)
-}
-
-// The arguments: a file, which is encoded, or what to do, and a file.
-fn command<'a>(alloc: Global) -> Result<Command<'a>, AllocError> {
-    let encode = Command::new(alloc, "encode")
-        .about("Writes a record for each run of equal bytes, which is the default")
-        .override_usage("run_length_coder encode [FILE]")
-        .arg(file(alloc))?;
-    let decode = Command::new(alloc, "decode")
-        .about(DECODES)
-        .override_usage("run_length_coder decode [FILE]")
-        .arg(file(alloc))?;
-    plain_command(alloc, PROGRAM, ABOUT)
-        .disable_help_subcommand(true)
-        .args_conflicts_with_subcommands(true)
-        .arg(file(alloc))?
-        .subcommand(encode)?
-        .subcommand(decode)
+    fn run<'a>(rt: &HostRuntime, matches: &ArgMatches<'a>) -> Result<bool, Failure<'a>> {
+        let (decodes, file) = mode_and_file(matches);
+        let mut input = Input::open(rt, file)?;
+        let mut out = BufWriter::with_capacity(rt.alloc(), 65536, rt.stdout())?;
+        let mut complaints = BufWriter::new(rt.alloc(), rt.stderr())?;
+        let done = if decodes {
+            decode(rt.alloc(), file, input, &mut out, &mut complaints)
+        } else {
+            encode(rt.alloc(), file, &mut input, &mut out).and(Ok(true))
+        };
+        if done.is_err() {
+            let _ = out.flush();
+        }
+        Ok(done?)
+    }
 }
 
 // The file.
@@ -97,11 +77,10 @@ fn file<'a>(alloc: Global) -> Arg<'a> {
         .help("What is read; a dash is standard input")
 }
 
-// What to do, and with which file.
-fn mode_and_file<'a>(matches: &ArgMatches<'a>) -> (Mode, &'a str) {
+// Whether runs are decoded, and the file that is read.
+fn mode_and_file<'a>(matches: &ArgMatches<'a>) -> (bool, &'a str) {
     match matches.subcommand() {
-        Some((name, of)) if name == "decode" => (Mode::Decode, of.get_str("FILE").unwrap_or("-")),
-        Some((_, of)) => (Mode::Encode, of.get_str("FILE").unwrap_or("-")),
-        None => (Mode::Encode, matches.get_str("FILE").unwrap_or("-")),
+        Some((name, of)) => (name == "decode", of.get_str("FILE").unwrap_or("-")),
+        None => (false, matches.get_str("FILE").unwrap_or("-")),
     }
 }

@@ -8,30 +8,35 @@ use crate::runs::Run;
 use csv::ByteRecord;
 use program_parts::numbers::{number_8, number_64};
 use program_parts::records::two_fields;
+use program_parts::shown::Excerpt;
 use std::fmt;
 
 /// What is wrong with a record.
 #[derive(Clone, Copy)]
-pub enum Problem {
+pub enum Problem<'a> {
     NotTwo,
-    NoCount,
-    Zero,
-    NoByte,
+    NoCount(&'a [u8]),
+    NoByte(&'a [u8]),
 }
 
-impl fmt::Display for Problem {
+impl<'a> fmt::Display for Problem<'a> {
     fn fmt<W: fmt::Write>(&self, f: &mut fmt::Formatter<W>) -> fmt::Result {
         match self {
             Problem::NotTwo => write!(f, "it has not two fields"),
-            Problem::NoCount => write!(f, "its count is no number of 64 bits"),
-            Problem::Zero => write!(f, "its count is 0"),
-            Problem::NoByte => write!(f, "its byte is no number up to 255"),
+            Problem::NoCount(text) => write!(
+                f,
+                "its count {} is no number of 64 bits above 0",
+                Excerpt(text)
+            ),
+            Problem::NoByte(text) => {
+                write!(f, "its byte {} is no number up to 255", Excerpt(text))
+            }
         }
     }
 }
 
 /// The run that a record says.
-pub fn parse_run(fields: &ByteRecord) -> Result<Run, Problem>
+pub fn parse_run(fields: &ByteRecord) -> Result<Run, Problem<'_>>
     ensures says { IfOk result (λ run. Says (fields_of fields.now) run) }
     ensures silent { IfErr result (λ _. (run : Run) → Says (fields_of fields.now) run → ⊥) }
 {
@@ -39,25 +44,16 @@ pub fn parse_run(fields: &ByteRecord) -> Result<Run, Problem>
         return Err(Problem::NotTwo);
     };
     let Some(number) = number_64(count) else {
-        return Err(wrong_count(count, byte, Problem::NoCount));
+        return Err(Problem::NoCount(count));
     };
     if number == 0 {
-        return Err(wrong_count(count, byte, Problem::Zero));
+        return Err(Problem::NoCount(count));
     }
-    let Some(byte) = number_8(byte) else {
-        return Err(Problem::NoByte);
+    let Some(value) = number_8(byte) else {
+        return Err(Problem::NoByte(byte));
     };
     Ok(Run {
-        byte,
+        byte: value,
         count: number as usize,
     })
-}
-
-// What is said of a count with this problem: the byte is named where it alone is not UTF-8.
-fn wrong_count(count: &[u8], byte: &[u8], problem: Problem) -> Problem {
-    if str::from_utf8(count).is_ok() && str::from_utf8(byte).is_err() {
-        Problem::NoByte
-    } else {
-        problem
-    }
 }

@@ -29,4 +29,4 @@ returns-clause-answers g c =
     let all = writes_both contents _ _ c.pass_on.new.out _ _ both c.in_ok-pass_on.ensures.writes in
     answered contents format _ _ _ _ _ fields entries keys are_entries are_queries c.if-are_entries.result _ c.pass_on.new.out input _
     new.width
-    new.names c.in_ok-key.ensures.found c.in_ok-place.ensures.found read whole asked (rw (append-nil _, names, keeps.1) at all)
+    new.names c.in_ok-key.ensures c.in_ok-place.ensures read whole asked (rw (append-nil _, names, keeps.1) at all)

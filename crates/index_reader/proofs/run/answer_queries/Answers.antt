@@ -2,7 +2,7 @@ use Rattle.std.proofs.Common.{refl, [], ◌++◌, append-nil}
 use Rattle.program_parts.proofs.RecordsKept.{all_kept, none_so_far}
 use Rattle.program_parts.proofs.Writing.{writes_none}
 use Rattle.program_parts.specs.RecordsKept.{SaysWhole}
-use Rattle.program_parts.specs.RecordsLeft.{width_of}
+use Rattle.program_parts.specs.RecordsLeft.{count_of, width_of}
 use Rattle.index_reader.proofs.Answered.{answers_both}
 use Rattle.index_reader.proofs.Reading.{has_queries}
 use Rattle.index_reader.specs.Runs.{SaysQuery}
@@ -34,10 +34,16 @@ returns-then-not-found g c =
     let wrote = answers_both g.W.Write.contents c.args.index.now done waiting _ _ _ writes
     (rw c.deref.ensures.value at c.in_ok-answer_block.ensures) in
     let end = c.in_ok-found.ensures.end c.if-not-found.true in
-    let said = all_kept _ _ keys _ (rw (is, end) at s') in (
+    let said = all_kept _ _ keys (count_of c.keep_next.new.self) c.in_ok-is_whole.is_whole (rw (is, end) at s') c.in_ok-is_whole.ensures in (
       keys,
       wrote,
       has_queries c.args.source.format (g.R.Read.remaining c.args.source.input) (width_of c.keep_next.new.self) keys _
           (rw c.keep_next.ensures.width width)
-          (rw c.in_ok-is_whole.ensures said),
+          said,
     )
+
+pub loop-preserved-then-len-lt-LEAST : goal.loop-preserved-then-len-lt-LEAST
+loop-preserved-then-len-lt-LEAST g c =
+    let (done, writes, width, s) = c.loop.invariant in
+    let (more, is, s') = c.in_ok-found.ensures.kept done _ _ refl s in
+    (done, writes, rw c.keep_next.ensures.width width, rw is at s')

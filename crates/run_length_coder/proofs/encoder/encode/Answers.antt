@@ -1,6 +1,6 @@
 use Rattle.std.proofs.lemmas.Grind.{common_steps}
 use Rattle.std.proofs.Common.{◌≡◌, [], append-nil, arith}
-use Rattle.std.proofs.lemmas.Result.{on_ok_weaker}
+use Rattle.program_parts.proofs.Appended.{appends_kept}
 use Rattle.std.specs.Io.KnownBytes.{Appends}
 use Rattle.std.proofs.KnownBytes.{Consumes-trans, Consumes-whole}
 use Rattle.run_length_coder.specs.Coding.{coded}
@@ -19,9 +19,6 @@ returns-then-len-eq0 g c =
     let (bytes, read, kept, so_far, room) = c.loop.invariant in
     let (block, end) = c.in_ok-len.ensures.bytes in
     let none = c.if-len-eq0.true in
-    on_ok_weaker c.write_run.result
-    (λ written. Consumes-whole _ _ bytes
-    (λ l. Appends (g.W.Write.contents c.args.out.now) (g.W.Write.contents c.write_run.new.out) (coded l))
+    Consumes-whole _ _ bytes (λ l. Appends (g.W.Write.contents c.args.out.now) (g.W.Write.contents c.flush.new.self) (coded l))
     (rw append-nil at (Consumes-trans _ _ _ bytes [] read (rw none at block))) (end none (omega (arith, room)))
-    (Written-coded _ _ _ bytes _ _ so_far written))
-    c.write_run.ensures
+    (appends_kept _ _ _ _ (Written-coded _ _ _ bytes _ _ so_far c.in_ok-write_run.ensures) c.flush.ensures.bytes)

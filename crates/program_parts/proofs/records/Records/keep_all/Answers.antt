@@ -18,4 +18,4 @@ returns-then-not-branch-clause-kept g c setting all keeps new =
     let (more, keeps'', s') = c.in_ok-keep_next.ensures.kept setting all kept keeps' s in
     let end = c.in_ok-keep_next.ensures.end c.if-not-branch.true in
     let width = c.keep_next.ensures.width ∙ c.loop.invariant.0 in
-    (kept ++ more, keeps'', rw (c.in_ok-is_whole.ensures, ← width) (all_kept _ all _ _ (rw end at s')))
+    (kept ++ more, keeps'', rw (← width) (all_kept _ all _ _ c.in_ok-is_whole.is_whole (rw end at s') c.in_ok-is_whole.ensures))
