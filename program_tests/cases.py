@@ -1,17 +1,22 @@
 """What the programs write and say, written out by hand: the program, its arguments, its input, its status, what it writes, and what it
 says on standard error. Of two inputs the first is a file `first`, and the second standard input."""
 
-LEFT_OUT = b"%s: %s: line %d is left out: %s\n"
+LEFT_OUT = b"%s: %s: record %d is left out: %s\n"
 
 
-def said(program, *lines, file=b"-"):
-    """The complaints of a program about these lines of a file: a number and why each is left out."""
-    return b"".join(LEFT_OUT % (program.encode(), file, *line) for line in lines)
+def said(program, *wrong, file=b"-"):
+    """The complaints of a program about these records of a file: a number and why each is left out."""
+    return b"".join(LEFT_OUT % (program.encode(), file, *record) for record in wrong)
 
 
 def hundred(why, begin=1):
-    """A hundred lines from this one, each left out for this."""
+    """A hundred records from this one, each left out for this."""
     return [(number, why) for number in range(begin, begin + 100)]
+
+
+def more(program, count, file="-"):
+    """What a program says of so many records more than a hundred."""
+    return f"{program}: {file}: records that are left out too: {count}\n".encode()
 
 
 def tokens(*counts):
@@ -19,30 +24,45 @@ def tokens(*counts):
     return b"runs of letters: %d\nruns of digits: %d\nruns of white space: %d\nruns of other bytes: %d\n" % counts
 
 
-def lower(kind, left, right, out, *lines):
-    """A join of which these lines of the left table are left out: a number, and its key and the greatest before it as they are shown."""
+def lower(kind, left, right, out, *records):
+    """A join of which these records of the left table are left out: a number, and its key and the greatest before it as they are shown."""
     left, right, out = (text.encode() if isinstance(text, str) else text for text in (left, right, out))
     why = "its key %s is lower than %s, the greatest before it"
-    wrong = [(number, (why % (key, greatest)).encode()) for number, key, greatest in lines]
+    wrong = [(number, (why % (key, greatest)).encode()) for number, key, greatest in records]
     return "table_join", [kind, "-n"], (left, right), 1, out, said("table_join", *wrong, file=b"first")
 
 
 NAMES = ["run_length_coder", "token_counter", "grouped_report", "table_join", "index_reader"]
-NO_RUN = b"it has not two fields"
-NO_BYTE = b"its byte is no number up to 255"
-NO_COUNT = b"its count is no number of 64 bits"
-NO_AMOUNT = b"its amount is no number of 64 bits"
 NO_KEY = b"its key is no number of 32 bits"
+NO_PLACE = b"its place is no number of 64 bits"
 NO_QUERY = b"the query is no number of 32 bits"
-RUNS = b"2,97\n0,98\n3\n\n1,256\nx,1\n18446744073709551616,1\n\xff,1\n1,98 \n1,99\r\n3,100"
+RUNS = b"2,97\n0,98\n3\n\n1,256\nx,\xff\n18446744073709551616,1\n\xff\x1b,1\n1,98 \n1,\xff\n1,99\r\n3,100"
+
+
+def no_count(shown):
+    return b"its count %s is no number of 64 bits above 0" % shown
+
+
+def no_byte(shown):
+    return b"its byte %s is no number up to 255" % shown
+
+
+def no_amount(shown):
+    return b"its amount %s is no decimal number" % shown
+
+
+WIDTH = b"its number of fields is 1, not 2"
 WRONG_RUNS = said(
     "run_length_coder",
-    (2, b"its count is 0"), (3, b"it has 1 field, the first record 2"), (5, NO_BYTE), (6, NO_COUNT), (7, NO_COUNT), (8, NO_COUNT), (9, NO_BYTE),
+    (2, no_count(b'"0"')), (3, WIDTH), (4, no_byte(b'"256"')), (5, no_count(b'"x"')), (6, no_count(b'"18446744073709551616"')),
+    (7, no_count(rb'"\xff\x1b"')), (8, no_byte(b'"98 "')), (9, no_byte(rb'"\xff"')),
 )
+# A value is shown up to 40 bytes, and no character of it is cut.
+VALUES = ["a" * 40, "a" * 41, "a" * 39 + "é", "a" * 37 + "😀!", "\x1b[31mé\\", "é" * 20]
+SHOWN = [f'"{"a" * 40}"', f'"{"a" * 40}"..', f'"{"a" * 39}"..', f'"{"a" * 37}"..', r'"\u{1b}[31mé\\"', f'"{"é" * 20}"']
 
 LOWER = b"its key %d is lower than %d, the greatest before it"
 TABLES = (b"k,l\na,1\nb,2\n", b"k,r\nb,3\nc,4\n")
-WIDTH = b"it has 1 field, the first record 2"
 WRONG_TABLES = (b"k,l\na,1\nno\nb,2\n", b"k,r\nb,3\nnone\nc,4")
 WRONG_LINES = said("table_join", (3, WIDTH), file=b"first") + said("table_join", (3, WIDTH))
 JOINED = {
@@ -65,22 +85,48 @@ CASES = [
     ("token_counter", [], b"aZ09 \t\n\x0b\x0c\r[`{@/:", 0, tokens(1, 1, 2, 2), b""),
     ("grouped_report", [], b"", 0, b"", b""),
     (
-        "grouped_report", ["-n"], b"9,1\r\n7,18446744073709551615\n10,0\n9,2\n7,+1", 0, b"10,0\n7,18446744073709551616\n9,3\n", b"",
+        "grouped_report", ["-n", "--sum", "2"], b"9,1\r\n7,18446744073709551615\n10,0\n9,2\n7,+1", 0, b"10,0\n7,18446744073709551616\n9,3\n", b"",
     ),
     (
-        "grouped_report", [], b"n,m\nb: c,1\n\xc3\xa9t\xc3\xa9,2\n,3\nB,4\nb: c,5\n a,6\nb,7\n", 0,
+        "grouped_report", ["--sum", "m"], b"n,m\nb: c,1\n\xc3\xa9t\xc3\xa9,2\n,3\nB,4\nb: c,5\n a,6\nb,7\n", 0,
         b"n,m\n,3\n a,6\nB,4\nb,7\nb: c,6\n\xc3\xa9t\xc3\xa9,2\n", b"",
     ),
     (
-        "grouped_report", [], b"n,m\n5,6\nno\n4294967296,3\n5,7\n1,\x00\n5,18446744073709551616\n5,1,1\n\xff,\xff\n", 1,
+        "grouped_report", ["--sum", "2"], b"n,m\n5,6\nno\n4294967296,3\n5,7\n1,\x00\n5,18446744073709551616\n5,1,1\n\xff,\xff\n", 1,
         b"n,m\n4294967296,3\n5,13\n",
         said(
-            "grouped_report", (3, WIDTH), (6, NO_AMOUNT), (7, NO_AMOUNT), (8, b"it has 3 fields, the first record 2"), (9, NO_AMOUNT),
+            "grouped_report", (3, WIDTH), (6, no_amount(rb'"\0"')), (7, no_amount(b'"18446744073709551616"')),
+            (8, b"its number of fields is 3, not 2"), (9, no_amount(rb'"\xff"')),
         ),
+    ),
+    (
+        "grouped_report", ["--by", "b", "--by", "a", "--sum", "n", "--sum", "b"],
+        b'a,b,n\nx,2,0.50\n"y""",1,10.6x\n"y""",1,1.50\n"y""",1,0.5\nx,2,\nz,,\n', 1,
+        b'b,a,n,sum_b\n,z,,\n1,"y""",2,2\n2,x,0.5,4\n', said("grouped_report", (3, no_amount(b'"10.6x"'))),
+    ),
+    (
+        "grouped_report", ["--runs", "--by", "2", "--count", "--sum", "1"], b"n,k\r\n1,b\r\n-2.25,b\r\n\r\n7,a\r\n,b", 0,
+        b"k,count,n\nb,2,-1.25\na,1,7\nb,1,\n", b"",
+    ),
+    ("grouped_report", [], b"k\n\"\"\nb\n\"\"\n", 0, b"k,count\n,2\nb,1\n", b""),
+    (
+        "run_length_coder", ["decode"], "".join(f'"{value}",1\n' for value in VALUES).encode(), 1, b"",
+        said("run_length_coder", *enumerate([no_count(it.encode()) for it in SHOWN], 1)),
+    ),
+    # a quote that is never closed is said behind all else
+    (
+        "table_join", ["left"], (b'k,l\n1,2\n0,3\n4,"5\n', b'k,r\n1,2\n"9\n'), 1, b'k,l,r\n1,2,2\n4,"5\n",\n',
+        said("table_join", (3, b'its key "0" is lower than "1", the greatest before it'), file=b"first") + said("table_join", (3, WIDTH))
+        + b"table_join: first: the quote of record 4 is never closed\ntable_join: -: the quote of record 3 is never closed\n",
+    ),
+    (
+        "grouped_report", [], b"k,l\n" + b"x\n" * 101 + b'a,"b\r\n', 1, b"k,count\na,1\n",
+        said("grouped_report", *hundred(WIDTH, 2)) + more("grouped_report", 1)
+        + b"grouped_report: -: the quote of record 103 is never closed\n",
     ),
     # more departments than stand in a block, each three times
     (
-        "grouped_report", ["-n"], b"".join(b"%d,%d\n" % (place * 7919 % 5000, place) for place in range(15_000)), 0,
+        "grouped_report", ["-n", "--sum", "2"], b"".join(b"%d,%d\n" % (place * 7919 % 5000, place) for place in range(15_000)), 0,
         b"".join(
             b"%d,%d\n" % (place * 7919 % 5000, 3 * place + 15_000)
             for place in sorted(range(5000), key=lambda place: str(place * 7919 % 5000))
@@ -88,11 +134,11 @@ CASES = [
     ),
     # rows by department, and departments in order
     (
-        "grouped_report", ["-n"], b"".join(b"%04d,1\n" % (row // 3 % 2000) for row in range(12_000)), 0,
+        "grouped_report", ["-n", "--sum", "2"], b"".join(b"%04d,1\n" % (row // 3 % 2000) for row in range(12_000)), 0,
         b"".join(b"%04d,6\n" % department for department in range(2000)), b"",
     ),
     # a record of 70 MB, which is read in more than a thousand reads
-    ("grouped_report", [], b'n,m\n"' + b"x\n" * 35_000_000 + b'",5\n', 0, b'n,m\n"' + b"x\n" * 35_000_000 + b'",5\n', b""),
+    ("grouped_report", ["--sum", "2"], b'n,m\n"' + b"x\n" * 35_000_000 + b'",5\n', 0, b'n,m\n"' + b"x\n" * 35_000_000 + b'",5\n', b""),
     ("table_join", ["full", "-n"], (b"a,1\nb,2\nb,3", b"b,4\r\nb,5\nc,6"), 0, b"a,1,\nb,2,4\nb,2,5\nb,3,4\nb,3,5\nc,,6\n", b""),
     *(("table_join", [kind], TABLES, 0, rows, b"") for kind, rows in JOINED.items()),
     *(("table_join", [kind], WRONG_TABLES, 1, rows, WRONG_LINES) for kind, rows in JOINED.items()),
@@ -104,31 +150,33 @@ CASES = [
     lower("anti", "é\"\x1b,1\na,2\n", b"", "\"é\"\"\x1b\",1\n", (2, '"a"', r'"é\"\u{1b}"')),
     lower("semi", "b" * 80 + ",1\n" + "a" * 81 + ",2\n" + "é" * 41 + ",3\nc,4\n", b"", b"", (2, f'"{"a" * 80}"..', f'"{"b" * 80}"'), (4, '"c"', f'"{"é" * 40}"..')),
     lower("anti", b"\xff,1\na,2\n", b"", b"\xff,1\n", (2, '"a"', r'"\xff"')),
-    ("table_join", ["-", "-"], b"", 2, b"", b"table_join: both files cannot be standard input\n"),
-    *(("index_reader", words, b"", 2, b"", b"index_reader: both files cannot be standard input\n") for words in (["-"], ["-", "-"])),
+    lower("anti", b"\xff\x1b,1\na,2\n", b"", b"\xff\x1b,1\n", (2, '"a"', r'"\xff\u{1b}"')),
+    lower("semi", f"b,1\n{'a' * 79}é,2\n{'a' * 77}😀,3\n", b"", b"", (2, f'"{"a" * 79}"..', '"b"'), (3, f'"{"a" * 77}"..', '"b"')),
     ("index_reader", ["-n"], (b"3,30\n5,51\r\n5,50\n", b"5\n4\n+3"), 0, b"5,51\n5,50\n3,30\n", b""),
     ("index_reader", [], (b"k,p\n1,2\n", b"k\n1\n"), 0, b"k,p\n1,2\n", b""),
     (
-        "index_reader", [], (b"k,p\n5,1\nno\n\xff,2\n-5,3\n6,x\n4,4\n--,\n", b"k\n--\n\xff\n"), 1, b"k,p\n",
+        "index_reader", [], (b"k,p\n5,1\nno\n\xff,2\n-5,3\n6,x\n4,4\n--,\nx,\xff\n7,\xff\n", b"k\n--\n\xff\n"), 1, b"k,p\n",
         said(
-            "index_reader", (3, WIDTH), (4, NO_KEY), (5, NO_KEY), (6, b"its place is no number of 64 bits"), (7, LOWER % (4, 5)), (8, NO_KEY),
+            "index_reader", (3, WIDTH), (4, NO_KEY), (5, NO_KEY), (6, NO_PLACE), (7, LOWER % (4, 5)), (8, NO_KEY), (9, NO_KEY), (10, NO_PLACE),
             file=b"first",
         ) + said("index_reader", (2, NO_QUERY), (3, NO_QUERY)),
     ),
     *((name, ["\udcff"], b"", 2, b"", b"%s: an argument is not UTF-8\n" % name.encode()) for name in NAMES),
-    # of a hundred lines of a file each is complained of, and the others are counted
-    ("run_length_coder", ["decode"], b"x\n" * 100, 1, b"", said("run_length_coder", *hundred(NO_RUN))),
-    ("run_length_coder", ["decode"], b"x\n" * 102, 1, b"", said("run_length_coder", *hundred(NO_RUN)) + b"run_length_coder: -: 2 more lines are left out\n"),
-    ("grouped_report", [], b"n,m\n" + b"x,\n" * 101, 1, b"n,m\n", said("grouped_report", *hundred(NO_AMOUNT, 2)) + b"grouped_report: -: 1 more line is left out\n"),
+    # of a hundred records of a file each is complained of, and the others are counted
+    ("run_length_coder", ["decode"], b"x\n" * 100, 1, b"", said("run_length_coder", *hundred(WIDTH))),
+    ("run_length_coder", ["decode"], b"x\n" * 1200, 1, b"", said("run_length_coder", *hundred(WIDTH)) + more("run_length_coder", 1100)),
+    (
+        "grouped_report", ["--sum", "2"], b"n,m\n" + b"x,x\n" * 101, 1, b"n,m\n",
+        said("grouped_report", *hundred(no_amount(b'"x"'), 2)) + more("grouped_report", 1),
+    ),
     (
         "table_join", [], (b"k,l\n" + b"x\n" * 101, b"k,r\n" + b"x\n" * 112), 1, b"k,l,r\n",
-        said("table_join", *hundred(WIDTH, 2), file=b"first") + said("table_join", *hundred(WIDTH, 2))
-        + b"table_join: first: 1 more line is left out\ntable_join: -: 12 more lines are left out\n",
+        said("table_join", *hundred(WIDTH, 2), file=b"first") + said("table_join", *hundred(WIDTH, 2)) + more("table_join", 1, "first") + more("table_join", 12),
     ),
     (
         "index_reader", [], (b"k,p\n" + b"x,1\n" * 102, b"k\n" + b"x\n" * 101), 1, b"k,p\n",
-        said("index_reader", *hundred(NO_KEY, 2), file=b"first") + b"index_reader: first: 2 more lines are left out\n"
-        + said("index_reader", *hundred(NO_QUERY, 2)) + b"index_reader: -: 1 more line is left out\n",
+        said("index_reader", *hundred(NO_KEY, 2), file=b"first") + more("index_reader", 2, "first")
+        + said("index_reader", *hundred(NO_QUERY, 2)) + more("index_reader", 1),
     ),
 ]
 
@@ -143,42 +191,60 @@ LONG_ROWS = b"".join(
 DEPARTMENTS = [row ** 3 % 1_000_003 % 7 for row in range(200_000)]
 
 # Files that cannot be read, how they are named, and why.
-UNREADABLE = [("miss\ning\x1b\x7fé", r"miss\ning\u{1b}\u{7f}é", 2), (".", ".", 21)]
+UNREADABLE = [("miss\ning\x1b\x7fé", r"miss\ning\u{1b}\u{7f}é", 2), (".", ".", 21), ("", "", 2)]
 
-# A file whose name has control characters, and what is said of it.
-NAMED_LINES = (
-    "grouped_report", "a\r\nb\x85é", b"n,m\nno,x\n",
-    r"grouped_report: a\r\nb\u{85}é: line 2 is left out: its amount is no number of 64 bits".encode() + b"\n",
-)
+# A file whose name has control characters, and why a record of it is left out.
+NAMED_RECORDS = [
+    (name, words, "a\r\nb\x85é", b"1,2\nno\n", rf"{name}: a\r\nb\u{{85}}é: record 2 is left out: {why.decode()}".encode() + b"\n")
+    for name, words, why in [
+        ("grouped_report", [], WIDTH), ("run_length_coder", ["decode"], WIDTH), ("table_join", ["/dev/null"], WIDTH),
+        ("index_reader", ["/dev/null"], NO_QUERY),
+    ]
+]
 
-# What is said before standard input ends: the arguments, of which a file `first` may be one, that file, and what standard input has.
+# What is said, and what is written, before standard input ends: the arguments, of which a file `first` may be one, that file, and what
+# standard input has.
 AT_ONCE = [
-    ("run_length_coder", ["decode"], b"", b"no\nno\n", said("run_length_coder", (1, NO_RUN), (2, NO_RUN))),
-    ("grouped_report", [], b"", b"n,m\na,no\nb,no\n", said("grouped_report", (2, NO_AMOUNT), (3, NO_AMOUNT))),
-    ("table_join", ["first", "-"], b"k,l\n", b"k,r\nno\nno\n", said("table_join", (2, WIDTH), (3, WIDTH))),
-    ("index_reader", ["first"], b"k,p\n", b"k\nno\nno\n", said("index_reader", (2, NO_QUERY), (3, NO_QUERY))),
+    ("run_length_coder", ["decode"], b"", b"no\n" * 3, said("run_length_coder", *hundred(WIDTH)[:3]), b""),
+    ("grouped_report", ["--sum", "2"], b"", b"n,m\n" + b"a,no\n" * 3, said("grouped_report", *hundred(no_amount(b'"no"'), 2)[:3]), b""),
+    ("table_join", ["first", "-"], b"k,l\n", b"k,r\n" + b"no\n" * 3, said("table_join", *hundred(WIDTH, 2)[:3]), b""),
+    ("index_reader", ["first"], b"k,p\n", b"k\n" + b"no\n" * 3, said("index_reader", *hundred(NO_QUERY, 2)[:3]), b""),
     # how many more there are is said where the file ends
     (
         "index_reader", ["first"], b"k,p\n" + b"x,1\n" * 101, b"",
-        said("index_reader", *hundred(NO_KEY, 2), file=b"first") + b"index_reader: first: 1 more line is left out\n",
+        said("index_reader", *hundred(NO_KEY, 2), file=b"first") + more("index_reader", 1, "first"), b"",
     ),
+    # a run is written when another begins
+    ("grouped_report", ["--runs", "--sum", "2"], b"", b"k,n\na,1\na,2\nb,3\n", b"", b"k,n\na,3\n"),
+]
+
+# Inputs whose reads fail at the end, where half of the output is written at least.
+HALVES = [
+    ("run_length_coder", [], b"aaab"),
+    ("run_length_coder", ["decode"], b"1,97\n2,98\n" * 1500),
+    ("grouped_report", ["--runs", "--sum", "2"], b"n,m\na,1\nb,2\nc,3\n"),
+    ("table_join", [], TABLES),
+    ("index_reader", [], (b"k,p\n1,2\n", b"k\n1\n")),
 ]
 
 # Long inputs, what is written of them, and in how many MiB.
 LONG = [
     ("run_length_coder", [], b"ab" * 4_000_000, b"1,97\n1,98\n" * 4_000_000, 8),
-    ("run_length_coder", ["decode"], b"1,97\n1,98\n" * 2_000_000, b"ab" * 2_000_000, 8),
+    ("run_length_coder", ["decode"], b"1,97\n1,98\n" * 5_100_000, b"ab" * 5_100_000, 8),
     # a run of 100 MB
     ("run_length_coder", ["decode"], b"100000000,97\n", b"a" * 100_000_000, 8),
-    ("grouped_report", ["-n"], b"1,1\n2,1\n" * 3_000_000, b"1,3000000\n2,3000000\n", 8),
+    # more than ten million rows
+    ("grouped_report", ["-n", "--sum", "2"], b"1,1\n2,1\n" * 5_100_000, b"1,5100000\n2,5100000\n", 8),
+    # a row of each run: 14 MB if they were kept
+    ("grouped_report", ["-n", "--runs"], ROWS, b"".join(b"%08d,1\n" % key for key in range(780_000)), 8),
     # more than 16 MB of rows if they were never folded
     (
-        "grouped_report", ["-n"], b"".join(b"%d,1\n" % department for department in DEPARTMENTS),
+        "grouped_report", ["-n", "--sum", "2"], b"".join(b"%d,1\n" % department for department in DEPARTMENTS),
         b"".join(b"%d,%d\n" % (department, DEPARTMENTS.count(department)) for department in range(7)), 8,
     ),
     # 44 MB if entries were folded late
     (
-        "grouped_report", ["-n"], b"".join(b"%05d,1\n" % (row * 7919 % 20_000) for row in range(300_000)),
+        "grouped_report", ["-n", "--sum", "2"], b"".join(b"%05d,1\n" % (row * 7919 % 20_000) for row in range(300_000)),
         b"".join(b"%05d,15\n" % department for department in range(20_000)), 24,
     ),
     ("table_join", ["-n"], (b"k,v\n" * 2000, b"k,w\n" * 2000), b"k,v,w\n" * 4_000_000, 8),
@@ -207,10 +273,14 @@ WRONG_ARGUMENTS = [
     ("run_length_coder", ["nofile", "more"], "the subcommand 'more' cannot be used with '[FILE]'"),
     ("run_length_coder", ["decode", "nofile", "more"], "unexpected argument 'more' found"),
     ("index_reader", [], "the following required arguments were not provided:\n  <INDEX>"),
+    ("table_join", ["nofile"], "the following required arguments were not provided:\n  <LEFT>"),
+    ("table_join", ["rihgt", "nofile", "nofile"], "the kind must be inner, left, full, semi or anti"),
+    ("table_join", ["-", "-"], "both files cannot be standard input"),
+    *(("index_reader", words, "both files cannot be standard input") for words in (["-"], ["-", "-"])),
     ("index_reader", ["nofile", "nofile", "more"], "unexpected argument 'more' found"),
     *(
         (name, ["-d", delimiter, "nofile", "nofile"][: 4 - (name == "grouped_report")],
          "the delimiter must be one ASCII character, and no quote, carriage return or line feed")
-        for name in NAMES[2:] for delimiter in ("", "ab", '"', "\n", "é")
+        for name in NAMES[2:] for delimiter in ("", "ab", '"', "\n", "\r", "é")
     ),
 ]

@@ -16,11 +16,11 @@ static ssize_t fails(long code) {
     return -1;
 }
 
-// ONE_BY_ONE: each call takes one byte, and is interrupted three times before it does. Behind `at` bytes each call fails by the code `error`.
+// ONE_BY_ONE: each call takes one byte, and is interrupted seven times before it does. Behind `at` bytes each call fails by the code `error`.
 static ssize_t call(long way, int fd, void *buffer, size_t count, long at, long error) {
     static long taken[2], calls[2];
     if (number("ONE_BY_ONE")) {
-        calls[way] = (calls[way] + 1) % 4;
+        calls[way] = (calls[way] + 1) % 8;
         if (calls[way]) return fails(EINTR);
         if (count > 1) count = 1;
     }
