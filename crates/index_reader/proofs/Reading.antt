@@ -1,5 +1,5 @@
 -- What is read of an index and of queries, and what is written.
-use Rattle.std.proofs.Common.{◌≡◌, ◌≢◌, ℕ, List, Bool, ◌&&◌, Option, None, Some, IfSome, length, option_map}
+use Rattle.std.proofs.Common.{◌≡◌, ◌≢◌, ℕ, List, Bool, ◌&&◌, Option, None, Some, IfSome, option_map}
 use Rattle.csv.specs.declared.writer.Writer.{Writer}
 use Rattle.program_parts.specs.Columns.{IsPlace}
 use Rattle.program_parts.specs.Records.{Record, width_in, names_in, rows_of}

@@ -1,5 +1,5 @@
 -- What a run reads and writes.
-use Rattle.std.specs.Prelude.{◌≡◌, ℕ, List, [], ◌∷◌, ◌++◌, length, Bool, ◌&&◌, Option}
+use Rattle.std.specs.Prelude.{◌≡◌, ℕ, List, [], ◌∷◌, ◌++◌, Bool, ◌&&◌, Option}
 use Rattle.csv.specs.declared.writer.Writer.{Writer}
 use Rattle.program_parts.specs.Columns.{IsColumn}
 use Rattle.program_parts.specs.Records.{Record, width_in, names_in, rows_of}

@@ -1,4 +1,4 @@
-use Rattle.std.proofs.Common.{◌≡◌, ◌++◌, ℕ, IfSome, List, length, option_map}
+use Rattle.std.proofs.Common.{◌≡◌, ◌++◌, ℕ, IfSome, List, option_map}
 use Rattle.program_parts.specs.Records.{rows_of, width_in}
 use Rattle.program_parts.specs.RecordsKept.{HasKept}
 use Rattle.program_parts.specs.RecordsLeft.{width_of}
