@@ -9,3 +9,4 @@ pub mod ReadBack
 pub mod Fields
 pub mod Reported
 pub mod Written
+pub mod Moves

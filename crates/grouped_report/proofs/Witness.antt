@@ -11,7 +11,7 @@ use Rattle.std.proofs.lemmas.List.Sorted.{IsPermutation-append_left, IsPermutati
 use Rattle.slice_group_by.specs.Split.{concat}
 use Rattle.slice_merge_join.specs.Merge.{AllStand, Climbs, IsBelow, IsSortedFor, Merges, Part, lefts, rights}
 use Rattle.grouped_report.specs.Groups.{Row, Summary, group_cmp, with_rows}
-use Rattle.grouped_report.specs.Sums.{IsOf, IsSummed, combine, sum_cmp, together}
+use Rattle.grouped_report.specs.Sums.{IsOf, IsOneOfEach, IsSummed, combine, sum_cmp, together}
 use Rattle.grouped_report.proofs.Adding.{summary_both, summary_longer}
 use Rattle.grouped_report.proofs.Orders.{cmp_itself, cmp_same, fields_total, less_not_back}
 use Rattle.grouped_report.proofs.Lists.{AllBeside, all_append, all_contained, all_front, all_rest, all_where, ascend_across, ascend_front}
@@ -80,13 +80,7 @@ groups_joined [] hs (s ∷ ss) ts l r = absurd l
 groups_joined (g ∷ gs) hs [] ts l r = absurd l
 groups_joined (g ∷ gs) hs (s ∷ ss) ts l r = (l.0, groups_joined gs hs ss ts l.1 r)
 
--- where both sides have summaries, each has one, of the same group
-abbrev OneOfEach : List Summary → List Summary → Type 0
-OneOfEach [] bs = Unit {0}
-OneOfEach (a ∷ as') [] = Unit {0}
-OneOfEach (a ∷ as') (b ∷ bs) = (as' ≡ []) × (bs ≡ []) × (a.group ≡ b.group)
-
-rows_together : (gs hs : List (List Row)) (as' bs : List Summary) → OneOfEach as' bs → AllZip IsOf gs as' → AllZip IsOf hs bs
+rows_together : (gs hs : List (List Row)) (as' bs : List Summary) → IsOneOfEach as' bs → AllZip IsOf gs as' → AllZip IsOf hs bs
     → (ks : List (List Row)) × AllZip IsOf ks (together as' bs) × IsPermutation (concat gs ++ concat hs) (concat ks)
 rows_together [] hs [] bs one l r = (hs, r, IsPermutation-refl (concat hs))
 rows_together (g ∷ gs) hs [] bs one l r = absurd l
@@ -129,7 +123,7 @@ Parts = List (Part Summary Summary)
 abbrev pub sums_of : Parts → List Summary
 sums_of ps = flat_map (λ p. together (lefts p) (rights p)) ps
 
-rows_of_parts : (ps : Parts) (gs hs : List (List Row)) → AllByRecursion (λ p. OneOfEach (lefts p) (rights p)) ps
+rows_of_parts : (ps : Parts) (gs hs : List (List Row)) → AllByRecursion (λ p. IsOneOfEach (lefts p) (rights p)) ps
     → AllZip IsOf gs (flat_map lefts ps) → AllZip IsOf hs (flat_map rights ps)
     → (ks : List (List Row)) × AllZip IsOf ks (sums_of ps) × IsPermutation (concat gs ++ concat hs) (concat ks)
 rows_of_parts [] [] [] one l r = ([], tt, IsPermutation-refl [])
@@ -219,7 +213,7 @@ single a b (a' ∷ as') up same =
     let itself = cmp_itself b.group in cc
 
 one_of_each : (as' bs : List Summary) → IsStrictlySortedBy sum_cmp as' → IsStrictlySortedBy sum_cmp bs → AllStand sum_cmp Equal as' bs
-    → OneOfEach as' bs
+    → IsOneOfEach as' bs
 one_of_each [] bs l r equal = tt
 one_of_each (a ∷ as') [] l r equal = tt
 one_of_each (a ∷ as') (b ∷ bs) l r equal = (
@@ -230,7 +224,7 @@ one_of_each (a ∷ as') (b ∷ bs) l r equal = (
 
 all_one : (ps : Parts) → AllByRecursion (λ p. AllStand sum_cmp Equal (lefts p) (rights p)) ps
     → IsStrictlySortedBy sum_cmp (flat_map lefts ps) → IsStrictlySortedBy sum_cmp (flat_map rights ps)
-    → AllByRecursion (λ p. OneOfEach (lefts p) (rights p)) ps
+    → AllByRecursion (λ p. IsOneOfEach (lefts p) (rights p)) ps
 all_one [] equal l r = tt
 all_one (p ∷ ps) equal l r = (
   one_of_each (lefts p) (rights p) (ascend_front sum_cmp (lefts p) (flat_map lefts ps) l)
@@ -238,6 +232,12 @@ all_one (p ∷ ps) equal l r = (
       equal.0,
   all_one ps equal.1 (ascend_rest sum_cmp (lefts p) (flat_map lefts ps) l) (ascend_rest sum_cmp (rights p) (flat_map rights ps) r),
 )
+
+pub ones_of_merge : (old fresh : List Summary) (ps : Parts) → Merges sum_cmp old fresh ps → IsStrictlySortedBy sum_cmp old
+    → IsStrictlySortedBy sum_cmp fresh → AllByRecursion (λ p. IsOneOfEach (lefts p) (rights p)) ps
+ones_of_merge old fresh ps merge l r =
+    all_one ps merge.equal (subst (IsStrictlySortedBy sum_cmp) (sym merge.covers_left) l)
+    (subst (IsStrictlySortedBy sum_cmp) (sym merge.covers_right) r)
 
 -- two lists that ascend have a merge
 pub have_merge : (ss ts : List Summary) → IsStrictlySortedBy sum_cmp ss → IsStrictlySortedBy sum_cmp ts → IsSortedFor sum_cmp ss ts
@@ -266,7 +266,7 @@ pub merged_summed : (rows waiting sorted : List Row) (old fresh : List Summary) 
 merged_summed rows waiting sorted old fresh hs ps merge summed moved cover are up =
     let l = subst (IsStrictlySortedBy sum_cmp) (sym merge.covers_left) summed.ascend in
     let r = subst (IsStrictlySortedBy sum_cmp) (sym merge.covers_right) up in
-    let (ks, all, moves) = rows_of_parts ps summed.groups hs (all_one ps merge.equal l r)
+    let (ks, all, moves) = rows_of_parts ps summed.groups hs (ones_of_merge old fresh ps merge summed.ascend up)
     (subst (AllZip IsOf summed.groups) (sym merge.covers_left) summed.are_of) (subst (AllZip IsOf hs) (sym merge.covers_right) are) in
     record {
       groups = ks;

@@ -1,9 +1,10 @@
 -- Summaries of rows in any order.
-use Rattle.std.specs.Prelude.{◌≡◌, ◌≢◌, ◌+◌, List, [], ◌∷◌, ◌++◌}
+use Rattle.std.specs.Prelude.{◌≡◌, ◌≢◌, ℕ, ◌+◌, List, [], ◌∷◌, ◌++◌, length}
 use Rattle.std.specs.List.{AllByRecursion, AllZip}
 use Rattle.std.specs.List.Sorted.{IsPermutation, IsStrictlySortedBy}
 use Rattle.std.specs.declared.cmp.Ordering.{Ordering}
 use Rattle.slice_group_by.specs.Split.{concat}
+use Rattle.slice_merge_join.specs.Merge.{Part, lefts, rights}
 use Rattle.grouped_report.specs.Groups.{Row, Summary, add, group_cmp, summary}
 
 -- how the groups of two summaries stand to one another
@@ -32,3 +33,13 @@ abbrev pub together : List Summary → List Summary → List Summary
 together [] bs = bs
 together (a ∷ as') [] = a ∷ as'
 together (a ∷ as') (b ∷ bs) = combine a b ∷ []
+
+-- where both sides have summaries, each has one, of the same group
+abbrev pub IsOneOfEach : List Summary → List Summary → Type 0
+IsOneOfEach [] bs = Unit {0}
+IsOneOfEach (a ∷ as') [] = Unit {0}
+IsOneOfEach (a ∷ as') (b ∷ bs) = (as' ≡ []) × (bs ≡ []) × (a.group ≡ b.group)
+
+-- how many left summaries a part has, and how many right ones
+abbrev pub counts_of : Part Summary Summary → ℕ × ℕ
+counts_of p = (length (lefts p), length (rights p))

@@ -4,7 +4,7 @@ ghost use Rattle.grouped_report.specs.Groups.{add, group_cmp, plus, same_fields,
 ghost use Rattle.grouped_report.specs.Sums as Sum;
 
 use crate::row::{Row, copy_fields};
-use std::alloc::{AllocError, Global};
+use std::alloc::Global;
 use std::cmp::Ordering;
 use std::io;
 use std::marker::Model;
@@ -124,17 +124,6 @@ impl Summary {
         };
         self.count = count;
         Ok(())
-    }
-
-    /// A copy to keep.
-    pub fn copy(&self, alloc: Global) -> Result<Summary, AllocError>
-        ensures { IfOk result (λ copy. copy ≡ self.now) }
-    {
-        Ok(Summary {
-            group: copy_fields(alloc, &self.group)?,
-            count: self.count,
-            sums: Vec::from_slice(alloc, &self.sums)?,
-        })
     }
 }
 

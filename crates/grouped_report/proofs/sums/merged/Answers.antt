@@ -1,19 +1,24 @@
-use Rattle.std.proofs.Common.{rules, ap, sym, ◌∙◌, subst, List}
-use Rattle.std.proofs.lemmas.Fn.{always_returns_same}
-use Rattle.slice_merge_join.specs.Merge.{IsMerge}
-use Rattle.grouped_report.specs.Groups.{Summary}
-use Rattle.grouped_report.specs.Sums.{sum_cmp}
-use Rattle.grouped_report.proofs.Witness.{sums_of}
+use Rattle.std.proofs.Common.{◌≡◌, ◌+◌, ◌∙◌, ◌∷◌, [], sym, add-one, drop-cons, drop_of_length-le, drop, get_or, subst, map}
+use Rattle.std.specs.Vec.Iter.{into_iter_items}
+use Rattle.grouped_report.specs.Sums.{counts_of}
+use Rattle.grouped_report.proofs.Moves.{AreMoved, all_moved, part_moved}
 use Rattle.grouped_report.proofs.sums.merged.Goals as goal
 
+pub loop-count-preserved : goal.loop-count-preserved
+loop-count-preserved c ps ones l r counted =
+    let counts = c.deref-count-items.result.now in
+    let k = c.loop-count.count-index in
+    let left = into_iter_items c.loop-count.left in
+    let right = into_iter_items c.loop-count.right in
+    let cut : drop k counts ≡ get_or counts k (0, 0) ∷ drop (k + 1) counts = rw add-one (drop-cons counts k (0, 0) c.loop-count-test.true) in
+    let at = subst (AreMoved ps c.loop-count.sums.items left right) cut (c.loop-count.invariant ps ones l r counted) in
+    part_moved ps _ _ left _ right _ (get_or counts k (0, 0)) (drop (k + 1) counts) at c.in_ok-push_together.ensures
+
 pub returns : goal.returns
-returns c ps merge =
-    let join = c.new-join.result in
-    let sides = c.new-join.ensures.sides in
-    let merge' : IsMerge sum_cmp join.left.now join.right.now ps =
-    subst (λ (xs : List Summary). IsMerge sum_cmp xs join.right.now ps) (sym (λ i. (sides i).left))
-    (subst (λ (ys : List Summary). IsMerge sum_cmp c.args.left.now ys ps) (sym (λ i. (sides i).right)) merge) in
-    let yielded = rw c.into_iter-part-iterator.ensures.into_iter_gives at c.loop-part.yielded_by in
-    c.loop-part.invariant ∙ ap sums_of (c.sees_merge.ensures.whole sum_cmp join ps c.loop-part.yielded
-    (c.always_compares.ensures.answers sum_cmp _ _ _ (always_returns_same _ _ _ (λ a r f' k. search rules))) merge'
-    (c.next.new.self, (_, yielded, c.in-None.ensures.steps)))
+returns c ps merge ones =
+    let counts = c.deref-count-items.result.now in
+    let counted : counts ≡ map counts_of ps = c.deref-count-items.ensures.value
+    ∙ c.in_ok-counts.ensures ps (rw (c.deref.ensures.value, c.deref-2.ensures.value) merge) in
+    let none : drop c.loop-count.count-index counts ≡ [] = drop_of_length-le counts c.loop-count-test.false in
+    all_moved ps _ _ _ (rw none at c.loop-count.invariant ps ones (c.into_iter-left.ensures.rest ∙ sym merge.merges.covers_left)
+    (c.into_iter-right.ensures.rest ∙ sym merge.merges.covers_right) counted)

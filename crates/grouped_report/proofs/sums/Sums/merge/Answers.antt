@@ -8,7 +8,7 @@ use Rattle.grouped_report.specs.Groups.{group_cmp, group_of, same_group, summary
 use Rattle.grouped_report.specs.Sums.{sum_cmp}
 use Rattle.grouped_report.proofs.Orders.{fields_total}
 use Rattle.grouped_report.proofs.Pieces.{of_sorted}
-use Rattle.grouped_report.proofs.Witness.{have_merge, merged_summed}
+use Rattle.grouped_report.proofs.Witness.{have_merge, merged_summed, ones_of_merge}
 use Rattle.grouped_report.proofs.sums.Sums.merge.Goals as goal
 
 pub returns-clause-summed : goal.returns-clause-summed
@@ -21,7 +21,7 @@ returns-clause-summed c rows summed =
     let old = c.args.self.now.sums.items in
     let fresh = map summary (group_split same_group sorted) in
     let (are, ascend) = of_sorted sorted _ split up in
-    let m = rw (c.deref-2.ensures.value, c.deref-3.ensures.value, c.in_ok-sums.ensures, c.deref.ensures.value) at c.in_ok-self.ensures in
+    let m = rw (c.replace-old.ensures.value, c.in_ok-sums.ensures, c.deref.ensures.value) at c.in_ok-self.ensures in
     let (ps, merge) = c.one_merge.ensures.sorted sum_cmp old fresh (have_merge old fresh summed.ascend ascend) in
-    rw (m ps merge) (merged_summed rows _ sorted old fresh _ ps merge.merges summed
+    rw (m ps merge (ones_of_merge old fresh ps merge.merges summed.ascend ascend)) (merged_summed rows _ sorted old fresh _ ps merge.merges summed
     c.in_ok-sort_by.ensures.permutation split.covers are ascend)
