@@ -116,7 +116,7 @@ impl Row {
 pub fn copy_fields(alloc: Global, fields: &[Vec<u8>]) -> Result<Vec<Vec<u8>>, AllocError>
     ensures { IfOk result (λ copy. map (λ field. field.items) copy.items ≡ map (λ field. field.items) fields.now) }
 {
-    let mut copy = Vec::new(alloc);
+    let mut copy = Vec::with_capacity(alloc, fields.len())?;
     for field in fields {
         copy.push(Vec::from_slice(alloc, field)?)?;
     }
