@@ -1,5 +1,6 @@
 -- Fields, as their vectors hold them.
-use Rattle.std.proofs.Common.{◌≡◌, ℕ, List, [], ◌∷◌, ◌++◌, map, length, false, ◌==◌, if◌then◌else◌, take, Bool, Bor, ◌+◌, ◌<◌, get_or, Option, None, Some, zero, suc, arith}
+use Rattle.std.proofs.Common.{◌≡◌, ℕ, List, [], ◌∷◌, ◌++◌, map, length, false, ◌==◌, if◌then◌else◌, take, Bool, Bor, ◌+◌, ◌<◌}
+use Rattle.std.proofs.Common.{get_or, Option, None, Some, zero, suc, arith}
 use Rattle.std.proofs.Common.{sym, ap, ◌∙◌, append_assoc}
 use Rattle.std.specs.Prelude.{codes}
 use Rattle.std.proofs.lemmas.List.{map-append, take_more}
@@ -25,12 +26,6 @@ pub names_row : (counts : Bool) (places : Places) (names row : Record) → (leng
 names_row counts places [] row some is = cc
 names_row counts places (name ∷ names) row some is = ap (λ (r : Record). r ∷ []) is
 
--- one more on each side
-pub one_more : {A B C : Type 0} (f : A → C) (g : B → C) (xs xs' : List A) (ys ys' : List B) (x : A) (y : B) → xs' ≡ xs ++ x ∷ []
-    → ys' ≡ ys ++ y ∷ [] → map f xs ≡ map g ys → f x ≡ g y → map f xs' ≡ map g ys'
-one_more f g xs xs' ys ys' x y next pushed all one =
-    ap (map f) next ∙ map-append f xs (x ∷ []) ∙ (λ i. all i ++ one i ∷ []) ∙ sym (map-append g ys (y ∷ [])) ∙ ap (map g) (sym pushed)
-
 -- one field more
 pub fields_more : {X : Type 0} (f : X → List ℕ) (start now new : Record) (partial text : List ℕ) (xs : List X) (i : ℕ) (x : X)
     → take (i + 1) xs ≡ take i xs ++ x ∷ [] → now ≡ start ++ map f (take i xs) → partial ≡ [] → text ≡ f x
@@ -40,8 +35,8 @@ fields_more f start now new partial text xs i x next so_far none is pushed =
     ∙ ap (λ l. start ++ l) (sym (map-append f (take i xs) (x ∷ [])) ∙ ap (map f) (sym next)))
 
 -- a field that is no amount
-pub none_at : {X : Type 0} (f : ℕ → Option X) (places : List ℕ) (i d : ℕ) → i < length places → f (get_or places i d) ≡ None → (other : List X)
-    → map f places ≡ map (λ amount. Some amount) other → ⊥
+pub none_at : {X : Type 0} (f : ℕ → Option X) (places : List ℕ) (i d : ℕ) → i < length places → f (get_or places i d) ≡ None
+    → (other : List X) → map f places ≡ map (λ amount. Some amount) other → ⊥
 none_at f [] i d l none other all = absurd (omega (arith, l))
 none_at f (p ∷ ps) zero d l none [] all = cc
 none_at f (p ∷ ps) zero d l none (a ∷ as') all = cc

@@ -20,10 +20,12 @@ module _ {W : Type 0} (contents : W → Option (List ℕ)) (counts : Bool) (befo
   pub more_written : (written more : List Summary) → Writes contents before after (map (summary_row counts) written)
       → Writes contents after end (map (summary_row counts) more) → Writes contents before end (map (summary_row counts) (written ++ more))
   more_written written more first then =
-      subst (Writes contents before end) (sym (map-append (summary_row counts) written more)) (writes_both contents before after end _ _ first then)
+      subst (Writes contents before end) (sym (map-append (summary_row counts) written more))
+      (writes_both contents before after end _ _ first then)
 
   -- where the open group is closed too, the rows of all groups are written
-  pub all_written : (current : Option Summary) (closed written : List Summary) (came : List Row) → IsSplit same_group came (split same_group came)
+  pub all_written : (current : Option Summary) (closed written : List Summary) (came : List Row)
+      → IsSplit same_group came (split same_group came)
       → (written ++ closed) ++ option_to_list current ≡ flat_map (λ g. option_to_list (summary_if g)) (split same_group came)
       → Writes contents before after (map (summary_row counts) written)
       → Writes contents after end (map (summary_row counts) (closed ++ option_to_list current))

@@ -28,8 +28,8 @@ pub fn read_amount(field: &[u8]) -> Option<Option<i128>>
     Some(Some(parse_amount(field)?))
 }
 
-/// The amount that a text is: a sign perhaps, digits, and perhaps a point and one to nine digits more.
-pub fn parse_amount(text: &[u8]) -> Option<i128>
+// The amount that a text is: a sign perhaps, digits, and perhaps a point and one to nine digits more.
+fn parse_amount(text: &[u8]) -> Option<i128>
     ensures { result ≡ amount_of text.now }
 {
     let (is_negative, digits) = cut_sign(text);
@@ -102,8 +102,8 @@ pub fn push_sum(sum: Option<i128>, text: &mut Vec<u8>) -> Result<(), AllocError>
     }
 }
 
-/// Puts the text of an amount behind a text: with no point if it is whole, and else with no zero at the end.
-pub fn push_amount(amount: i128, text: &mut Vec<u8>) -> Result<(), AllocError>
+// Puts the text of an amount behind a text: with no point if it is whole, and else with no zero at the end.
+fn push_amount(amount: i128, text: &mut Vec<u8>) -> Result<(), AllocError>
     ensures { OnOk result (text.new.items ≡ text.old.items ++ amount_text amount) }
 {
     if amount < 0 {

@@ -106,7 +106,8 @@ impl RecordKeeper for RunKeeper {
     ghost says = { λ setting. Says setting.0 };
 
     ghost keeps = { λ setting keeper rows. (keeper.places ≡ setting.0)
-        × ClosedSoFar same_group summary_if option_to_list (last rows) (setting.1 ++ keeper.groups.closed.items) keeper.groups.current rows };
+        × ClosedSoFar same_group summary_if option_to_list (last rows) (setting.1 ++ keeper.groups.closed.items)
+        keeper.groups.current rows };
 
     fn keep(&mut self, row: &mut ByteRecord) -> io::Result<Result<(), String>> {
         if let Some(wrong) = read_row(row, &self.places, &mut self.row)? {

@@ -18,11 +18,6 @@ pub gives_none : (a : Option (List Record)) → Gives a a []
 gives_none None = tt
 gives_none (Some rows) = refl
 
--- what is known of a value that was made from another
-pub some_of : {X Y : Type 0} (f : X → Y) (P : Y → Type 0) (o : Option X) → IfSome (option_map f o) P → IfSome o (λ x. P (f x))
-some_of f P None h = tt
-some_of f P (Some x) h = h
-
 module _ {A : Type 0} (Says : List A → Record → A → Type 0) where
   -- with one record more, that says x, or nothing
   kept_more : (before : List A) (given : List Record) (kept : List A) (row : Record) (x : A) → AreKept Says before given kept

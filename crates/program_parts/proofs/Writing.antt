@@ -44,8 +44,3 @@ module _ {W : Type 0} (contents : W → Option (List ℕ)) where
   writes_one_more a b c f xs i x next p q =
       let e = ap (map f) next ∙ map-append f (take i xs) (x ∷ []) in
       subst (Writes contents a c) (sym e) (writes_both a b c _ _ p q)
-
--- the same rows, in another form
-pub writes_same : {W T E : Type 0} (contents : W → Option (List ℕ)) (a b : Writer W) (rows rows' : List Record) (r : Result T E)
-    → rows ≡ rows' → OnOk r (Writes contents a b rows) → OnOk r (Writes contents a b rows')
-writes_same contents a b rows rows' r same h = subst (λ rows. OnOk r (Writes contents a b rows)) same h

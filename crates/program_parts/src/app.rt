@@ -40,10 +40,11 @@ pub fn main_of<A: App>(rt: &HostRuntime) -> ExitCode {
 fn start<A: App>(rt: &HostRuntime) -> io::Result<u8> {
     let words = match env::args(rt) {
         Ok(words) => words.skip(1).collect::<Vec<String>>(rt.alloc())?,
-        Err(_) => {
+        Err(error) if error.kind() == io::ErrorKind::InvalidData => {
             let _ = writeln!(rt.stderr(), "{}: an argument is not UTF-8", A::NAME);
             return Ok(2);
         }
+        Err(error) => return Err(error),
     };
     let command = plain_command(rt.alloc(), A::NAME, A::ABOUT);
     let mut command = A::arguments(rt.alloc(), command)?;

@@ -7,4 +7,5 @@ use Rattle.grouped_report.proofs.reading.push_amounts.Given as goal
 abbrev pub invariant-loop-place : goal.invariant-loop-place
 invariant-loop-place l =
     (l.row.group ≡ l.initial.row.group)
-    × (map (λ place. amount_in (field (fields_of l.fields) place)) (take l.place-index l.places) ≡ map (λ amount. Some amount) l.row.amounts)
+    × (map (λ place. amount_in (field (fields_of l.fields) place)) (take l.place-index l.places)
+    ≡ map (λ amount. Some amount) l.row.amounts)

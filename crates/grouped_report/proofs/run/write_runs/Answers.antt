@@ -39,7 +39,11 @@ loop-preserved g c =
             written ++ groups.closed.items,
             more_written g.W.Write.contents c.args.counts _ _ _ written groups.closed.items writes c.in_ok-write_closed.ensures.writes,
             places',
-            rw (c.in_ok-write_closed.ensures.none_closed, append-nil (written ++ groups.closed.items), c.in_ok-write_closed.ensures.current) closed',
+            rw (
+              c.in_ok-write_closed.ensures.none_closed,
+              append-nil (written ++ groups.closed.items),
+              c.in_ok-write_closed.ensures.current,
+            ) closed',
             s',
           );
     }
@@ -56,7 +60,8 @@ returns-then-not-branch g c all kept =
     let then = rw (c.deref.ensures.value, c.in_ok-close.ensures.closed) at c.in_ok-write_summaries.ensures in
     record {
       said = rows;
-      are_read = rw (← wide) (all_kept _ all rows (count_of c.keep_next.new.self) c.in_ok-is_whole.is_whole (rw end at s') c.in_ok-is_whole.ensures);
+      are_read = rw (← wide) (all_kept _ all rows (count_of c.keep_next.new.self) c.in_ok-is_whole.is_whole (rw end at s')
+          c.in_ok-is_whole.ensures);
       rows = rows;
       in_order = refl;
       writes = all_written g.W.Write.contents c.args.counts _ _ _ groups.current groups.closed.items written rows

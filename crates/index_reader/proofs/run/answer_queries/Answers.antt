@@ -34,7 +34,8 @@ returns-then-not-found g c =
     let wrote = answers_both g.W.Write.contents c.args.index.now done waiting _ _ _ writes
     (rw c.deref.ensures.value at c.in_ok-answer_block.ensures) in
     let end = c.in_ok-found.ensures.end c.if-not-found.true in
-    let said = all_kept _ _ keys (count_of c.keep_next.new.self) c.in_ok-is_whole.is_whole (rw (is, end) at s') c.in_ok-is_whole.ensures in (
+    let said = all_kept _ _ keys (count_of c.keep_next.new.self) c.in_ok-is_whole.is_whole (rw (is, end) at s')
+    c.in_ok-is_whole.ensures in (
       keys,
       wrote,
       has_queries c.args.source.format (g.R.Read.remaining c.args.source.input) (width_of c.keep_next.new.self) keys _

@@ -26,7 +26,8 @@ returns-then-not-found-clause-any g c =
     let (more, is, s') = c.in_ok-found.ensures.kept done _ _ refl s in
     let wrote = rw c.deref.ensures.value at c.in_ok-write_runs.ensures in
     let end = c.in_ok-found.ensures.end c.if-not-found.true in
-    let said = all_kept _ _ (done ++ waiting) (count_of c.keep_next.new.self) c.in_ok-are_runs.are_runs (rw (is, end) at s') c.in_ok-are_runs.ensures in
+    let said = all_kept _ _ (done ++ waiting) (count_of c.keep_next.new.self) c.in_ok-are_runs.are_runs (rw (is, end) at s')
+    c.in_ok-are_runs.ensures in
     decodes (g.R.Read.remaining c.args.input) _ _ (width_of c.keep_next.new.self) (done ++ waiting) _ (rw c.keep_next.ensures.width width)
     (appends_kept _ _ _ _ (rw (flat_map-append copies done waiting) (appends_both _ _ _ _ _ writes wrote)) c.flush.ensures.bytes) said
 
