@@ -1,7 +1,7 @@
 """CSV that these programs did not write: the program, its arguments, its input (of two inputs the first is a file `first`, the second
 standard input), the rows that it writes and the records of either input that are wrong (below zero: its quote is never closed), and the
 delimiter. Rows are written out by hand, or computed by Python's csv."""
-from reference import MARK, answers, decoded, joined, report
+from reference import KINDS, MARK, answers, decoded, joined, report
 
 # The examples of RFC 4180.
 RFC = [
@@ -48,6 +48,10 @@ def join(words, left, right, expected, delimiter=","):
     return "table_join", words, (left, right), expected, delimiter
 
 
+def answered(words, index, queries, out=(), wrong=((), ()), delimiter=","):
+    return "index_reader", words, (index, queries), (list(out), [list(numbers) for numbers in wrong]), delimiter
+
+
 IDS = [10, 1, 11, 12, 2, 7, 3, 9, 4, 8, 6, 5]
 TOWNS = b"id,town,price\n" + b"".join(b"%d,%s,%d0\n" % (it, [b"Bern", b"Basel"][it % 2], it) for it in IDS)
 NO_AMOUNTS = [b".5", b"5.", b"1e3", b" 1", b"+-1", b"-", b"1.0000000001", b"18446744073709551616", b"1,5", b"\xff"]
@@ -60,19 +64,53 @@ OPEN = [
     ("", "", False),
 ]
 
+# One key too high, and then 300 rows.
+ZZZ = b"k,v\nzzz,1\n" + b"".join(b"%03d,x\n" % it for it in range(1, 301))
+SHEET = b"date,temp\n10,x\n9,y\n"
+# Rows of a hundred keys in no order, more than in a block.
+MANY_ROWS = [
+    b"k,n\n" + b"".join(b"%d,%d\n" % (place * step % 10_007 % 100, place) for place in range(count))
+    for step, count in [(7919, 3000), (31, 200)]
+]
+
 TABLES = [
-    # a left join with no table writes the rows again, but those whose key is lower than one before it
-    *(join(["-n", "left"], text, b"", (rows, [[], []])) for text, rows in zip(RFC, RFC_ROWS) if text != RFC[2]),
-    join(["-n", "left"], RFC[2], b"", ([RFC_ROWS[2][0], RFC_ROWS[2][2]], [[2], []])),
-    *(join(["-n", "left"], b'a,"x' + tail.encode(), b"", ([["a", "x" + value]], [[-1] * is_open, []])) for tail, value, is_open in OPEN),
-    join(["left"], b'k,v\n1,"x\n2,y\n3,z\n', b"", ([["k", "v"], ["1", "x\n2,y\n3,z\n"]], [[-2], []])),
-    join(["left"], b'k,"v\n', b'k,w\n1,2\n1,"3\n', ([["k", "v\n", "w"]], [[-1], [-3]])),
+    # a left join with no table writes the rows again, in order
+    *(join(["-n", "-k", "left"], text, b"", (sorted(rows), [[], []])) for text, rows in zip(RFC, RFC_ROWS)),
+    *(
+        join(["-n", "-k", "left"], b'a,"x' + tail.encode(), b"", ([["a", "x" + value]], [[-1] * is_open, []]))
+        for tail, value, is_open in OPEN
+    ),
+    join(["-k", "left"], b'k,v\n1,"x\n2,y\n3,z\n', b"", ([["k", "v"], ["1", "x\n2,y\n3,z\n"]], [[-2], []])),
+    join(["-k", "left"], b'k,"v\n', b'k,w\n1,2\n1,"3\n', ([["k", "v\n", "w"]], [[-1], [-3]])),
     join(["-d", "\\t"], b'id\tname\n1\t"Foo" Bar\n2\t"Heroes\n3\tx\n', b"id\ty\n1\t90\n2\t91\n3\t92\n",
          ([["id", "name", "y"], ["1", "Foo Bar", "90"], ["2", "Heroes\n3\tx\n", "91"]], [[-3], []]), "\t"),
-    # keys by name
-    join(["--left-key", "town", "--right-key", "2"], b"id,town\n1,b\n", b"2,town\nb,a\n", ([["town", "id", "town"], ["b", "1", "a"]], [[], []])),
+    # keys by name, on both sides; where none is named, the first column, though another has the name `1`
+    join(["--left-key", "town", "--right-key", "2"], b"id,town\n1,b\n", b"2,town\nb,a\n",
+         ([["town", "id", "town_2"], ["b", "1", "a"]], [[], []])),
     join(["--right-key", "town"], b"town,n\nb,1\n", b"id,town\n7,b\n", ([["town", "n", "id"], ["b", "1", "7"]], [[], []])),
-    *(join([kind], RFC[2], RFC[2], joined(kind, RFC[2], RFC[2])) for kind in ("inner", "left", "full", "semi", "anti")),
+    join(["--left-key", "b", "--right-key", "d"], b"a,b\n1,x\n", b"c,d\n2,x\n", ([["b", "a", "c"], ["x", "1", "2"]], [[], []])),
+    join([], b"x,1\na,b\n", b"y,1\na,c\n", ([["x", "1", "1_2"], ["a", "b", "c"]], [[], []])),
+    join(["--left-key", "1"], b"x,1\na,b\n", b"y,1\nb,c\n", ([["1", "x", "1_2"], ["b", "a", "c"]], [[], []])),
+    # several key columns, whose fields are compared one after another, and not what they are together
+    join(["--left-key", "b", "--left-key", "1", "--right-key", "y", "--right-key", "x"],
+         b"a,b,c\n2,k,p\n1,k,q\n1,j,r\n", b"x,y\n1,k\n3,k\n2,k\n", ([["b", "a", "c"], ["k", "1", "q"], ["k", "2", "p"]], [[], []])),
+    join(["-n", "-k", "full", "--left-key", "1", "--left-key", "2", "--right-key", "1", "--right-key", "2"],
+         b"ab,c,1\na,z,2\n", b"ab,,3\na,bc,4\n",
+         ([["a", "bc", "", "4"], ["a", "z", "2", ""], ["ab", "", "", "3"], ["ab", "c", "1", ""]], [[], []])),
+    # one key too high loses no row
+    join([], ZZZ, ZZZ, ([["k", "v", "v_2"], *([f"{it:03}", "x", "x"] for it in range(1, 301)), ["zzz", "1", "1"]], [[], []])),
+    # where the left file is empty the header has the key's name
+    *(join(["-k", kind], b"", b"v,k\n1,2\n", ([["v", "k"], ["1", "2"]], [[], []])) for kind in ("full", "right")),
+    *(join(["-k", kind, "--right-key", "k"], b"", b"v,k\n1,2\n", ([["k", "v"]], [[], []])) for kind in ("inner", "left")),
+    *(join(["-k", kind], b"", b"k,v\n1,2\n", ([], [[], []])) for kind in ("semi", "anti")),
+    *(join(["-k", kind], b"k,v\n", b"", ([["k", "v"]], [[], []])) for kind in KINDS),
+    # no name stands twice
+    join([], SHEET, SHEET, ([["date", "temp", "temp_2"], ["10", "x", "x"], ["9", "y", "y"]], [[], []])),
+    join([], b"k,v,v_2\n", b"k,v,v,k\n", ([["k", "v", "v_2", "v_3", "v_4", "k_2"]], [[], []])),
+    join(["-k", "anti"], b"k,v,v\n1,2,3\n", b"v\n", ([["k", "v", "v_2"], ["1", "2", "3"]], [[], []])),
+    *(join(["-k", kind], text, text, joined(kind, text, text)) for kind in KINDS for text in (RFC[2], TOWNS)),
+    # rows of many keys in any order, those of a key in their order
+    *(join(["-k", kind], *MANY_ROWS, joined(kind, *MANY_ROWS)) for kind in KINDS),
     summed([], SUMS, [["department", "amount"], ["Smith, John", "5"], ["b", "3"]]),
     summed([], MARK + SUMS, [["department", "amount"], ["Smith, John", "5"], ["b", "3"]]),
     summed([], MARK + b'"department",amount\na,1\n', [["department", "amount"], ["a", "1"]]),
@@ -143,23 +181,29 @@ TABLES = [
     grouped(["--by", "town", "--sum", "price"], TOWNS, [["town", "price"], ["Basel", "360"], ["Bern", "420"]]),
     # equal names: a place tells which is meant
     grouped(["--sum", "3"], b"date,temp,temp\nMay,1,2\n", [["date", "temp"], ["May", "2"]]),
-    # an index and queries
-    (
-        "index_reader", [], (b"key,place\r\n3,30\r\n5,51\r\n5,50\r\n", b"key\n5\n4\n+3\n"),
-        ([["key", "place"], ["5", "51"], ["5", "50"], ["3", "30"]], [[], []]), ",",
-    ),
-    ("index_reader", ["--key", "k", "--place", "at"], (b'at,"x, y",k\n7,"",1\n8,"\n",1\n', b"q\n1\n"), ([["k", "at"], ["1", "7"], ["1", "8"]], [[], []]), ","),
-    ("index_reader", ["-n", "-d", ";"], (b"1;2\n", b"1\n"), ([["1", "2"]], [[], []]), ";"),
-    ("index_reader", ["-n"], (b"", b""), ([], [[], []]), ","),
-    ("index_reader", [], (b"", b""), ([], [[], []]), ","),
-    ("index_reader", [], (b"k,p\n", b"k\n1\n"), ([["k", "p"]], [[], []]), ","),
-    (
-        "index_reader", [], (b"k,p\n5,1\nno\n\xff,2\n-5,3\n6,x\n4,4\n", b"k\n--\n\xff\n5\n1,2\n"),
-        ([["k", "p"], ["5", "1"]], [[3, 4, 5, 6, 7], [2, 3, 5]]), ",",
-    ),
+    # an index in any order, and queries
+    answered([], b"key,place\r\n5,51\r\n3,30\r\n5,50\r\n", b"5\n4\n3\n5",
+             [["key", "place"], ["5", "51"], ["5", "50"], ["3", "30"], ["5", "51"], ["5", "50"]]),
+    answered(["--key", "name"], b'at,"x, y",name\n7,"",Bo\n8,"\n",Al\n9,z,Bo\n', b"Al\nBo\nname\n",
+             [["at", "x, y", "name"], ["8", "\n", "Al"], ["7", "", "Bo"], ["9", "z", "Bo"]]),
+    # the names stay as they are, and the first column has the keys, though another has the name `1`
+    answered([], b"k,1,1\na,b,c\nb,a,d\n", b"b\n", [["k", "1", "1"], ["b", "a", "d"]]),
+    # several key columns
+    answered(["--key", "b", "--key", "1"], b"a,b,c\n1,x,p\n11,,q\n1,x,r\n", b"x,1\n,11\n1,x\n1x,\n",
+             [["a", "b", "c"], ["1", "x", "p"], ["1", "x", "r"], ["11", "", "q"]]),
+    answered(["-n", "-d", ";"], b"1;2\n", b"1\n", [["1", "2"]], delimiter=";"),
+    *(answered(words, b"", b"") for words in ([], ["-n"])),
+    answered(["--key", "x", "--key", "y"], b"", b"1,2\n1\n", wrong=[[], [2]]),
+    answered([], b"k,p\n", b"k\n1\n", [["k", "p"]]),
+    answered([], b"k,p\n5,1\nno\n\xff,2\n5,3,\n", b"k\n\xff\n1,2\n5\n", [["k", "p"], ["\xff", "2"], ["5", "1"]], [[3, 5], [3]]),
     # one wrong first record loses nothing else
-    ("index_reader", ["-n"], (b"1,2\n", b"1,2\n1\n"), ([["1", "2"]], [[], [1]]), ","),
-    ("index_reader", [], (b"k,p\n1,2\n", b'q,more\n1\n1,"1\n'), ([["k", "p"], ["1", "2"]], [[], [3, -3]]), ","),
+    answered(["-n"], b"1,2\n", b"1,2\n1\n", [["1", "2"]], [[], [1]]),
+    answered([], b'k,p\n1,2\n"1', b'1\n1,"1\n', [["k", "p"], ["1", "2"]], [[3], [2, -2]]),
+    answered([], ZZZ, b"".join(b"%03d\n" % it for it in range(300, 0, -1)), [["k", "v"], *([f"{it:03}", "x"] for it in range(300, 0, -1))]),
+    *(
+        ("index_reader", [], (MANY_ROWS[0], asked), answers(MANY_ROWS[0], asked), ",")
+        for asked in [b"".join(b"%d\n" % it for it in range(-1, 120)), b"99\n7\n0\n7\n100\n"]
+    ),
     ("run_length_coder", ["decode"], b'2\n3,97\n1,"98\n', (b"aaa", [[1, 3, -3]]), ","),
     # runs that another program wrote
     ("run_length_coder", ["decode"], b'"2","97"\r\n\r\n"1",98', (b"aab", [[]]), ","),
@@ -170,7 +214,7 @@ TABLES = [
 MANY = [f"c{place}" for place in range(1, 22)]
 TWENTY = '", "'.join(MANY[:20])
 OF_STAFF = '; the columns are "name", "team", "pay"'
-K, KP = (b"k,l\n", b"k,r\n"), (b"k,p\n", b"q\n")
+K = (b"k,l\n", b"k,r\n")
 WRONG_COLUMNS = [
     ("grouped_report", ["--by", "x"], STAFF, "-", f'no column is named "x"{OF_STAFF}'),
     ("grouped_report", ["--by", "team", "--sum", "4"], STAFF, "-", f"there is no column 4: the first record ends with column 3{OF_STAFF}"),
@@ -195,7 +239,9 @@ WRONG_COLUMNS = [
     ),
     ("table_join", ["--left-key", "x"], K, "first", 'no column is named "x"; the columns are "k", "l"'),
     ("table_join", ["--right-key", "l"], K, "-", 'no column is named "l"; the columns are "k", "r"'),
-    ("index_reader", ["--place", "x"], KP, "first", 'no column is named "x"; the columns are "k", "p"'),
-    ("index_reader", ["--key", "x", "/dev/stdin"], b"k,p\n1,2\n", "/dev/stdin", 'no column is named "x"; the columns are "k", "p"'),
-    ("index_reader", ["/dev/stdin"], b"k\n1\n", "/dev/stdin", 'there is no column 2: the first record ends with column 1; the columns are "k"'),
+    ("table_join", ["--left-key", "k", "--left-key", "3", "--right-key", "k", "--right-key", "r"], K, "first",
+     'there is no column 3: the first record ends with column 2; the columns are "k", "l"'),
+    ("table_join", ["--right-key", "k"], (b"k\n", b"k,k\n"), "-", 'two columns are named "k"; the columns are "k", "k"'),
+    ("index_reader", ["--key", "k", "--key", "x"], (b"k,p\n", b""), "first", 'no column is named "x"; the columns are "k", "p"'),
+    ("index_reader", ["-n", "--key", "3"], (b"k,p\n", b"q\n"), "first", "there is no column 3: the first record ends with column 2"),
 ]

@@ -1,41 +1,19 @@
 -- The text of an amount, as it is read and written.
-use Rattle.std.proofs.Common.{◌≡◌, ◌≢◌, ℕ, ◌+◌, ◌-◌, ◌*◌, ◌/◌, ◌%◌, ◌<◌, ◌≤◌, ◌^◌, ◌==◌, List, []}
-use Rattle.std.proofs.Common.{Bool, true, false, ◌∷◌, ◌++◌, length, get_or, refl, sym, ap, ◌∙◌, arith, suc, zero}
-use Rattle.std.proofs.Common.{append_assoc, append-nil, Ok, Err, Result}
+use Rattle.std.proofs.Common.{◌≡◌, ℕ, ◌+◌, ◌-◌, ◌*◌, ◌/◌, ◌%◌, ◌<◌, ◌≤◌, ◌^◌, ◌==◌, List, []}
+use Rattle.std.proofs.Common.{Bool, true, false, ◌∷◌, ◌++◌, length, refl, sym, ap, ◌∙◌, arith, suc, zero}
+use Rattle.std.proofs.Common.{append_assoc, append-nil}
 use Rattle.std.specs.Prelude.{Some, None, IfSome, ◌&&◌, if◌then◌else◌}
-use Rattle.std.specs.Result.{OkIff, result_ok}
-use Rattle.std.specs.Str.{all_ascii_digits}
-use Rattle.std.specs.Str.Parse.{ParsesUnsigned, digits_value}
+use Rattle.std.specs.Str.Parse.{digits_value}
 use Rattle.std.proofs.Math.Nat.{mul-le-mul_left, mul-lt-mul_of_pos_right}
 use Rattle.std.proofs.lemmas.Bool.Decides.{nat_tests}
 use Rattle.std.proofs.lemmas.Nat.{pow-add, div_below}
-use Rattle.std.proofs.lemmas.Str.Parse.{IsNumeralModel, digits_value_short, numerals_by_value, parse_plain, tells_all_ascii_digits}
-use Rattle.grouped_report.specs.Amounts.{digits_behind, number_of}
-
--- std's lemmas on digits, for the words of the specification
-pub digits_model : IsNumeralModel (λ ds. all_ascii_digits ds ≡ true) (digits_value 10)
-digits_model = numerals_by_value _ tells_all_ascii_digits
-
-abbrev IsNumber : List ℕ → Type 0
-IsNumber text = (all_ascii_digits text ≡ true) × (0 < length text) × (digits_value 10 text < 2 ^ 64)
-
-pub number_read : (text : List ℕ) → IsNumber text → number_of text ≡ Some (digits_value 10 text)
-number_read text is = rw is.0 (grind (arith, nat_tests, is.1, is.2))
-
-number_refused : (text : List ℕ) → ¬ IsNumber text → number_of text ≡ None
-number_refused text none = grind (arith, nat_tests)
-
--- where no plus stands first, `parse_u64` reads the number
-pub number_parsed : {E : Type 0} (text : List ℕ) (r : Result ℕ E) → get_or text 0 0 ≢ 43 → ParsesUnsigned 64 10 text r
-    → result_ok r ≡ number_of text
-number_parsed {E} text r plain read = by r (parse_plain digits_model 64 text r read plain)
-  where
-    by : (r : Result ℕ E) → OkIff r (IsNumber text) (digits_value 10 text) → result_ok r ≡ number_of text
-    by (Ok n) is = ap Some is.1 ∙ sym (number_read text is.0)
-    by (Err e) none = sym (number_refused text none)
+use Rattle.std.proofs.lemmas.Str.Parse.{digits_value_short}
+use Rattle.program_parts.proofs.Decimals.{digits_model}
+use Rattle.program_parts.specs.Decimals.{digits_in}
+use Rattle.grouped_report.specs.Amounts.{digits_behind}
 
 -- digits write less than the power of ten with as many zeros
-pub number_small : (text : List ℕ) → IfSome (number_of text) (λ n. n < 10 ^ length text)
+pub number_small : (text : List ℕ) → IfSome (digits_in 64 text) (λ n. n < 10 ^ length text)
 number_small text = by _ (λ is. digits_value_short digits_model text (length text) (first_true _ _ _ is) (omega arith))
   where
     first_true : (a b c : Bool) → (a && b && c) ≡ true → a ≡ true

@@ -6,7 +6,5 @@ pub mod Pieces
 pub mod Witness
 pub mod Decimals
 pub mod ReadBack
-pub mod Fields
-pub mod Reported
 pub mod Written
 pub mod Moves

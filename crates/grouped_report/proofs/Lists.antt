@@ -1,10 +1,10 @@
 -- Facts of each element of a list, and of neighbours.
 use Rattle.std.proofs.Common.{◌≡◌, ◌≢◌, ◌+◌, Bool, false, List, [], ◌∷◌, ◌++◌, refl, subst, arith, suc, zero, Some}
+use Rattle.std.proofs.lemmas.List.Elements.{Contains-get_or, recursion_from_All}
 use Rattle.std.specs.List.{AllByRecursion, Contains}
 use Rattle.std.specs.List.Sorted.{IsSortedBy, IsStrictlySortedBy}
 use Rattle.std.specs.declared.cmp.Ordering.{Ordering}
 use Rattle.std.specs.declared.cmp.Ordering.TheVariants.{Less}
-use Rattle.std.proofs.lemmas.List.Elements.{Contains-get_or, recursion_from_All}
 use Rattle.slice_group_by.specs.Split.{first, last, neighbours}
 
 module _ {X : Type 0} (P : X → Type 0) where
@@ -12,16 +12,16 @@ module _ {X : Type 0} (P : X → Type 0) where
   all_append [] ys h k = k
   all_append (x ∷ xs) ys h k = (h.0, all_append xs ys h.1 k)
 
-  pub all_front : (xs ys : List X) → AllByRecursion P (xs ++ ys) → AllByRecursion P xs
-  all_front [] ys h = tt
-  all_front (x ∷ xs) ys h = (h.0, all_front xs ys h.1)
+  pub all_of_first : (xs ys : List X) → AllByRecursion P (xs ++ ys) → AllByRecursion P xs
+  all_of_first [] ys h = tt
+  all_of_first (x ∷ xs) ys h = (h.0, all_of_first xs ys h.1)
 
-  pub all_rest : (xs ys : List X) → AllByRecursion P (xs ++ ys) → AllByRecursion P ys
-  all_rest [] ys h = h
-  all_rest (x ∷ xs) ys h = all_rest xs ys h.1
+  pub all_of_rest : (xs ys : List X) → AllByRecursion P (xs ++ ys) → AllByRecursion P ys
+  all_of_rest [] ys h = h
+  all_of_rest (x ∷ xs) ys h = all_of_rest xs ys h.1
 
-  pub all_contained : (xs : List X) → ((x : X) → Contains xs x → P x) → AllByRecursion P xs
-  all_contained xs h = recursion_from_All P xs (λ k d l. h _ (Contains-get_or xs k d l))
+  pub all_when : (xs : List X) → ((x : X) → Contains xs x → P x) → AllByRecursion P xs
+  all_when xs h = recursion_from_All P xs (λ k d l. h _ (Contains-get_or xs k d l))
 
   pub all_last : (x : X) (xs : List X) (z : X) → AllByRecursion P (x ∷ xs) → last (x ∷ xs) ≡ Some z → P z
   all_last x [] z h e = let same : x ≡ z = cc in subst P same h.0
@@ -31,6 +31,9 @@ module _ {X : Type 0} (P : X → Type 0) where
       → AllByRecursion R xs
   all_where Q R f [] h k = tt
   all_where Q R f (x ∷ xs) h k = (f x h.0 k.0, all_where Q R f xs h.1 k.1)
+
+all_each : {X : Type 0} (P Q : X → Type 0) → ((x : X) → P x → Q x) → (xs : List X) → AllByRecursion P xs → AllByRecursion Q xs
+all_each P Q f xs h = all_where P P Q (λ x p q. f x p) xs h h
 
 pub some_behind : {X : Type 0} (xs ys : List X) → xs ≢ [] → xs ++ ys ≢ []
 some_behind [] ys some e = some refl
@@ -78,7 +81,7 @@ module _ {X : Type 0} (lt : X → X → Bool) where
 
 -- lists that ascend
 module _ {X : Type 0} (cmp : X → X → Ordering) where
-  abbrev Below : X → List X → Type 0
+  abbrev pub Below : X → List X → Type 0
   Below x ys = AllByRecursion (λ y. cmp x y ≡ Less) ys
 
   pub ascend_joined : (xs ys : List X) → IsStrictlySortedBy cmp xs → IsStrictlySortedBy cmp ys
@@ -87,21 +90,14 @@ module _ {X : Type 0} (cmp : X → X → Ordering) where
   ascend_joined [] ys h k across = k
   ascend_joined (x ∷ xs) ys h k across = (all_append (λ y. cmp x y ≡ Less) xs ys h.0 across.0, ascend_joined xs ys h.1 k across.1)
 
-  pub ascend_front : (xs ys : List X) → IsStrictlySortedBy cmp (xs ++ ys) → IsStrictlySortedBy cmp xs
+  pub ascend_apart : (xs ys : List X) → IsStrictlySortedBy cmp (xs ++ ys)
+      → IsStrictlySortedBy cmp xs × IsStrictlySortedBy cmp ys × AllByRecursion (λ x. Below x ys) xs
   unfolding IsStrictlySortedBy
-  ascend_front [] ys h = tt
-  ascend_front (x ∷ xs) ys h = (all_front (λ y. cmp x y ≡ Less) xs ys h.0, ascend_front xs ys h.1)
-
-  pub ascend_rest : (xs ys : List X) → IsStrictlySortedBy cmp (xs ++ ys) → IsStrictlySortedBy cmp ys
-  unfolding IsStrictlySortedBy
-  ascend_rest [] ys h = h
-  ascend_rest (x ∷ xs) ys h = ascend_rest xs ys h.1
-
-  pub ascend_across : (xs ys : List X) → IsStrictlySortedBy cmp (xs ++ ys)
-      → AllByRecursion (λ x. AllByRecursion (λ y. cmp x y ≡ Less) ys) xs
-  unfolding IsStrictlySortedBy
-  ascend_across [] ys h = tt
-  ascend_across (x ∷ xs) ys h = (all_rest (λ y. cmp x y ≡ Less) xs ys h.0, ascend_across xs ys h.1)
+  ascend_apart [] ys h = (tt, h, tt)
+  ascend_apart (x ∷ xs) ys h =
+      let (front, rest, across) = ascend_apart xs ys h.1 in
+      let P = λ (y : X). cmp x y ≡ Less in
+      ((all_of_first P xs ys h.0, front), rest, (all_of_rest P xs ys h.0, across))
 
   pub ascend_from : ((x y z : X) → cmp x y ≡ Less → cmp y z ≡ Less → cmp x z ≡ Less) → (xs : List X)
       → AllBeside (λ q. cmp q.0 q.1 ≡ Less) xs → IsStrictlySortedBy cmp xs
@@ -110,7 +106,7 @@ module _ {X : Type 0} (cmp : X → X → Ordering) where
   ascend_from trans (x ∷ []) h = (tt, tt)
   ascend_from trans (x ∷ y ∷ ys) h =
       let (above, rest) = ascend_from trans (y ∷ ys) h.1 in (
-        (h.0, all_where (λ z. cmp y z ≡ Less) (λ z. cmp y z ≡ Less) (λ z. cmp x z ≡ Less) (λ z l m. trans x y z h.0 l) ys above above),
+        (h.0, all_each (λ z. cmp y z ≡ Less) (λ z. cmp x z ≡ Less) (λ z. trans x y z h.0) ys above),
         (above, rest),
       )
 

@@ -79,66 +79,46 @@ first_of (x ∷ xs) more s z is e = let same : x ≡ z = cc in subst (λ (row : 
 between : (a b s t : List (List ℕ)) → a ≡ s → b ≡ t → group_cmp s t ≡ Less → group_cmp a b ≡ Less
 between a b s t e f less = subst (λ k. group_cmp k b ≡ Less) (sym e) (subst (λ k. group_cmp s k ≡ Less) (sym f) less)
 
-all_accepted : (gs : List (List Row)) (ss : List Summary) → AllZip IsOf gs ss → AllByRecursion (IsAccepted same_group) gs
-all_accepted [] [] are = tt
-all_accepted [] (s ∷ ss) are = absurd are
-all_accepted (g ∷ gs) [] are = absurd are
-all_accepted (g ∷ gs) (s ∷ ss) are = (accepted_of s.group g are.0.alike, all_accepted gs ss are.1)
-
-all_nonempty : (gs : List (List Row)) (ss : List Summary) → AllZip IsOf gs ss → AllByRecursion (λ g. g ≢ []) gs
-all_nonempty [] [] are = tt
-all_nonempty [] (s ∷ ss) are = absurd are
-all_nonempty (g ∷ gs) [] are = absurd are
-all_nonempty (g ∷ gs) (s ∷ ss) are = (are.0.nonempty, all_nonempty gs ss are.1)
-
-all_refused : (gs : List (List Row)) (ss : List Summary) → AllZip IsOf gs ss → AllBeside (λ q. sum_cmp q.0 q.1 ≡ Less) ss
-    → AllByRecursion (IsRefusedAcross same_group) (neighbours gs)
-all_refused [] ss are up = tt
-all_refused (g ∷ []) ss are up = tt
-all_refused (g ∷ h ∷ hs) [] are up = absurd are
-all_refused (g ∷ h ∷ hs) (s ∷ []) are up = absurd are.1
-all_refused (g ∷ h ∷ hs) (s ∷ t ∷ ts) are up = (
-  (λ a b e f. less_differs a.group b.group (between a.group b.group s.group t.group (last_of g s a are.0 e)
-      (first_of h [] t b are.1.0 (subst (λ (l : List Row). first l ≡ Some b) (sym (append-nil h)) f)) up.0)),
-  all_refused (h ∷ hs) (t ∷ ts) are.1 up.1,
+pieces_of : (gs : List (List Row)) (ss : List Summary) → AllZip IsOf gs ss → AllBeside (λ q. sum_cmp q.0 q.1 ≡ Less) ss
+    → IsSplit same_group (concat gs) gs × AllBeside InOrder (concat gs) × (ss ≡ map summary gs)
+pieces_of [] [] are up = (record { covers = refl; nonempty = tt; accepted = tt; refused = tt }, tt, refl)
+pieces_of [] (s ∷ ss) are up = absurd are
+pieces_of (g ∷ gs) [] are up = absurd are
+pieces_of ([] ∷ gs) (s ∷ ss) are up = absurd (are.0.nonempty refl)
+pieces_of ((x ∷ xs) ∷ []) (s ∷ []) are up = (
+  record { covers = refl; nonempty = (are.0.nonempty, tt); accepted = (accepted_of s.group (x ∷ xs) are.0.alike, tt); refused = tt },
+  subst (AllBeside InOrder) (sym (append-nil (x ∷ xs))) (in_order_of s.group (x ∷ xs) are.0.alike),
+  ap (λ (t : Summary). t ∷ []) are.0.is,
 )
-
-all_sorted : (gs : List (List Row)) (ss : List Summary) → AllZip IsOf gs ss → AllBeside (λ q. sum_cmp q.0 q.1 ≡ Less) ss
-    → AllBeside InOrder (concat gs)
-all_sorted [] ss are up = tt
-all_sorted (g ∷ gs) [] are up = absurd are
-all_sorted ([] ∷ gs) (s ∷ ss) are up = absurd (are.0.nonempty refl)
-all_sorted ((x ∷ xs) ∷ []) (s ∷ ss) are up =
-    subst (AllBeside InOrder) (sym (append-nil (x ∷ xs))) (in_order_of s.group (x ∷ xs) are.0.alike)
-all_sorted ((x ∷ xs) ∷ h ∷ hs) (s ∷ []) are up = absurd are.1
-all_sorted ((x ∷ xs) ∷ h ∷ hs) (s ∷ t ∷ ts) are up =
-    beside_joined InOrder x xs (concat (h ∷ hs)) (in_order_of s.group (x ∷ xs) are.0.alike) (all_sorted (h ∷ hs) (t ∷ ts) are.1 up.1)
-    (λ a b e f. less_not_back a.group b.group (between a.group b.group s.group t.group (last_of (x ∷ xs) s a are.0 e)
-    (first_of h (concat hs) t b are.1.0 f) up.0))
-
-sums_are : (gs : List (List Row)) (ss : List Summary) → AllZip IsOf gs ss → ss ≡ map summary gs
-sums_are [] [] are = refl
-sums_are [] (s ∷ ss) are = absurd are
-sums_are (g ∷ gs) [] are = absurd are
-sums_are (g ∷ gs) (s ∷ ss) are = (λ i. are.0.is i ∷ sums_are gs ss are.1 i)
+pieces_of ((x ∷ xs) ∷ []) (s ∷ t ∷ ts) are up = absurd are.1
+pieces_of ((x ∷ xs) ∷ h ∷ hs) (s ∷ []) are up = absurd are.1
+pieces_of ((x ∷ xs) ∷ h ∷ hs) (s ∷ t ∷ ts) are up =
+    let (rest, sorted, is) = pieces_of (h ∷ hs) (t ∷ ts) are.1 up.1 in
+    let less = λ (a b : Row) (more : List Row) (e : last (x ∷ xs) ≡ Some a) (f : first (h ++ more) ≡ Some b).
+    between a.group b.group s.group t.group (last_of (x ∷ xs) s a are.0 e) (first_of h more t b are.1.0 f) up.0 in (
+      record {
+        covers = refl;
+        nonempty = (are.0.nonempty, rest.nonempty);
+        accepted = (accepted_of s.group (x ∷ xs) are.0.alike, rest.accepted);
+        refused = (
+          (λ a b e f. less_differs a.group b.group (less a b [] e (subst (λ (l : List Row). first l ≡ Some b) (sym (append-nil h)) f))),
+          rest.refused,
+        );
+      },
+      beside_joined InOrder x xs (concat (h ∷ hs)) (in_order_of s.group (x ∷ xs) are.0.alike) sorted
+          (λ a b e f. less_not_back a.group b.group (less a b (concat hs) e f)),
+      (λ i. are.0.is i ∷ is i),
+    )
 
 -- where no row waits, the summaries are those of the groups of the rows
 pub all_summarized : (rows : List Row) (sums : List Summary)
     → ((sorted : List Row) (gs : List (List Row)) → IsSplit same_group sorted gs → gs ≡ split same_group sorted)
     → IsSummed rows sums [] → Summarized rows sums
 all_summarized rows sums unique summed =
-    let up = beside_ascends sum_cmp sums summed.ascend in
-    let is : IsSplit same_group (concat summed.groups) summed.groups = record {
-      covers = refl;
-      nonempty = all_nonempty summed.groups sums summed.are_of;
-      accepted = all_accepted summed.groups sums summed.are_of;
-      refused = all_refused summed.groups sums summed.are_of up;
-    } in
+    let rows_are = concat summed.groups in
+    let (is, sorted, are) = pieces_of summed.groups sums summed.are_of (beside_ascends sum_cmp sums summed.ascend) in
     record {
-      sorted = concat summed.groups;
-      are_sorted = record {
-        permutation = rw append-nil at summed.permutation;
-        ascend = sorted_from falls (concat summed.groups) (all_sorted summed.groups sums summed.are_of up);
-      };
-      are_summaries = sums_are summed.groups sums summed.are_of ∙ ap (map summary) (unique (concat summed.groups) summed.groups is);
+      sorted = rows_are;
+      are_sorted = record { permutation = rw append-nil at summed.permutation; ascend = sorted_from falls rows_are sorted };
+      are_summaries = are ∙ ap (map summary) (unique rows_are summed.groups is);
     }

@@ -13,8 +13,10 @@ use Rattle.std.proofs.lemmas.List.{drop_at, length-append, take_at}
 use Rattle.std.proofs.lemmas.Str.Parse.{digit_from_value, digits_value_short, tells_all_ascii_digits}
 use Rattle.std.proofs.lemmas.Nat.{div-add-mod', div_below, mod_below}
 use Rattle.fast_float.specs.Text.{with_sign}
-use Rattle.grouped_report.proofs.Decimals.{digits_model, number_read, tens_pos}
-use Rattle.grouped_report.specs.Amounts.{amount_in, amount_of, billionths_in, billionths_of, is_point, number_of, size_of}
+use Rattle.program_parts.proofs.Decimals.{decimal_read, digits_model, digits_read}
+use Rattle.program_parts.specs.Decimals.{digits_in}
+use Rattle.grouped_report.proofs.Decimals.{tens_pos}
+use Rattle.grouped_report.specs.Amounts.{amount_in, amount_of, billionths_in, billionths_of, is_point, size_of}
 use Rattle.grouped_report.specs.Amounts.{amount_text, digits_behind, size_text, sum_text}
 
 -- a digit is read as its value
@@ -68,7 +70,7 @@ behind_read n some small =
     let is = written 9 n small in
     let e : nat_le (length (digits_behind 9 n)) 9 ≡ true = grind (arith, nat_tests, is.few) in
     let less = digits_value_short digits_model (digits_behind 9 n) 9 is.all is.few in
-    rw (e, number_read _ (is.all, is.some some, omega (arith, less))) (ap Some (is.value 0 ∙ omega arith))
+    rw (e, digits_read 64 _ is.all (is.some some) (omega (arith, less))) (ap Some (is.value 0 ∙ omega arith))
 
 -- no digit is a point
 point_behind : (digits rest : List ℕ) → all_ascii_digits digits ≡ true
@@ -80,25 +82,20 @@ point_behind (c ∷ cs) rest all =
     rw no (omega (arith, point_behind cs rest parts.1))
 
 -- with no point, and with one
-whole_alone : (digits : List ℕ) → all_ascii_digits digits ≡ true → size_of digits ≡ billionths_in (number_of digits) (Some 0)
+whole_alone : (digits : List ℕ) → all_ascii_digits digits ≡ true → size_of digits ≡ billionths_in (digits_in 64 digits) (Some 0)
 whole_alone digits all =
     let at = subst (λ l. position_or_len is_point l ≡ length digits + 0) (append-nil digits) (point_behind digits [] all) in
     let none : position is_point digits ≡ None = grind (arith, nat_tests) in
     rw none refl
 
 whole_and_behind : (digits behind : List ℕ) → all_ascii_digits digits ≡ true
-    → size_of (digits ++ 46 ∷ behind) ≡ billionths_in (number_of digits) (billionths_of behind)
+    → size_of (digits ++ 46 ∷ behind) ≡ billionths_in (digits_in 64 digits) (billionths_of behind)
 whole_and_behind digits behind all =
     let at : position_or_len is_point (digits ++ 46 ∷ behind) ≡ length digits + 0 = point_behind digits (46 ∷ behind) all in
     let more = length-append digits (46 ∷ behind) in
     let some : position is_point (digits ++ 46 ∷ behind) ≡ Some (length digits) = grind (arith, nat_tests) in
     let rest = drop_at (digits ++ 46 ∷ []) behind (length digits + 1) (length-append digits (46 ∷ [])) in
     rw (some, take_at digits (46 ∷ behind) (length digits) refl, rw append_assoc at rest) refl
-
-whole_read : (n : ℕ) → n < 2 ^ 64 → number_of (decimal n) ≡ Some n
-whole_read n fits =
-    let (numeral, value) = decimal_is_IsNumeral n fits in
-    number_read (decimal n) (digits_model.from _ numeral.1, numeral.0, rw value fits) ∙ ap Some value
 
 parts_read : (whole behind : ℕ) → whole < 2 ^ 64 → behind < 10 ^ 9
     → size_of (decimal whole ++ (if behind == 0 then [] else 46 ∷ digits_behind 9 behind)) ≡ Some (whole * 10 ^ 9 + behind)
@@ -111,10 +108,11 @@ parts_read whole behind fits small = by (behind == 0) refl
         → size_of (decimal whole ++ (if none then [] else 46 ∷ digits_behind 9 behind)) ≡ Some (whole * 10 ^ 9 + behind)
     by true is =
         let none : behind ≡ 0 = grind (arith, nat_tests) in
-        rw (append-nil (decimal whole), whole_alone (decimal whole) all, whole_read whole fits, none) refl
+        rw (append-nil (decimal whole), whole_alone (decimal whole) all, decimal_read 64 whole fits fits, none) refl
     by false is =
         let some : 0 < behind = grind (arith, nat_tests) in
-        rw (whole_and_behind (decimal whole) (digits_behind 9 behind) all, whole_read whole fits, behind_read behind some small) refl
+        rw (whole_and_behind (decimal whole) (digits_behind 9 behind) all, decimal_read 64 whole fits fits, behind_read behind some small)
+        refl
 
 size_read : (n : ℕ) → n / 10 ^ 9 < 2 ^ 64 → size_of (size_text n) ≡ Some n
 size_read n fits = parts_read (n / 10 ^ 9) (n % 10 ^ 9) fits (mod_below n (10 ^ 9) (omega arith)) ∙ ap Some (div-add-mod' n (10 ^ 9))

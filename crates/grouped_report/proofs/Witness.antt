@@ -8,14 +8,14 @@ use Rattle.std.specs.declared.cmp.Ordering.TheVariants.{Less, Equal}
 use Rattle.std.proofs.lemmas.Grind.{flat_map-append}
 use Rattle.std.proofs.lemmas.List.Sorted.{IsPermutation-refl, IsPermutation-trans, IsPermutation-append, IsPermutation-append_comm}
 use Rattle.std.proofs.lemmas.List.Sorted.{IsPermutation-append_left, IsPermutation-append_right, searchable_from_sorted}
+use Rattle.grouped_report.proofs.Lists.{all_append, all_of_first, all_of_rest, all_when}
 use Rattle.slice_group_by.specs.Split.{concat}
 use Rattle.slice_merge_join.specs.Merge.{AllStand, Climbs, IsBelow, IsSortedFor, Merges, Part, lefts, rights}
 use Rattle.grouped_report.specs.Groups.{Row, Summary, group_cmp, with_rows}
 use Rattle.grouped_report.specs.Sums.{IsOf, IsOneOfEach, IsSummed, combine, sum_cmp, together}
 use Rattle.grouped_report.proofs.Adding.{summary_both, summary_longer}
 use Rattle.grouped_report.proofs.Orders.{cmp_itself, cmp_same, fields_total, less_not_back}
-use Rattle.grouped_report.proofs.Lists.{AllBeside, all_append, all_contained, all_front, all_rest, all_where, ascend_across, ascend_front}
-use Rattle.grouped_report.proofs.Lists.{ascend_joined, ascend_rest, beside_ascends, some_behind, sorted_from}
+use Rattle.grouped_report.proofs.Lists.{AllBeside, Below, all_where, ascend_apart, ascend_joined, beside_ascends, some_behind, sorted_from}
 
 -- a row more, and the rows of two summaries of one group
 row_more : (g : List Row) (s : Summary) (row : Row) → IsOf g s → s.group ≡ row.group → IsOf (g ++ row ∷ []) (with_rows s (row ∷ []))
@@ -152,9 +152,9 @@ below_parts k [] l r = tt
 below_parts k (p ∷ ps) l r =
     let P = λ (t : Summary). sum_cmp k t ≡ Less in
     all_append P (together (lefts p) (rights p)) (sums_of ps)
-    (all_together P (λ a b h. h) (lefts p) (rights p) (all_front P (lefts p) (flat_map lefts ps) l)
-    (all_front P (rights p) (flat_map rights ps) r))
-    (below_parts k ps (all_rest P (lefts p) (flat_map lefts ps) l) (all_rest P (rights p) (flat_map rights ps) r))
+    (all_together P (λ a b h. h) (lefts p) (rights p) (all_of_first P (lefts p) (flat_map lefts ps) l)
+    (all_of_first P (rights p) (flat_map rights ps) r))
+    (below_parts k ps (all_of_rest P (lefts p) (flat_map lefts ps) l) (all_of_rest P (rights p) (flat_map rights ps) r))
 
 -- the elements of a part are below those of the other side in later parts
 lefts_below : (p : Part Summary Summary) (ps : Parts) → AllByRecursion (IsBelow sum_cmp p) ps
@@ -162,14 +162,14 @@ lefts_below : (p : Part Summary Summary) (ps : Parts) → AllByRecursion (IsBelo
 lefts_below p [] below x at = tt
 lefts_below p (q ∷ qs) below x at =
     all_append (λ t. sum_cmp x t ≡ Less) (rights q) (flat_map rights qs)
-    (all_contained (λ t. sum_cmp x t ≡ Less) (rights q) (λ y there. below.0.0 x y at there)) (lefts_below p qs below.1 x at)
+    (all_when (λ t. sum_cmp x t ≡ Less) (rights q) (λ y there. below.0.0 x y at there)) (lefts_below p qs below.1 x at)
 
 rights_below : (p : Part Summary Summary) (ps : Parts) → AllByRecursion (IsBelow sum_cmp p) ps
     → (y : Summary) → Contains (rights p) y → AllByRecursion (λ t. sum_cmp y t ≡ Less) (flat_map lefts ps)
 rights_below p [] below y at = tt
 rights_below p (q ∷ qs) below y at =
     all_append (λ t. sum_cmp y t ≡ Less) (lefts q) (flat_map lefts qs)
-    (all_contained (λ t. sum_cmp y t ≡ Less) (lefts q)
+    (all_when (λ t. sum_cmp y t ≡ Less) (lefts q)
     (λ x there. fields_total.antisymm y.group x.group ∙ ap ordering_reverse (below.0.1 x y there at))) (rights_below p qs below.1 y at)
 
 ascend_together : (as' bs : List Summary) → IsStrictlySortedBy sum_cmp as' → IsStrictlySortedBy sum_cmp bs
@@ -186,18 +186,14 @@ ascend_parts [] climbs l r = tt
 ascend_parts (p ∷ ps) climbs l r =
     let L = flat_map lefts ps in
     let R = flat_map rights ps in
-    let above = λ (x : Summary). AllByRecursion (λ t. sum_cmp x t ≡ Less) (sums_of ps) in
-    ascend_joined sum_cmp (together (lefts p) (rights p)) (sums_of ps)
-    (ascend_together (lefts p) (rights p) (ascend_front sum_cmp (lefts p) L l) (ascend_front sum_cmp (rights p) R r))
-    (ascend_parts ps climbs.1 (ascend_rest sum_cmp (lefts p) L l) (ascend_rest sum_cmp (rights p) R r))
-    (all_together above (λ a b h. h) (lefts p) (rights p)
-    (all_where (λ x. AllByRecursion (λ t. sum_cmp x t ≡ Less) L) (λ x. AllByRecursion (λ t. sum_cmp x t ≡ Less) R) above
-    (λ x h k. below_parts x ps h k) (lefts p) (ascend_across sum_cmp (lefts p) L l)
-    (all_contained (λ x. AllByRecursion (λ t. sum_cmp x t ≡ Less) R) (lefts p) (lefts_below p ps climbs.0)))
-    (all_where (λ x. AllByRecursion (λ t. sum_cmp x t ≡ Less) L) (λ x. AllByRecursion (λ t. sum_cmp x t ≡ Less) R) above
-    (λ x h k. below_parts x ps h k) (rights p)
-    (all_contained (λ x. AllByRecursion (λ t. sum_cmp x t ≡ Less) L) (rights p) (rights_below p ps climbs.0))
-    (ascend_across sum_cmp (rights p) R r)))
+    let (l1, l2, left) = ascend_apart sum_cmp (lefts p) L l in
+    let (r1, r2, right) = ascend_apart sum_cmp (rights p) R r in
+    let above = all_where (λ x. Below sum_cmp x L) (λ x. Below sum_cmp x R) (λ x. Below sum_cmp x (sums_of ps)) (λ x. below_parts x ps) in
+    ascend_joined sum_cmp (together (lefts p) (rights p)) (sums_of ps) (ascend_together (lefts p) (rights p) l1 r1)
+    (ascend_parts ps climbs.1 l2 r2)
+    (all_together (λ x. Below sum_cmp x (sums_of ps)) (λ a b h. h) (lefts p) (rights p)
+    (above (lefts p) left (all_when (λ x. Below sum_cmp x R) (lefts p) (lefts_below p ps climbs.0)))
+    (above (rights p) (all_when (λ x. Below sum_cmp x L) (rights p) (rights_below p ps climbs.0)) right))
 
 -- of lists that ascend, a part of both sides has one of each
 single : (a b : Summary) (as' : List Summary) → IsStrictlySortedBy sum_cmp (a ∷ as')
@@ -226,12 +222,10 @@ all_one : (ps : Parts) → AllByRecursion (λ p. AllStand sum_cmp Equal (lefts p
     → IsStrictlySortedBy sum_cmp (flat_map lefts ps) → IsStrictlySortedBy sum_cmp (flat_map rights ps)
     → AllByRecursion (λ p. IsOneOfEach (lefts p) (rights p)) ps
 all_one [] equal l r = tt
-all_one (p ∷ ps) equal l r = (
-  one_of_each (lefts p) (rights p) (ascend_front sum_cmp (lefts p) (flat_map lefts ps) l)
-      (ascend_front sum_cmp (rights p) (flat_map rights ps) r)
-      equal.0,
-  all_one ps equal.1 (ascend_rest sum_cmp (lefts p) (flat_map lefts ps) l) (ascend_rest sum_cmp (rights p) (flat_map rights ps) r),
-)
+all_one (p ∷ ps) equal l r =
+    let (l1, l2, left) = ascend_apart sum_cmp (lefts p) (flat_map lefts ps) l in
+    let (r1, r2, right) = ascend_apart sum_cmp (rights p) (flat_map rights ps) r in
+    (one_of_each (lefts p) (rights p) l1 r1 equal.0, all_one ps equal.1 l2 r2)
 
 pub ones_of_merge : (old fresh : List Summary) (ps : Parts) → Merges sum_cmp old fresh ps → IsStrictlySortedBy sum_cmp old
     → IsStrictlySortedBy sum_cmp fresh → AllByRecursion (λ p. IsOneOfEach (lefts p) (rights p)) ps

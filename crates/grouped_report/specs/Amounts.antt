@@ -1,19 +1,14 @@
 -- Amounts: exact decimal numbers, as whole numbers of billionths.
-use Rattle.std.specs.Prelude.{ℕ, ◌+◌, ◌-◌, ◌*◌, ◌/◌, ◌%◌, ◌^◌, ℤ, pos, negsuc, Bool, ◌==◌, ◌&&◌, nat_le, nat_lt}
+use Rattle.std.specs.Prelude.{ℕ, ◌+◌, ◌-◌, ◌*◌, ◌/◌, ◌%◌, ◌^◌, ℤ, pos, negsuc, Bool, ◌==◌, nat_le}
 use Rattle.std.specs.Prelude.{List, [], ◌∷◌, ◌++◌, length, take, drop, zero, suc, decimal, if◌then◌else◌, Option, None, Some, option_map}
 use Rattle.std.specs.List.{position}
-use Rattle.std.specs.Str.{all_ascii_digits}
-use Rattle.std.specs.Str.Parse.{digits_value, starts_with_minus, without_leading_sign}
+use Rattle.std.specs.Str.Parse.{starts_with_minus, without_leading_sign}
 use Rattle.fast_float.specs.Text.{with_sign}
-
--- the number of 64 bits that a text is: one digit or more, and nothing else
-abbrev pub number_of : List ℕ → Option ℕ
-number_of text =
-    if all_ascii_digits text && nat_lt 0 (length text) && nat_lt (digits_value 10 text) (2 ^ 64) then Some (digits_value 10 text) else None
+use Rattle.program_parts.specs.Decimals.{digits_in}
 
 -- how many billionths one to nine digits behind a point are
 abbrev pub billionths_of : List ℕ → Option ℕ
-billionths_of digits = if nat_le (length digits) 9 then option_map (λ n. n * 10 ^ (9 - length digits)) (number_of digits) else None
+billionths_of digits = if nat_le (length digits) 9 then option_map (λ n. n * 10 ^ (9 - length digits)) (digits_in 64 digits) else None
 
 -- the byte of a point
 abbrev pub is_point : ℕ → Bool
@@ -27,8 +22,8 @@ billionths_in (Some whole) (Some behind) = Some (whole * 10 ^ 9 + behind)
 
 -- the size that a text is, given the place of its first point: a number before it, and one to nine digits behind it
 abbrev pub size_at : List ℕ → Option ℕ → Option ℕ
-size_at text None = billionths_in (number_of text) (Some 0)
-size_at text (Some point) = billionths_in (number_of (take point text)) (billionths_of (drop (point + 1) text))
+size_at text None = billionths_in (digits_in 64 text) (Some 0)
+size_at text (Some point) = billionths_in (digits_in 64 (take point text)) (billionths_of (drop (point + 1) text))
 
 -- the size that a text with no sign is, in billionths
 abbrev pub size_of : List ℕ → Option ℕ

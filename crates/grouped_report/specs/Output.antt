@@ -1,10 +1,9 @@
 -- The rows of a report.
 use Rattle.std.specs.Prelude.{ℕ, List, [], ◌∷◌, ◌++◌, Bool, codes, decimal, if◌then◌else◌, map, nat_eq}
 use Rattle.std.specs.List.{list_any}
-use Rattle.program_parts.specs.Records.{Record}
+use Rattle.program_parts.specs.Records.{Record, field}
 use Rattle.grouped_report.specs.Amounts.{sum_text}
 use Rattle.grouped_report.specs.Groups.{Summary}
-use Rattle.grouped_report.specs.Input.{field}
 use Rattle.grouped_report.specs.declared.columns.Places.{Places}
 
 -- the name of a sum: that of its column, with `sum_` before it if the column is one of the groups' too

@@ -3,13 +3,13 @@ use Rattle.std.specs.Prelude.{◌≡◌, ℕ, List, ◌++◌, Bool, true, false,
 use Rattle.std.specs.List.{AllZip}
 use Rattle.csv.specs.declared.writer.Writer.{Writer}
 use Rattle.slice_group_by.specs.Split.{split}
-use Rattle.program_parts.specs.Columns.{IsColumn}
-use Rattle.program_parts.specs.Records.{Record, names_in, rows_of, width_in}
-use Rattle.program_parts.specs.RecordsKept.{AreRead, SaysWhole}
+use Rattle.program_parts.specs.Columns.{AreKeyPlaces, IsColumn}
+use Rattle.program_parts.specs.Records.{names_in}
+use Rattle.program_parts.specs.Said.{AreSaid}
 use Rattle.program_parts.specs.Written.{Writes}
 use Rattle.program_parts.specs.declared.records.Format.{Format}
 use Rattle.grouped_report.specs.Groups.{AreSorted, Row, same_group, summary}
-use Rattle.grouped_report.specs.Input.{AreGroupPlaces, Says}
+use Rattle.grouped_report.specs.Input.{row_in}
 use Rattle.grouped_report.specs.Output.{names_rows, summary_row}
 use Rattle.grouped_report.specs.declared.columns.Places.{Places}
 
@@ -24,21 +24,21 @@ pub record Reports {W : Type 0} (contents : W → Option (List ℕ)) (format : F
     (bytes : List ℕ) (is_whole : Bool) (before after : Writer W) : Type 0
   where
     pub places : Places
-    pub by_at : AreGroupPlaces (IsColumn format bytes) by places.by.items
+    pub by_at : AreKeyPlaces (IsColumn format bytes) by places.by.items
     pub sum_at : AllZip (IsColumn format bytes) sum places.sum.items
     pub said : List Row
-    pub are_read : AreRead (SaysWhole (width_in format bytes) (Says places)) (rows_of format bytes) said is_whole
+    pub are_said : AreSaid (row_in places) format bytes said is_whole
     pub rows : List Row
     pub in_order : AreInOrder runs said rows
     pub writes : Writes contents before after
         (names_rows counts places (names_in format bytes) ++ map (λ group. summary_row counts (summary group)) (split same_group rows))
 
--- The summaries of the groups of the rows that the records of a table say are written, in their order or sorted.
-pub record Summarizes {W : Type 0} (contents : W → Option (List ℕ)) (counts runs : Bool) (places : Places) (width : ℕ)
-    (all : Option (List Record)) (is_whole : Bool) (before after : Writer W) : Type 0
+-- The summaries of the groups of the rows that the records of an input say are written, in their order or sorted.
+pub record Summarizes {W : Type 0} (contents : W → Option (List ℕ)) (counts runs : Bool) (places : Places) (format : Format)
+    (input : Option (List ℕ)) (is_whole : Bool) (before after : Writer W) : Type 0
   where
     pub said : List Row
-    pub are_read : IfSome all (λ records. AreRead (SaysWhole width (Says places)) records said is_whole)
+    pub are_said : IfSome input (λ bytes. AreSaid (row_in places) format bytes said is_whole)
     pub rows : List Row
     pub in_order : AreInOrder runs said rows
     pub writes : Writes contents before after (map (λ group. summary_row counts (summary group)) (split same_group rows))

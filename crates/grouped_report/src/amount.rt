@@ -2,11 +2,12 @@
 ghost use Rattle.std.specs.Prelude.{◌≡◌, ◌<◌, ◌/◌, ◌^◌, ◌++◌, length, IfSome, OnOk, ℤ, unsigned_abs, Option, Some};
 ghost use Rattle.std.specs.List.{position};
 ghost use Rattle.std.specs.Str.Parse.{starts_with_minus, without_leading_sign};
-ghost use Rattle.grouped_report.specs.Amounts.{amount_in, amount_of, billionths_of, is_point, number_of, size_of};
+ghost use Rattle.program_parts.specs.Decimals.{digits_in};
+ghost use Rattle.grouped_report.specs.Amounts.{amount_in, amount_of, billionths_of, is_point, size_of};
 ghost use Rattle.grouped_report.specs.Amounts.{amount_text, digits_behind, size_text, sum_text};
 
-use fast_float::parse_u64;
 use itoa::Buffer;
+use program_parts::numbers::number_64;
 use std::alloc::AllocError;
 
 // So many billionths are one.
@@ -83,12 +84,12 @@ fn parse_billionths(digits: &[u8]) -> Option<u64>
 
 // The number of 64 bits that a text is: one digit or more.
 fn parse_number(text: &[u8]) -> Option<u64>
-    ensures number { result ≡ number_of text.now }
+    ensures number { result ≡ digits_in 64 text.now }
     ensures small { IfSome result (λ n. n < 10 ^ length text.now) }
 {
     match text {
         [b'+', ..] => None,
-        _ => parse_u64(text).ok(),
+        _ => number_64(text),
     }
 }
 

@@ -4,15 +4,14 @@ ghost use Rattle.std.specs.List.{list_any};
 ghost use Rattle.csv.specs.Records.{fields_of, partial_of};
 ghost use Rattle.program_parts.specs.Written.{Writes};
 ghost use Rattle.grouped_report.specs.Amounts.{sum_text};
-ghost use Rattle.grouped_report.specs.Input.{field};
 ghost use Rattle.grouped_report.specs.Output.{names_rows, sum_name, summary_row};
 
 use crate::amount::push_sum;
 use crate::columns::Places;
-use crate::reading::field_at;
 use crate::summary::Summary;
 use csv::{ByteRecord, Writer};
 use itoa::Buffer;
+use program_parts::columns::{field_or_empty, push_fields};
 use program_parts::failure::Failure;
 use program_parts::rows::write_record;
 use program_parts::shown::{Excerpt, ShownName};
@@ -35,7 +34,7 @@ pub fn write_names<'a, W: Write + Drop>(
         return Ok(());
     }
     let mut row = ByteRecord::new(alloc);
-    push_names(names, &places.by, &mut row)?;
+    push_fields(names, &places.by, &mut row)?;
     push_if(counts, b"count", &mut row)?;
     push_sum_names(alloc, names, &places.by, &places.sum, &mut row)?;
     refuse_twice(alloc, file, &row)?;
@@ -48,22 +47,10 @@ fn refuse_twice<'a>(alloc: Global, file: &str, names: &ByteRecord) -> Result<(),
     for (place, name) in names.iter().enumerate() {
         if names.iter().take(place).any(|other| other == name) {
             let (file, name) = (ShownName(file), Excerpt(name));
-            return Err(Failure::Column(format!(in alloc;
+            return Err(Failure::Table(format!(in alloc;
                 "{file}: two columns of the report would be named {name}"
             )?));
         }
-    }
-    Ok(())
-}
-
-// Puts the names of these columns behind the fields of a row.
-fn push_names(names: &ByteRecord, places: &[usize], row: &mut ByteRecord) -> Result<(), AllocError>
-    requires { partial_of row.old ≡ [] }
-    ensures fields { OnOk result (fields_of row.new ≡ fields_of row.old ++ map (field (fields_of names.now)) places.now) }
-    ensures partial { OnOk result (partial_of row.new ≡ []) }
-{
-    for place in places {
-        row.push_field(field_at(names, *place))?;
     }
     Ok(())
 }
@@ -100,7 +87,7 @@ fn name_of_sum(
     if is_among(by, place) {
         name.extend_from_slice(b"sum_")?;
     }
-    name.extend_from_slice(field_at(names, place))?;
+    name.extend_from_slice(field_or_empty(names, place))?;
     Ok(name)
 }
 

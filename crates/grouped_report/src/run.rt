@@ -1,20 +1,16 @@
 //! Reads the rows of a table, and writes the summaries of their groups.
-ghost use Rattle.std.specs.Prelude.{◌≡◌, ◌≢◌, [], ◌∷◌, ◌++◌, List, Option, map, false, true, IfOk, IfSome, OnOk};
-ghost use Rattle.std.specs.List.{AllZip};
+ghost use Rattle.std.specs.Prelude.{◌≡◌, [], ℕ, List, Option, map, false, true, IfOk, IfSome, OnOk};
 ghost use Rattle.csv.specs.Writing.{writer_pending};
-ghost use Rattle.program_parts.specs.Columns.{IsPlace};
-ghost use Rattle.program_parts.specs.Records.{Record};
-ghost use Rattle.program_parts.specs.RecordsKept.{HasKept};
-ghost use Rattle.program_parts.specs.RecordsLeft.{names_of, width_of};
+ghost use Rattle.program_parts.specs.RecordsLeft.{IsNew};
 ghost use Rattle.program_parts.specs.Written.{Writes};
-ghost use Rattle.grouped_report.specs.Input.{AreGroupPlaces, Says};
+ghost use Rattle.program_parts.specs.declared.records.Format.{Format};
 ghost use Rattle.grouped_report.specs.Output.{summary_row};
 ghost use Rattle.grouped_report.specs.Runs.{Reports, Summarizes};
 
 use crate::columns::Places;
 use crate::groups::Groups;
 use crate::output::{write_names, write_summaries};
-use crate::reading::{Adder, RunKeeper};
+use crate::reading::next_row;
 use crate::row::Row;
 use crate::summary::Summary;
 use crate::sums::Sums;
@@ -25,9 +21,9 @@ use program_parts::records::{Records, Source};
 use program_parts::rows::pass_on;
 use slice_group_by::laws::one_split;
 use slice_group_stream::laws::groups_close;
-use std::alloc::{AllocError, Global};
-use std::io;
+use std::alloc::Global;
 use std::io::{Read, Write};
+use std::{io, slice};
 
 /// What is asked of a table: the columns that make the groups, and those that are added up.
 #[derive(Clone, Copy)]
@@ -55,15 +51,16 @@ pub fn write_report<'a, R: Read + Noted + Drop, W: Write + Drop, E: Write>(
 {
     let file = source.file;
     let mut records = Records::new(alloc, source)?;
-    let by = group_places(alloc, &records, question.by)?;
-    let sum = places_of(alloc, &records, question.sum)?;
-    let places = Places { by, sum };
+    let places = Places {
+        by: records.key_places(alloc, question.by)?,
+        sum: records.places_of(alloc, question.sum)?,
+    };
     let counts = question.counts;
     write_names(alloc, file, records.names(), &places, counts, out)?;
     let is_whole = write_groups(
         alloc,
         &mut records,
-        places,
+        &places,
         counts,
         question.runs,
         out,
@@ -73,60 +70,18 @@ pub fn write_report<'a, R: Read + Noted + Drop, W: Write + Drop, E: Write>(
     Ok(is_whole)
 }
 
-// The places of the columns that make the groups: the first one where none is named.
-fn group_places<'a, R: Read + Noted + Drop>(
-    alloc: Global,
-    records: &Records<'a, R>,
-    columns: &[&str],
-) -> Result<Vec<usize>, Failure<'a>>
-    ensures { IfOk result (λ places. AreGroupPlaces
-        (λ column place. width_of records.now ≢ 0 → IsPlace (width_of records.now) (names_of records.now) column place)
-        (map (λ column. column.now) columns.now) places.items) }
-{
-    if columns.is_empty() {
-        return Ok(Vec::from_slice(alloc, &[0])?);
-    }
-    places_of(alloc, records, columns)
-}
-
-// The places of these columns.
-fn places_of<'a, R: Read + Noted + Drop>(
-    alloc: Global,
-    records: &Records<'a, R>,
-    columns: &[&str],
-) -> Result<Vec<usize>, Failure<'a>>
-    ensures { IfOk result (λ places. AllZip
-        (λ column place. width_of records.now ≢ 0 → IsPlace (width_of records.now) (names_of records.now) column place)
-        (map (λ column. column.now) columns.now) places.items) }
-{
-    let mut places = Vec::new(alloc);
-    for column in columns {
-        let place = records.place_of(alloc, column)?;
-        push_place(&mut places, place)?;
-    }
-    Ok(places)
-}
-
-// Puts a place behind the others.
-fn push_place(places: &mut Vec<usize>, place: usize) -> Result<(), AllocError>
-    ensures { OnOk result (places.new.items ≡ places.old.items ++ place ∷ []) }
-{
-    places.push(place)?;
-    Ok(())
-}
-
 // Writes the summaries of the groups of the rows: of their runs, or of all that agree.
 fn write_groups<'a, R: Read + Noted + Drop, W: Write + Drop, E: Write>(
     alloc: Global,
     records: &mut Records<'a, R>,
-    places: Places,
+    places: &Places,
     counts: bool,
     runs: bool,
     out: &mut Writer<W>,
     complaints: &mut E,
 ) -> Result<bool, IoFailure<'a>>
-    ensures { IfOk result (λ is_whole. (all : Option (List Record)) → HasKept R.remaining (Says places) all [] records.old
-        → Summarizes W.contents counts runs places (width_of records.old) all is_whole out.old out.new) }
+    ensures { IfOk result (λ is_whole. (format : Format) (input : Option (List ℕ)) → IsNew R.remaining format input records.old
+        → Summarizes W.contents counts runs places.now format input is_whole out.old out.new) }
 {
     if runs {
         write_runs(alloc, records, places, counts, out, complaints)
@@ -139,56 +94,64 @@ fn write_groups<'a, R: Read + Noted + Drop, W: Write + Drop, E: Write>(
 fn write_sums<'a, R: Read + Noted + Drop, W: Write + Drop, E: Write>(
     alloc: Global,
     records: &mut Records<'a, R>,
-    places: Places,
+    places: &Places,
     counts: bool,
     out: &mut Writer<W>,
     complaints: &mut E,
 ) -> Result<bool, IoFailure<'a>>
-    ensures { IfOk result (λ is_whole. (all : Option (List Record)) → HasKept R.remaining (Says places) all [] records.old
-        → Summarizes W.contents counts false places (width_of records.old) all is_whole out.old out.new) }
+    ensures { IfOk result (λ is_whole. (format : Format) (input : Option (List ℕ)) → IsNew R.remaining format input records.old
+        → Summarizes W.contents counts false places.now format input is_whole out.old out.new) }
 {
-    let mut adder = Adder {
-        alloc,
-        places,
-        row: Row::new(alloc),
-        sums: Sums::new(alloc),
-    };
-    let is_whole = records.keep_all(&mut adder, complaints)?;
-    let sums = adder.sums.finish()?;
-    write_summaries(alloc, &sums, counts, out)?;
-    Ok(is_whole)
+    let mut row = Row::new(alloc);
+    let mut sums = Sums::new(alloc);
+    for _ in 0..u64::MAX {
+        let Some(is_row) = next_row(alloc, records, places, &mut row, complaints)? else {
+            let is_whole = records.finish(complaints)?;
+            let sums = sums.finish()?;
+            write_summaries(alloc, &sums, counts, out)?;
+            return Ok(is_whole);
+        };
+        if is_row {
+            sums.add(&row)?;
+        }
+    }
+    Err(too_many())
 }
 
 // Reads row by row, and writes the summary of a run when another begins.
 fn write_runs<'a, R: Read + Noted + Drop, W: Write + Drop, E: Write>(
     alloc: Global,
     records: &mut Records<'a, R>,
-    places: Places,
+    places: &Places,
     counts: bool,
     out: &mut Writer<W>,
     complaints: &mut E,
 ) -> Result<bool, IoFailure<'a>>
-    ensures { IfOk result (λ is_whole. (all : Option (List Record)) → HasKept R.remaining (Says places) all [] records.old
-        → Summarizes W.contents counts true places (width_of records.old) all is_whole out.old out.new) }
+    ensures { IfOk result (λ is_whole. (format : Format) (input : Option (List ℕ)) → IsNew R.remaining format input records.old
+        → Summarizes W.contents counts true places.now format input is_whole out.old out.new) }
 {
     one_split::<Row>();
     groups_close::<Row, Option<Summary>, Summary>();
-    let mut keeper = RunKeeper {
-        alloc,
-        places,
-        row: Row::new(alloc),
-        groups: Groups::new(alloc),
-    };
+    let mut row = Row::new(alloc);
+    let mut groups = Groups::new(alloc);
     for _ in 0..u64::MAX {
-        if !records.keep_next(&mut keeper, complaints)? {
-            keeper.groups.close()?;
-            write_summaries(alloc, &keeper.groups.closed, counts, out)?;
+        let Some(is_row) = next_row(alloc, records, places, &mut row, complaints)? else {
+            groups.close()?;
+            write_summaries(alloc, &groups.closed, counts, out)?;
             let is_whole = records.finish(complaints)?;
             return Ok(is_whole);
+        };
+        if is_row {
+            groups.add_rows(slice::from_ref(&row))?;
         }
-        write_closed(alloc, &mut keeper.groups, counts, records.is_drained(), out)?;
+        write_closed(alloc, &mut groups, counts, records.is_drained(), out)?;
     }
-    Err(IoFailure::from(io::Error::other("there are too many records")))
+    Err(too_many())
+}
+
+// Not all records are read.
+fn too_many<'a>() -> IoFailure<'a> {
+    IoFailure::from(io::Error::other("there are too many records"))
 }
 
 // Writes the summaries of the groups that are closed. They are passed on at once where more rows must be waited for.

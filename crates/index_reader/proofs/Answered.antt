@@ -1,113 +1,99 @@
--- What is found for each query of a block.
-use Rattle.std.proofs.Common.{◌≡◌, ◌≢◌, Bool, true, false, nat_eq, set, subst, take, drop, append-nil, ◌+◌, ℕ, ◌<◌, suc, List, []}
-use Rattle.std.proofs.Common.{◌∷◌, ◌++◌, length, map, flat_map, get_or, Option, refl, sym, ap, ◌∙◌, arith}
-use Rattle.std.proofs.lemmas.Bool.{false≢true}
-use Rattle.std.specs.Prelude.{All, HoldsAt, IsPermutation}
-use Rattle.std.specs.List.{enumerate_from}
-use Rattle.std.proofs.lemmas.List.{drop_all, length-map, get_or-map, get_or-set_other, take_all}
-use Rattle.std.proofs.Math.Seq.{map-set_same}
-use Rattle.std.proofs.lemmas.Bool.Decides.{nat_tests}
-use Rattle.std.proofs.lemmas.Grind.{flat_map-append, get_or-set_at}
-use Rattle.std.proofs.lemmas.List.Elements.{All-contains, All-from_get_or, All-more, All-nil, Contains-get_or}
-use Rattle.std.proofs.lemmas.List.FromFn.{get_or-enumerate_from, length-enumerate_from}
-use Rattle.std.proofs.lemmas.List.Sorted.{All-permutation, Contains-permutation}
+-- The queries that are answered.
+use Rattle.std.proofs.Common.{◌≡◌, ℕ, Bool, true, Global, List, [], ◌∷◌, ◌++◌, map, Option, None, Some, IfSome, option_map}
+use Rattle.std.proofs.Common.{refl, sym, ap, ◌∙◌, subst, append-nil}
+use Rattle.std.proofs.lemmas.Grind.{flat_map-append}
+use Rattle.std.proofs.lemmas.List.{map-append}
+use Rattle.std.specs.List.{filter, range_with_len}
+use Rattle.std.specs.declared.vec.Vec.{Vec}
 use Rattle.csv.specs.declared.writer.Writer.{Writer}
-use Rattle.program_parts.proofs.Writing.{writes_both}
+use Rattle.program_parts.proofs.RecordsGiven.{none_given}
+use Rattle.program_parts.proofs.Writing.{writes_both, writes_none}
+use Rattle.program_parts.specs.Records.{Record, rows_of, whole_rows, width_in}
+use Rattle.program_parts.specs.RecordsLeft.{IsNew, count_of, left_of, names_of, width_of}
+use Rattle.program_parts.specs.Rows.{Row}
+use Rattle.program_parts.specs.Tables.{HasRead, ReadsOn}
 use Rattle.program_parts.specs.Written.{Writes}
-use Rattle.index_reader.specs.Answers.{answers, entry_rows, rows}
-use Rattle.index_reader.specs.Blocks.{IsAnswer, IsOneOf, numbered, places_of}
-use Rattle.index_reader.specs.Keys.{of_key}
-use Rattle.index_reader.specs.declared.answer.Answer.{Answer}
-use Rattle.index_reader.specs.declared.block.Query.{Query}
-use Rattle.index_reader.specs.declared.entry.Entry.{Entry}
+use Rattle.program_parts.specs.declared.records.Format.{Format}
+use Rattle.program_parts.specs.declared.table.Table.{Table}
+use Rattle.index_reader.proofs.Read.{all_read, keys_whole}
+use Rattle.index_reader.specs.Answers.{answers, found_rows, has_key, of_key}
+use Rattle.index_reader.specs.Runs.{Answers, AnswersBy, IsIndex, header}
 
--- a vector whose elements were changed as a slice has those of the slice
-pub all_changed : {X : Type 0} (n : ℕ) (ys xs : List X) → n ≡ length xs → length ys ≡ length xs → take n (ys ++ drop (length ys) xs) ≡ ys
-all_changed n ys xs e f =
-    ap (take n) (ap (λ l. ys ++ l) (drop_all (length ys) xs (omega (arith, f))) ∙ append-nil ys) ∙ take_all n ys (omega (arith, e, f))
+-- for the same keys the same is found
+pub same_found : (rows : List Row) (places : List ℕ) (index : List Record)
+    → ((key : Record) → map (λ row. row.rest) (of_key key rows) ≡ filter (has_key places key) index)
+    → (keys : List Record) → found_rows rows keys ≡ answers places index keys
+same_found rows places index found [] = refl
+same_found rows places index found (key ∷ keys) = λ i. found key i ++ same_found rows places index found keys i
 
-abbrev pub query_of : ℕ × ℕ → Query
-query_of q = record { key = q.1; number = q.0 }
+module _ {R W : Type 0} (remaining : R → Option (List ℕ)) (contents : W → Option (List ℕ)) (format : Format) (input : Option (List ℕ))
+    (rows : List Row) (before : Writer W) where
+  -- all queries that are read are answered
+  pub record AreAnswered (table : Table R) (after : Writer W) : Type 0 where
+    pub done : List Row
+    pub writes : Writes contents before after (found_rows rows (map (λ row. row.key) done))
+    pub read : HasRead remaining (option_map (rows_of format) input) done table
+    pub key : table.layout.key.items ≡ range_with_len 0 (width_of table.records)
+    pub width : IfSome input (λ bytes. width_of table.records ≡ width_in format bytes)
 
-abbrev pub nothing : Query
-nothing = query_of (0, 0)
+  pub none_answered : (table : Table R) → IsNew remaining format input table.records
+      → table.layout.key.items ≡ range_with_len 0 (width_of table.records) → AreAnswered table before
+  none_answered table fresh key = record {
+    done = [];
+    writes = writes_none contents before;
+    read = record { records = []; given = none_given remaining format input table.records fresh; rows_are = refl };
+    key = key;
+    width = fresh.width;
+  }
 
-long : (keys : List ℕ) → length (numbered keys) ≡ length keys
-long keys = length-map (enumerate_from 0 keys) query_of ∙ length-enumerate_from 0 keys
+  -- and those of a block more, which are read in the place of the ones before
+  pub more_answered : (old new : Table R) (block : Vec Row Global) (mid after passed : Writer W) → AreAnswered old mid → block.items ≡ []
+      → ReadsOn remaining (record old { rows = block }) new
+      → Writes contents mid after (found_rows rows (map (λ row. row.key) new.rows.items)) → Writes contents after passed []
+      → AreAnswered new passed
+  more_answered old new block mid after passed s none reads wrote passes =
+      let all = option_map (rows_of format) input in
+      let read : HasRead remaining all s.done (record old { rows = block }) =
+      record { records = s.read.records; given = s.read.given; rows_are = s.read.rows_are } in
+      let more = reads.behind ∙ ap (λ l. l ++ reads.more) none in
+      let keys = map-append (λ (row : Row). row.key) s.done new.rows.items in
+      let found = flat_map-append (λ key. map (λ (row : Row). row.rest) (of_key key rows)) (map (λ row. row.key) s.done)
+      (map (λ row. row.key) new.rows.items) in
+      record {
+        done = s.done ++ new.rows.items;
+        writes = rw (keys, found) (rw append-nil at (writes_both contents before after passed _ _
+            (writes_both contents before mid after _ _ s.writes wrote) passes));
+        read = subst (λ l. HasRead remaining all (s.done ++ l) new) (sym more) (reads.reads all s.done read);
+        key = ap (λ l. l.key.items) reads.stays.layout ∙ s.key ∙ ap (range_with_len 0) (sym reads.stays.width);
+        width = subst (λ n. IfSome input (λ bytes. n ≡ width_in format bytes)) (sym reads.stays.width) s.width;
+      }
 
--- the i-th query
-at : (keys : List ℕ) (i : ℕ) → i < length keys → get_or (numbered keys) i nothing ≡ query_of (i, get_or keys i 0)
-at keys i l =
-    get_or-map query_of (enumerate_from 0 keys) i (0, 0) nothing (rw (length-enumerate_from 0 keys) l)
-    ∙ ap query_of (get_or-enumerate_from 0 keys i (0, 0) l)
-    ∙ ap (λ n. query_of (n, get_or keys i 0)) (omega arith)
+-- all are read
+pub all_answered : {R W : Type 0} (remaining : R → Option (List ℕ)) (contents : W → Option (List ℕ)) (format : Format)
+    (input : Option (List ℕ)) (rows : List Row) (before after : Writer W) (table : Table R) (is_whole : Bool)
+    → AreAnswered remaining contents format input rows before table after → left_of remaining table.records ≡ Some []
+    → (is_whole ≡ true → count_of table.records ≡ 0) → IfSome input (λ bytes. AnswersBy contents rows format bytes is_whole before after)
+all_answered remaining contents format None rows before after table is_whole s end none = tt
+all_answered remaining contents format (Some bytes) rows before after table is_whole s end none =
+    let all = all_read remaining format bytes s.done table s.read s.width end in
+    let keys = ap (map (λ row. row.key)) all.0
+    ∙ keys_whole (width_in format bytes) table.layout (rows_of format bytes) (s.key ∙ ap (range_with_len 0) s.width) in
+    record { writes = subst (λ l. Writes contents before after (found_rows rows l)) keys s.writes; whole = λ is. all.1 (none is) }
 
--- each has its key, in any order
-pub each_is_one : (keys : List ℕ) (queries : List Query) → IsPermutation (numbered keys) queries → All (IsOneOf keys) queries
-each_is_one keys queries same =
-    All-permutation (IsOneOf keys) (numbered keys) queries same
-    (All-from_get_or (IsOneOf keys) (numbered keys) nothing (λ i l.
-    let within = rw (long keys) at l in rw (at keys i within) (within, refl)))
-
--- one answer more is found, for a query with the key of that answer
-module _ (answers : List Answer) (queries : List Query) (i : ℕ) (answer : Answer) (l : i < length queries) where
-  abbrev query : Query
-  query = get_or queries i nothing
-
-  pub same_keys : IsOneOf (map (λ a. a.key) answers) query → answer.key ≡ query.key
-      → map (λ a. a.key) (set answers query.number answer) ≡ map (λ a. a.key) answers
-  same_keys (within, is) e =
-      let at = get_or-map (λ a. a.key) answers query.number answer 0 (rw (length-map answers (λ a. a.key)) at within) in
-      map-set_same (λ a. a.key) answers query.number answer answer (e ∙ sym is ∙ at)
-
-  pub more_found : (P : Answer → Type 0) → query.number < length answers → P answer
-      → All (λ q. HoldsAt P answers q.number) (take i queries)
-      → All (λ q. HoldsAt P (set answers query.number answer) q.number) (take (i + 1) queries)
-  more_found P within p found =
-      All-more Finds queries i nothing l (λ k d m. still (get_or (take i queries) k d).number (found k d m))
-      (λ d. here query.number d refl)
-    where
-      Finds : Query → Type 0
-      Finds q = HoldsAt P (set answers query.number answer) q.number
-
-      here : (n : ℕ) (d : Answer) → n ≡ query.number → P (get_or (set answers query.number answer) n d)
-      here n d e = subst P (sym (get_or-set_at answers query.number n answer d e within)) p
-
-      still : (n : ℕ) → HoldsAt P answers n → HoldsAt P (set answers query.number answer) n
-      still n h d = by (nat_eq n query.number) refl
-        where
-          by : (b : Bool) → nat_eq n query.number ≡ b → P (get_or (set answers query.number answer) n d)
-          by true e = here n d (grind (arith, nat_tests, e))
-          by false e =
-              let other : n ≢ query.number = λ same. (let no : false ≡ true = grind (arith, nat_tests, e, same) in false≢true no) in
-              subst P (sym (get_or-set_other answers query.number n answer d other)) (h d)
-
--- what is found for each query, each answer is
-pub each_is_found : (P : Answer → Type 0) (keys : List ℕ) (queries : List Query) (answers : List Answer)
-    → IsPermutation (numbered keys) queries → length answers ≡ length keys
-    → All (λ query. HoldsAt P answers query.number) queries → All P answers
-each_is_found P keys queries [] same e found = All-nil P
-each_is_found P keys queries (x ∷ xs) same e found =
-    All-from_get_or P (x ∷ xs) x (λ i l.
-    let within : i < length keys = rw (sym e) l in
-    let query = query_of (i, get_or keys i 0) in
-    let among = rw (at keys i within) at (Contains-get_or (numbered keys) i nothing (rw (long keys) within)) in
-    All-contains (λ q. HoldsAt P (x ∷ xs) q.number) queries query found
-    (Contains-permutation (numbered keys) queries query same among) x)
-
--- the rows of the answers are those of their keys
-pub rows_are : (index : List Entry) (answers : List Answer) → All (IsAnswer index) answers
-    → flat_map (λ answer. rows answer.key (places_of answer)) answers
-    ≡ flat_map (λ key. entry_rows key (of_key key index)) (map (λ answer. answer.key) answers)
-rows_are index [] all = refl
-rows_are index (x ∷ xs) all =
-    ap (λ places. rows x.key places ++ flat_map (λ answer. rows answer.key (places_of answer)) xs) (all 0 x (omega arith))
-    ∙ ap (λ rest. entry_rows x.key (of_key x.key index) ++ rest) (rows_are index xs (λ k d l. all (suc k) d (omega (arith, l))))
-
--- the answers to some queries, and then to others
-pub answers_both : {W : Type 0} (contents : W → Option (List ℕ)) (index : List Entry) (xs ys : List ℕ) (before mid after : Writer W)
-    → Writes contents before mid (answers index xs) → Writes contents mid after (answers index ys)
-    → Writes contents before after (answers index (xs ++ ys))
-answers_both contents index xs ys before mid after h k =
-    rw (flat_map-append (λ key. entry_rows key (of_key key index)) xs ys)
-    (writes_both contents before mid after (answers index xs) (answers index ys) h k)
+-- by an index
+pub all_done : {R W : Type 0} (contents : W → Option (List ℕ)) (format other : Format) (columns : List (List ℕ)) (a b : Option (List ℕ))
+    (index : Table R) (before mid after : Writer W) (i q w : Bool) → IfSome a (λ bytes. IsIndex format bytes columns index)
+    → Writes contents before mid (header (names_of index.records))
+    → IfSome b (λ bytes. AnswersBy contents index.rows.items other bytes q mid after) → (i ≡ true → count_of index.records ≡ 0)
+    → (w ≡ true → (i ≡ true) × (q ≡ true))
+    → IfSome a (λ table. IfSome b (λ asked. Answers contents format other columns table asked w before after))
+all_done contents format other columns None b index before mid after i q w is names answers none both = tt
+all_done contents format other columns (Some table) None index before mid after i q w is names answers none both = tt
+all_done contents format other columns (Some table) (Some asked) index before mid after i q w is names answers none both = record {
+  places = index.layout.key.items;
+  key_at = is.key_at;
+  writes =
+      rw (is.names, same_found index.rows.items index.layout.key.items (whole_rows format table) is.found (whole_rows other asked)) at
+      (writes_both contents before mid after _ _ names answers.writes);
+  whole = λ e. let (first, second) = both e in (is.whole (none first), answers.whole second);
+}

@@ -1,28 +1,22 @@
 -- The rows that answer queries.
-use Rattle.std.specs.Prelude.{ℕ, List, [], ◌∷◌, ◌++◌, decimal, flat_map, map}
-use Rattle.csv.specs.Records.{field_at}
-use Rattle.program_parts.specs.Records.{Record}
-use Rattle.program_parts.specs.Written.{two_names}
-use Rattle.index_reader.specs.Keys.{of_key}
-use Rattle.index_reader.specs.declared.columns.Fields.{Fields}
-use Rattle.index_reader.specs.declared.entry.Entry.{Entry}
+use Rattle.std.specs.Prelude.{ℕ, List, Bool, flat_map, map}
+use Rattle.std.specs.List.{filter}
+use Rattle.std.specs.Ordering.{is_eq}
+use Rattle.program_parts.specs.Records.{Record, field}
+use Rattle.program_parts.specs.Rows.{Row, key_cmp}
 
--- the row of a key and a place
-abbrev pub place_row : ℕ → ℕ → Record
-place_row key place = decimal key ∷ decimal place ∷ []
+-- the rows that have the key, in their order
+abbrev pub of_key : Record → List Row → List Row
+of_key key rows = filter (λ row. is_eq (key_cmp row.key key)) rows
 
--- a row for each of these places
-abbrev pub rows : ℕ → List ℕ → List Record
-rows key places = map (place_row key) places
+-- the rows that are found for keys, each without its own
+abbrev pub found_rows : List Row → List Record → List Record
+found_rows rows keys = flat_map (λ key. map (λ row. row.rest) (of_key key rows)) keys
 
--- a row for each of these entries of the key
-abbrev pub entry_rows : ℕ → List Entry → List Record
-entry_rows key entries = rows key (map (λ entry. entry.place) entries)
+-- the fields at these places of a record are the key
+abbrev pub has_key : List ℕ → Record → Record → Bool
+has_key places key fields = is_eq (key_cmp (map (field fields) places) key)
 
--- the answers to queries, in their order: a row for each entry of each key
-abbrev pub answers : List Entry → List ℕ → List Record
-answers index keys = flat_map (λ key. entry_rows key (of_key key index)) keys
-
--- what is written for queries of these keys, by an index whose columns have these names
-abbrev pub answer_rows : Record → Fields → List Entry → List ℕ → List Record
-answer_rows names fields index keys = two_names (field_at names fields.key) (field_at names fields.place) ++ answers index keys
+-- the answers to queries, each of which is a key, in their order: all records of the index that have it, in theirs
+abbrev pub answers : List ℕ → List Record → List Record → List Record
+answers places index queries = flat_map (λ key. filter (has_key places key) index) queries

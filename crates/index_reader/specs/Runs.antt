@@ -1,47 +1,47 @@
 -- What a run reads and writes.
-use Rattle.std.specs.Prelude.{◌≡◌, ℕ, List, [], ◌∷◌, ◌++◌, Bool, ◌&&◌, Option}
+use Rattle.std.specs.Prelude.{◌≡◌, ℕ, List, [], ◌∷◌, ◌++◌, Bool, true, map, Option}
+use Rattle.std.specs.List.{filter}
 use Rattle.csv.specs.declared.writer.Writer.{Writer}
-use Rattle.program_parts.specs.Columns.{IsColumn}
-use Rattle.program_parts.specs.Records.{Record, width_in, names_in, rows_of}
-use Rattle.program_parts.specs.RecordsKept.{AreRead, SaysWhole}
+use Rattle.program_parts.specs.Columns.{AreKeyPlaces, IsColumn}
+use Rattle.program_parts.specs.Records.{Record, names_in, rows_of, whole_rows}
+use Rattle.program_parts.specs.RecordsLeft.{count_of, names_of}
+use Rattle.program_parts.specs.Rows.{Row}
 use Rattle.program_parts.specs.Written.{Writes}
 use Rattle.program_parts.specs.declared.records.Format.{Format}
-use Rattle.index_reader.specs.Answers.{answer_rows}
-use Rattle.index_reader.specs.Keys.{IsAscending, Says, Asks}
-use Rattle.index_reader.specs.declared.columns.Fields.{Fields}
-use Rattle.index_reader.specs.declared.entry.Entry.{Entry}
+use Rattle.program_parts.specs.declared.table.Table.{Table}
+use Rattle.index_reader.specs.Answers.{answers, found_rows, has_key, of_key}
 
--- a record says an entry that may follow these
-abbrev pub SaysEntry : Fields → List Entry → Record → Entry → Type 0
-SaysEntry at before fields entry = Says at fields entry × IsAscending (before ++ entry ∷ [])
+-- the names of columns as they are written, if there are any
+abbrev pub header : Record → List Record
+header [] = []
+header (name ∷ names) = (name ∷ names) ∷ []
 
--- a record asks for a key, whatever queries stand before it
-abbrev pub SaysQuery : List ℕ → Record → ℕ → Type 0
-SaysQuery before fields key = Asks fields key
+-- each record of a table in these bytes has as many fields as it must
+abbrev pub HasNoOther : Format → List ℕ → Type 0
+HasNoOther format bytes = whole_rows format bytes ≡ rows_of format bytes
 
--- these are the entries that the records of an index in these bytes say, in columns of these texts
-pub record HasEntries (format : Format) (key place bytes : List ℕ) (fields : Fields) (index : List Entry) (is_whole : Bool) : Type 0 where
-  pub key_at : IsColumn format bytes key fields.key
-  pub place_at : IsColumn format bytes place fields.place
-  pub are_read : AreRead (SaysWhole (width_in format bytes) (SaysEntry fields)) (rows_of format bytes) index is_whole
+-- The index in these bytes is read, with its key in the columns of these texts. The rows that have a key are the records that have it.
+pub record IsIndex {R : Type 0} (format : Format) (bytes : List ℕ) (columns : List (List ℕ)) (table : Table R) : Type 0 where
+  pub key_at : AreKeyPlaces (IsColumn format bytes) columns table.layout.key.items
+  pub names : names_of table.records ≡ names_in format bytes
+  pub found : (key : Record) → map (λ row. row.rest) (of_key key table.rows.items)
+      ≡ filter (has_key table.layout.key.items key) (whole_rows format bytes)
+  pub whole : count_of table.records ≡ 0 → HasNoOther format bytes
 
--- these are the keys that the records in these bytes ask for
-abbrev pub HasQueries : Format → List ℕ → List ℕ → Bool → Type 0
-HasQueries format bytes keys is_whole =
-    AreRead (SaysWhole (width_in format bytes) SaysQuery) (rows_of format bytes) keys is_whole
-
--- The answers to the queries in the one file are written, by the index in the other, in columns of these texts. Records that are wrong are
--- left out, and `is_whole` says whether there is none.
-pub record Answers {W : Type 0} (contents : W → Option (List ℕ)) (format other : Format) (key place entries queries : List ℕ)
-    (is_whole : Bool)
+-- the queries in these bytes are answered by rows of an index, and each record is one if `is_whole` is true
+pub record AnswersBy {W : Type 0} (contents : W → Option (List ℕ)) (rows : List Row) (format : Format) (bytes : List ℕ) (is_whole : Bool)
     (before after : Writer W) : Type 0
   where
-    pub fields : Fields
-    pub index : List Entry
-    pub keys : List ℕ
-    pub are_entries : Bool
-    pub are_queries : Bool
-    pub reads_index : HasEntries format key place entries fields index are_entries
-    pub reads_queries : HasQueries other queries keys are_queries
-    pub writes : Writes contents before after (answer_rows (names_in format entries) fields index keys)
-    pub whole : is_whole ≡ (are_entries && are_queries)
+    pub writes : Writes contents before after (found_rows rows (whole_rows format bytes))
+    pub whole : is_whole ≡ true → HasNoOther format bytes
+
+-- The names of the index in the one file and the answers to the queries in the other are written, with the key in the columns of these
+-- texts. Records of another width are left out, and where `is_whole` is true there is none.
+pub record Answers {W : Type 0} (contents : W → Option (List ℕ)) (format other : Format) (columns : List (List ℕ)) (index queries : List ℕ)
+    (is_whole : Bool) (before after : Writer W) : Type 0
+  where
+    pub places : List ℕ
+    pub key_at : AreKeyPlaces (IsColumn format index) columns places
+    pub writes : Writes contents before after
+        (header (names_in format index) ++ answers places (whole_rows format index) (whole_rows other queries))
+    pub whole : is_whole ≡ true → HasNoOther format index × HasNoOther other queries

@@ -1,22 +1,14 @@
-//! Looks keys up in a sorted index.
+//! Answers queries by an index, a table in any order: the rows of each key that is asked for.
 //!
-//! What is kept in memory is the index, a block of queries and the longest record. A query takes time in proportion to the
+//! The index is read whole, and its rows are sorted. Of the queries a block is in memory. A query takes time in proportion to the
 //! logarithm of the length of the index, and to what it finds.
 #![tactic(auto)]
 
-mod answer;
-mod block;
-mod columns;
-mod entry;
-mod index;
-mod lookup;
-mod output;
-mod query;
+mod answers;
 mod run;
 
-use crate::columns::Columns;
 use crate::run::answer_all;
-use clap::{Arg, ArgMatches, Command};
+use clap::{Arg, ArgAction, ArgMatches, Command};
 use program_parts::app::{App, main_of};
 use program_parts::failure::Failure;
 use program_parts::input::open_two;
@@ -37,17 +29,24 @@ impl App for Program {
     const NAME: &'static str = "index_reader";
 
     const ABOUT: &'static str = "\
-Writes the key and the place of each entry of a CSV index that has the key of a query, in the order
-of the queries. A key is an unsigned number of 32 bits, a place one of 64; the keys of the index
-ascend. A query is a record of one field; answers come for 65,536 of them at once.
+Writes the rows of a CSV table, the index, that have the keys of queries, in the order of the
+queries: for each query all rows of its key, as they stand in the index. The index may come in any
+order. A query is a record with the fields of a key and nothing else, and the queries have no names
+of columns. Answers go out before more queries are waited for.
 
-Example: index_reader index.csv queries.csv
+Example: index_reader --key customer orders.csv customers.csv
 
 A COLUMN is a name in the first record of the index, or else a number, from 1.
-Left out are records that say no entry or no query, and keys below one before them.
+Left out are records of the index with another number of fields than the first, and queries with
+another number than the key.
 Status: 0 all is answered; 1 a record was left out; 2 it failed.";
 
     fn arguments<'a>(alloc: Global, command: Command<'a>) -> Result<Command<'a>, AllocError> {
+        let key = column_option(
+            alloc,
+            "key",
+            "A column of the key; the first one if none is named",
+        );
         let index = Arg::new(alloc, "INDEX")
             .required(true)
             .help("The index; a dash is standard input");
@@ -55,21 +54,17 @@ Status: 0 all is answered; 1 a record was left out; 2 it failed.";
             .default_value("-")
             .help("The queries");
         with_format(alloc, command)?
-            .arg(column_option(alloc, "key", "The column of the keys").default_value("1"))?
-            .arg(column_option(alloc, "place", "The column of the places").default_value("2"))?
+            .arg(key.action(ArgAction::Append))?
             .arg(index)?
             .arg(queries)
     }
 
     fn run<'a>(rt: &HostRuntime, matches: &ArgMatches<'a>) -> Result<bool, Failure<'a>> {
         let format = format_of(matches)?;
+        let key = matches.get_strs("key").unwrap_or(&[]);
         let index = matches.get_str("INDEX").unwrap_or("-");
         let queries = matches.get_str("QUERIES").unwrap_or("-");
         let (index_input, queries_input) = open_two(rt, index, queries)?;
-        let columns = Columns {
-            key: matches.get_str("key").unwrap_or("1"),
-            place: matches.get_str("place").unwrap_or("2"),
-        };
         let index = Source {
             program: Program::NAME,
             file: index,
@@ -80,21 +75,15 @@ Status: 0 all is answered; 1 a record was left out; 2 it failed.";
             program: Program::NAME,
             file: queries,
             format: Format {
-                width: Some(1),
+                has_headers: false,
+                width: Some(key.len().max(1)),
                 ..format
             },
             input: queries_input,
         };
         let mut out = row_writer(format.delimiter, rt.stdout());
         let mut complaints = BufWriter::new(rt.alloc(), rt.stderr())?;
-        let done = answer_all(
-            rt.alloc(),
-            columns,
-            index,
-            queries,
-            &mut out,
-            &mut complaints,
-        );
+        let done = answer_all(rt.alloc(), key, index, queries, &mut out, &mut complaints);
         if done.is_err() {
             let _ = pass_on(&mut out);
         }

@@ -1,5 +1,10 @@
 pub mod Appended
+pub mod Decimals
+pub mod Fronts
 pub mod NamesFound
-pub mod RecordsKept
+pub mod Places
+pub mod RecordsGiven
 pub mod RecordsLeft
+pub mod RowFields
+pub mod TablesRead
 pub mod Writing

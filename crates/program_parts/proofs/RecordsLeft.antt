@@ -3,8 +3,8 @@ use Rattle.std.proofs.Common.{◌≡◌, ℕ, zero, suc, ◌+◌, ◌<◌, ◌�
 use Rattle.std.proofs.Common.{if◌then◌else◌, Option, None, Some, IfSome, inl, inr, refl, sym, ap, ◌∙◌, arith, add-one}
 use Rattle.std.specs.Prelude.{◌⊎◌, option_map, is_none}
 use Rattle.csv.specs.Machine.{Read, next_record, ends_at_end, is_end, step, fields_after, field_after}
-use Rattle.csv.specs.Reading.{Reached, ReadRecord, Ready, records, records_from, source_of, strip_bom}
-use Rattle.csv.specs.Reading.{reader_config, reader_state, reader_trim, reader_headers, took_first, names_headers}
+use Rattle.csv.specs.Reading.{Reached, ReadRecord, Ready, records_from, source_of}
+use Rattle.csv.specs.Reading.{reader_trim, took_first}
 use Rattle.csv.specs.declared.parser.Config.{Config}
 use Rattle.csv.specs.declared.parser.State.{State}
 use Rattle.csv.specs.declared.parser.State.TheVariants as st
@@ -145,25 +145,6 @@ module _ {R : Type 0} (remaining : R → Option (List ℕ)) where
       by false is = rw is tt
       by true is = source_by (source_of remaining old) refl is
 
-  -- none is given yet
-  pub all_left : (reader : Reader R) (cfg : Config) (input : Option (List ℕ)) → reader_trim reader ≡ trim.None
-      → names_headers reader ≡ false
-      → reader_headers reader ≡ None → reader_config reader ≡ cfg → reader_state reader ≡ st.StartRecord
-      → source_of remaining reader ≡ option_map strip_bom input
-      → reader_left remaining reader ≡ option_map (λ bytes. records cfg (strip_bom bytes)) input
-  all_left reader cfg input unchanged named none config start source =
-      let first : is_ready reader ≡ true = by reader.first in
-      rw (first, source, config, start) (over input)
-    where
-      by : (b : Bool) → (is_plain reader.trim && (b || (not reader.has_headers && is_none reader.headers))) ≡ true
-      by true = rw unchanged refl
-      by false = rw (unchanged, named, none) refl
-
-      over : (o : Option (List ℕ)) → option_map (λ bytes. records_from cfg (length bytes + 1) st.StartRecord bytes) (option_map strip_bom o)
-          ≡ option_map (λ bytes. records cfg (strip_bom bytes)) o
-      over None = refl
-      over (Some bytes) = refl
-
 -- the first record was read
 module _ (f : List ℕ → List Record) where
   -- it is known, and so is what it determines
@@ -200,8 +181,3 @@ module _ (f : List ℕ → List Record) where
   none_dropped None n gives = tt
   none_dropped (Some bytes) zero gives = gives
   none_dropped (Some bytes) (suc n) gives = rw gives refl
-
--- the record that waits is given
-pub waiting_given : (o : Option (List Record)) (fields : Record) → Gives (option_map (λ rows. fields ∷ rows) o) o (fields ∷ [])
-waiting_given None fields = tt
-waiting_given (Some rows) fields = refl

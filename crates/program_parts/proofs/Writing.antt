@@ -1,6 +1,6 @@
 -- Rows that are written one after another.
 use Rattle.std.proofs.Common.{◌≡◌, ℕ, ◌+◌, List, [], ◌∷◌, ◌++◌, take, map, flat_map, Option}
-use Rattle.std.proofs.Common.{refl, sym, ap, ◌∙◌, subst, OnOk, Result, Ok, Err}
+use Rattle.std.proofs.Common.{refl, sym, ap, ◌∙◌, subst}
 use Rattle.std.proofs.lemmas.Grind.{flat_map-append}
 use Rattle.std.proofs.lemmas.List.{append-nil, map-append}
 use Rattle.csv.specs.Writing.{row_text}
@@ -22,12 +22,6 @@ module _ {W : Type 0} (contents : W → Option (List ℕ)) where
         let (after, then) = q.writes delimiter between in
         (after, rw (flat_map-append (row_text (setup_of delimiter)) rows more) (appends_both _ _ _ _ _ first then));
   }
-
-  -- and then others, where the last call succeeds
-  pub writes_then : {T E : Type 0} (a b c : Writer W) (rows more : List Record) (r : Result T E) → Writes contents a b rows
-      → OnOk r (Writes contents b c more) → OnOk r (Writes contents a c (rows ++ more))
-  writes_then a b c rows more (Ok x) p q = writes_both a b c rows more p q
-  writes_then a b c rows more (Err e) p q = tt
 
   -- the rows of one element more
   pub writes_more : {X : Type 0} (a b c : Writer W) (f : X → List Record) (xs : List X) (i : ℕ) (x : X)

@@ -1,5 +1,6 @@
 -- Columns of a table.
-use Rattle.std.specs.Prelude.{◌≡◌, ◌≢◌, ◌⊎◌, ℕ, ◌+◌, ◌<◌, List, Some}
+use Rattle.std.specs.Prelude.{◌≡◌, ◌≢◌, ◌⊎◌, ℕ, ◌+◌, ◌<◌, List, [], ◌∷◌, Some}
+use Rattle.std.specs.List.{AllZip}
 use Rattle.csv.specs.Records.{field_at}
 use Rattle.program_parts.specs.Decimals.{IsNumber}
 use Rattle.program_parts.specs.Records.{Record, names_in, width_in}
@@ -23,3 +24,8 @@ IsPlace width names column place =
 abbrev pub IsColumn : Format → List ℕ → List ℕ → ℕ → Type 0
 IsColumn format bytes column place =
     width_in format bytes ≢ 0 → IsPlace (width_in format bytes) (names_in format bytes) column place
+
+-- the places of the columns of a key: of the first one where none is named
+abbrev pub AreKeyPlaces : (List ℕ → ℕ → Type 0) → List (List ℕ) → List ℕ → Type 0
+AreKeyPlaces IsAt [] places = places ≡ 0 ∷ []
+AreKeyPlaces IsAt (column ∷ columns) places = AllZip IsAt (column ∷ columns) places

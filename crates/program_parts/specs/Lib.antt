@@ -1,6 +1,8 @@
 pub mod Columns
 pub mod Decimals
 pub mod Records
-pub mod RecordsKept
 pub mod RecordsLeft
+pub mod Rows
+pub mod Said
+pub mod Tables
 pub mod Written

@@ -1,5 +1,7 @@
 -- The records of a table.
-use Rattle.std.specs.Prelude.{◌≡◌, ℕ, List, [], ◌∷◌, ◌++◌, drop, ⊤, if◌then◌else◌, length, Option, None, Some, unwrap_or}
+use Rattle.std.specs.Prelude.{◌≡◌, ℕ, List, [], ◌∷◌, ◌++◌, drop, ⊤, Bool, nat_eq, if◌then◌else◌, length, Option, None, Some, unwrap_or}
+use Rattle.std.specs.List.{filter}
+use Rattle.csv.specs.Records.{field_at}
 use Rattle.csv.specs.Reading.{default_config, records, strip_bom}
 use Rattle.csv.specs.declared.parser.Config.{Config}
 use Rattle.program_parts.specs.declared.records.Format.{Format}
@@ -7,6 +9,10 @@ use Rattle.program_parts.specs.declared.records.Format.{Format}
 -- a record: its fields
 abbrev pub Record : Type 0
 Record = List (List ℕ)
+
+-- the field at this place, with no byte where there is none
+abbrev pub field : Record → ℕ → List ℕ
+field row place = unwrap_or (field_at row place) []
 
 -- how a text of this format is cut into records: as csv files are, with this byte between two fields
 abbrev pub config_of : Format → Config
@@ -27,6 +33,14 @@ first_record format bytes = first_of (records (config_of format) (strip_bom byte
 -- how many fields each row has: as the format says, or as many as the first record
 abbrev pub width_in : Format → List ℕ → ℕ
 width_in format bytes = unwrap_or format.width (length (first_record format bytes))
+
+-- the record has so many fields
+abbrev pub has_width : ℕ → Record → Bool
+has_width width row = nat_eq (length row) width
+
+-- the rows of that width: the others are left out
+abbrev pub whole_rows : Format → List ℕ → List Record
+whole_rows format bytes = filter (has_width (width_in format bytes)) (rows_of format bytes)
 
 -- the names of the columns, if a table of this format has them
 abbrev pub names_in : Format → List ℕ → Record

@@ -1,13 +1,15 @@
 -- The records that are not given yet.
-use Rattle.std.specs.Prelude.{◌≡◌, ℕ, ◌+◌, List, [], ◌∷◌, length, IfSome, Bool, true, false, not, ◌&&◌, ◌||◌, if◌then◌else◌}
+use Rattle.std.specs.Prelude.{◌≡◌, ◌≢◌, ℕ, ◌+◌, List, [], ◌∷◌, length, IfSome, Bool, true, false, not, ◌&&◌, ◌||◌, if◌then◌else◌}
 use Rattle.std.specs.Prelude.{Option, None, Some, option_map, is_none}
+use Rattle.std.specs.List.{filter}
 use Rattle.csv.specs.Reading.{records_from, source_of}
 use Rattle.csv.specs.Reading.{reader_config, reader_state, reader_trim, reader_headers, took_first, names_headers}
 use Rattle.csv.specs.declared.reader.Reader.{Reader}
 use Rattle.csv.specs.declared.reader.Trim.{Trim}
 use Rattle.csv.specs.declared.reader.Trim.TheVariants as trim
 use Rattle.csv.specs.Records.{fields_of}
-use Rattle.program_parts.specs.Records.{Record, Gives, names_in, rows_of, width_in}
+use Rattle.program_parts.specs.Columns.{IsPlace}
+use Rattle.program_parts.specs.Records.{Record, Gives, has_width, names_in, rows_of, width_in}
 use Rattle.program_parts.specs.declared.records.Format.{Format}
 use Rattle.program_parts.specs.declared.records.Records.{Records}
 
@@ -59,3 +61,18 @@ pub record IsNew {R : Type 0} (remaining : R → Option (List ℕ)) (format : Fo
   pub width : IfSome input (λ bytes. width_of records ≡ width_in format bytes)
   pub names : IfSome input (λ bytes. names_of records ≡ names_in format bytes)
   pub none_left_out : count_of records ≡ 0
+
+-- the column stands at this place, if the table has a record
+abbrev pub IsColumnOf : {R : Type 0} → Records R → List ℕ → ℕ → Type 0
+IsColumnOf records column place = width_of records ≢ 0 → IsPlace (width_of records) (names_of records) column place
+
+-- Of all records those that are not left were given, and these are the rows among them, of so many fields. They are all of them if none
+-- was left out.
+pub record GivenSoFar (width : ℕ) (all left : Option (List Record)) (rows : List Record) (count : ℕ) : Type 0 where
+  pub given : List Record
+  pub gives : Gives all left given
+  pub rows_are : rows ≡ filter (has_width width) given
+  pub whole : count ≡ 0 → rows ≡ given
+
+abbrev pub HasGiven : {R : Type 0} → (R → Option (List ℕ)) → Option (List Record) → List Record → Records R → Type 0
+HasGiven remaining all rows records = GivenSoFar (width_of records) all (left_of remaining records) rows (count_of records)

@@ -1,10 +1,12 @@
 //! Columns, by their numbers or names.
-ghost use Rattle.std.specs.Prelude.{◌≡◌, ◌↔◌, ℕ, IfErr, IfOk, IfSome, IsTrue, None, Some};
-ghost use Rattle.csv.specs.Records.{field_at, fields_of};
+ghost use Rattle.std.specs.Prelude.{◌≡◌, ◌↔◌, ◌++◌, [], ℕ, map, IfErr, IfOk, IfSome, IsTrue, None, OnOk, Some};
+ghost use Rattle.csv.specs.Records.{field_at, fields_of, partial_of};
 ghost use Rattle.program_parts.specs.Columns.{IsNoName, IsOnlyName, IsPlace};
+ghost use Rattle.program_parts.specs.Records.{field};
 
 use crate::shown::{Excerpt, ShownName};
 use csv::ByteRecord;
+use std::alloc::AllocError;
 use std::fmt;
 use std::fmt::Write;
 
@@ -110,4 +112,27 @@ fn is_named(names: &ByteRecord, place: usize, name: &[u8]) -> bool
         Some(field) => field == name,
         None => false,
     }
+}
+
+/// The field at this place, with no byte where there is none.
+pub fn field_or_empty(fields: &ByteRecord, place: usize) -> &[u8]
+    ensures { result.now ≡ field (fields_of fields.now) place }
+{
+    fields.get(place).unwrap_or(&[])
+}
+
+/// Puts the fields at these places behind those of a row.
+pub fn push_fields(
+    fields: &ByteRecord,
+    places: &[usize],
+    row: &mut ByteRecord,
+) -> Result<(), AllocError>
+    requires { partial_of row.old ≡ [] }
+    ensures fields { OnOk result (fields_of row.new ≡ fields_of row.old ++ map (field (fields_of fields.now)) places.now) }
+    ensures partial { OnOk result (partial_of row.new ≡ []) }
+{
+    for place in places {
+        row.push_field(field_or_empty(fields, *place))?;
+    }
+    Ok(())
 }

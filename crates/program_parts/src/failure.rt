@@ -1,5 +1,5 @@
 //! Why a program did not do what it was asked, and the status with which it ends.
-ghost use Rattle.std.specs.Prelude.{◌≡◌, ◌↔◌, Ok, true, false, OnOk};
+ghost use Rattle.std.specs.Prelude.{◌≡◌, ◌↔◌, ◌++◌, ◌∷◌, [], Ok, true, false, OnOk};
 
 use crate::shown::ShownName;
 use std::alloc::AllocError;
@@ -44,13 +44,21 @@ impl<'a> From<AllocError> for IoFailure<'a> {
     }
 }
 
+/// Puts an item behind others. Where there is no memory, it is let go.
+pub fn push<T: Drop>(items: &mut Vec<T>, item: T) -> Result<(), AllocError>
+    ensures { OnOk result (items.new.items ≡ items.old.items ++ item ∷ []) }
+{
+    items.push(item)?;
+    Ok(())
+}
+
 /// Why a program did not do what it was asked.
 #[derive(Debug, Drop)]
 pub enum Failure<'a> {
     /// An argument is wrong, and why.
     Usage(&'static str),
-    /// A table does not have a column that was asked for: the whole complaint.
-    Column(String),
+    /// A table has no such column, or is not as it was said to be: the whole complaint.
+    Table(String),
     /// A read or a write failed, or memory ran out.
     Io(IoFailure<'a>),
 }
@@ -59,7 +67,7 @@ impl<'a> fmt::Display for Failure<'a> {
     fn fmt<W: fmt::Write>(&self, f: &mut fmt::Formatter<W>) -> fmt::Result {
         match self {
             Failure::Usage(why) => write!(f, "{why}"),
-            Failure::Column(complaint) => write!(f, "{complaint}"),
+            Failure::Table(complaint) => write!(f, "{complaint}"),
             Failure::Io(failure) => write!(f, "{failure}"),
         }
     }

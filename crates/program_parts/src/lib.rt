@@ -3,13 +3,17 @@
 #![tactic(auto)]
 
 pub mod app;
+pub mod block;
 pub mod blocks;
 pub mod columns;
 pub mod failure;
 pub mod input;
+pub mod layout;
 pub mod numbers;
 pub mod omitted;
 pub mod records;
+pub mod row;
 pub mod rows;
 pub mod shown;
+pub mod table;
 pub mod table_options;

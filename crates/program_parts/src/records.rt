@@ -1,12 +1,12 @@
-//! The records of a table, of which each is kept or left out.
-ghost use Rattle.std.specs.Prelude.{◌≡◌, ◌≢◌, ◌∷◌, ℕ, List, [], IfOk, MatchOption, option_map};
+//! The records of a table, one after another. Those of another width than its rows are left out.
+ghost use Rattle.std.specs.Prelude.{◌≡◌, ◌≢◌, ◌++◌, ◌∷◌, ℕ, List, [], IfOk, map, option_map, OnOk};
 ghost use Rattle.csv.specs.Reading.{records, strip_bom};
 ghost use Rattle.csv.specs.Records.{fields_of};
 ghost use Rattle.program_parts.specs.Records.{config_of};
 ghost use Rattle.program_parts.specs.RecordsLeft.{reader_left};
 
 use crate::columns::{ColumnFault, WrongColumn, place_of};
-use crate::failure::{Failure, IoFailure};
+use crate::failure::{Failure, IoFailure, push};
 use crate::input::Noted;
 use crate::omitted::Omitted;
 use csv::{ByteRecord, ErrorKind, Reader, ReaderBuilder};
@@ -33,34 +33,6 @@ pub struct Source<'a, R> {
     pub file: &'a str,
     pub format: Format,
     pub input: R,
-}
-
-/// Keeps what records say, one after another, and leaves out those that say nothing.
-pub trait RecordKeeper {
-    ghost use Rattle.std.specs.Prelude.{List, IfOk};
-    ghost use Rattle.csv.specs.Records.{fields_of};
-    ghost use Rattle.program_parts.specs.Records.{Record};
-    ghost use Rattle.program_parts.specs.RecordsKept.{TakesRecord};
-
-    /// What is wrong with a record.
-    type Problem: Display + Drop;
-
-    /// What a record says.
-    ghost Item: { Type 0 };
-
-    /// What stays the same while records come, such as the columns that are read.
-    ghost Setting: { Type 0 };
-
-    /// The record says this, where these are kept of the records before it.
-    ghost says: { Setting → List Item → Record → Item → Type 0 };
-
-    /// These are kept.
-    ghost keeps: { Setting → Self → List Item → Type 0 };
-
-    /// Keeps what the record says, or tells why it says nothing. Another record may then stand in its place.
-    fn keep(&mut self, row: &mut ByteRecord) -> io::Result<Result<(), Self::Problem>>
-        ensures { IfOk result (λ taken. (setting : Setting) (kept : List Item) → keeps setting self.old kept
-            → TakesRecord (says setting) (keeps setting self.new) kept (fields_of row.old) taken) };
 }
 
 /// A record has another number of fields than it must have.
@@ -98,11 +70,11 @@ pub struct Records<'a, R> {
 }
 
 impl<'a, R: Read + Noted + Drop> Records<'a, R> {
-    ghost use Rattle.std.specs.Prelude.{◌++◌, Option, Some, true, false, if◌then◌else◌, IfSome, OnOk};
-    ghost use Rattle.program_parts.specs.Columns.{IsPlace};
+    ghost use Rattle.std.specs.Prelude.{◌+◌, None, Option, Some, true, false, if◌then◌else◌, min, unwrap_or};
+    ghost use Rattle.std.specs.List.{AllZip};
+    ghost use Rattle.program_parts.specs.Columns.{AreKeyPlaces};
     ghost use Rattle.program_parts.specs.Records.{Gives, Record};
-    ghost use Rattle.program_parts.specs.RecordsLeft.{IsNew, count_of, left_of, names_of, width_of};
-    ghost use Rattle.program_parts.specs.RecordsKept.{AreRead, HasKept, SaysWhole};
+    ghost use Rattle.program_parts.specs.RecordsLeft.{HasGiven, IsColumnOf, IsNew, count_of, left_of, names_of, row_of, width_of};
 
     /// The rows of a table, of which none is given yet. The first record is read.
     pub fn new(alloc: Global, source: Source<'a, R>) -> Result<Records<'a, R>, IoFailure<'a>>
@@ -137,14 +109,9 @@ impl<'a, R: Read + Noted + Drop> Records<'a, R> {
         &self.names
     }
 
-    /// Takes the names of the columns, and leaves none.
-    pub fn take_names(&mut self, alloc: Global) -> ByteRecord
-        ensures names { fields_of result ≡ names_of self.old }
-        ensures left { left_of R.remaining self.new ≡ left_of R.remaining self.old }
-        ensures width { width_of self.new ≡ width_of self.old }
-        ensures left_out { count_of self.new ≡ count_of self.old }
-    {
-        mem::replace(&mut self.names, ByteRecord::new(alloc))
+    /// The name of the file, for complaints.
+    pub fn file(&self) -> &'a str {
+        self.omitted.file()
     }
 
     /// How many fields each row has.
@@ -157,7 +124,7 @@ impl<'a, R: Read + Noted + Drop> Records<'a, R> {
     /// The place of a column among the fields of a row, from zero. Where the table has no record, it is zero for each column. The
     /// failure has a complaint with the names that there are.
     pub fn place_of(&self, alloc: Global, column: &str) -> Result<usize, Failure<'a>>
-        ensures { IfOk result (λ place. width_of self.now ≢ 0 → IsPlace (width_of self.now) (names_of self.now) column.now place) }
+        ensures { IfOk result (IsColumnOf self.now column.now) }
     {
         if self.width == 0 {
             return Ok(0);
@@ -166,6 +133,28 @@ impl<'a, R: Read + Noted + Drop> Records<'a, R> {
             Ok(place) => Ok(place),
             Err(fault) => Err(self.without_column(alloc, column, fault)?),
         }
+    }
+
+    /// The places of these columns.
+    pub fn places_of(&self, alloc: Global, columns: &[&str]) -> Result<Vec<usize>, Failure<'a>>
+        ensures { IfOk result (λ places. AllZip (IsColumnOf self.now) (map (λ column. column.now) columns.now) places.items) }
+    {
+        let mut places = Vec::new(alloc);
+        for column in columns {
+            let place = self.place_of(alloc, column)?;
+            push(&mut places, place)?;
+        }
+        Ok(places)
+    }
+
+    /// The places of these columns, or of the first one where none is named.
+    pub fn key_places(&self, alloc: Global, columns: &[&str]) -> Result<Vec<usize>, Failure<'a>>
+        ensures { IfOk result (λ places. AreKeyPlaces (IsColumnOf self.now) (map (λ column. column.now) columns.now) places.items) }
+    {
+        if columns.is_empty() {
+            return Ok(Vec::from_slice(alloc, &[0])?);
+        }
+        self.places_of(alloc, columns)
     }
 
     // The failure that says why there is no such column.
@@ -181,7 +170,7 @@ impl<'a, R: Read + Noted + Drop> Records<'a, R> {
             fault,
             names: &self.names,
         };
-        Ok(Failure::Column(format!(in alloc; "{wrong}")?))
+        Ok(Failure::Table(format!(in alloc; "{wrong}")?))
     }
 
     // Reads the next record in the place of the one before. `false` where none is left.
@@ -214,63 +203,54 @@ impl<'a, R: Read + Noted + Drop> Records<'a, R> {
         }
     }
 
-    /// Keeps what the next record says, or leaves it out, and a line of complaint says why: it has another number of fields, or it
-    /// says nothing. `false` where none is left.
-    pub fn keep_next<K: RecordKeeper, E: Write>(
-        &mut self,
-        keeper: &mut K,
-        complaints: &mut E,
-    ) -> Result<bool, IoFailure<'a>>
-        ensures kept { OnOk result ((setting : K.Setting) (all : Option (List Record)) (kept : List K.Item)
-            → K.keeps setting keeper.old kept → HasKept R.remaining (K.says setting) all kept self.old
-            → (more : List K.Item) × K.keeps setting keeper.new (kept ++ more)
-            × HasKept R.remaining (K.says setting) all (kept ++ more) self.new) }
-        ensures end { IfOk result (λ found. found ≡ false → left_of R.remaining self.new ≡ Some []) }
+    /// Reads the next record. `Some(true)` says that it is a row, and `Some(false)` that it has another number of fields: then it is left
+    /// out, and a line of complaint says so. `None` where none is left.
+    pub fn next<E: Write>(&mut self, complaints: &mut E) -> Result<Option<bool>, IoFailure<'a>>
+        ensures given { IfOk result (λ found. (all : Option (List Record)) (rows : List Record) → HasGiven R.remaining all rows self.old
+            → HasGiven R.remaining all (rows ++ (if unwrap_or found false then row_of self.new ∷ [] else [])) self.new) }
+        ensures end { IfOk result (λ found. found ≡ None → left_of R.remaining self.new ≡ Some []) }
+        ensures none_left_out { count_of self.new ≡ 0 → count_of self.old ≡ 0 }
         ensures width { width_of self.new ≡ width_of self.old }
         ensures names { names_of self.new ≡ names_of self.old }
     {
         if !self.advance()? {
-            return Ok(false);
+            return Ok(None);
         }
-        if self.row.len() != self.width {
-            let problem = OtherWidth {
-                width: self.row.len(),
-                wanted: self.width,
-            };
-            let number = self.number();
-            self.omitted.say(complaints, number, problem)?;
-            return Ok(true);
+        if self.row.len() == self.width {
+            return Ok(Some(true));
         }
-        if let Err(problem) = keeper.keep(&mut self.row)? {
-            let number = self.number();
-            self.omitted.say(complaints, number, problem)?;
-        }
-        Ok(true)
+        let problem = OtherWidth {
+            width: self.row.len(),
+            wanted: self.width,
+        };
+        self.leave_out(problem, complaints)?;
+        Ok(Some(false))
     }
 
-    /// Keeps what all rows say. Gives back whether none was left out.
-    pub fn keep_all<K: RecordKeeper, E: Write>(
+    /// The row that was read last.
+    pub fn row(&self) -> &ByteRecord
+        ensures { fields_of result.now ≡ row_of self.now }
+    {
+        &self.row
+    }
+
+    /// Leaves out the record that was read last: a line of complaint says so, and why.
+    pub fn leave_out<P: Display + Drop, E: Write>(
         &mut self,
-        keeper: &mut K,
+        problem: P,
         complaints: &mut E,
-    ) -> Result<bool, IoFailure<'a>>
-        ensures kept { IfOk result (λ is_whole. (setting : K.Setting) (all : Option (List Record)) → K.keeps setting keeper.old []
-            → HasKept R.remaining (K.says setting) all [] self.old
-            → (kept : List K.Item) × K.keeps setting keeper.new kept
-            × IfSome all (λ rows. AreRead (SaysWhole (width_of self.old) (K.says setting)) rows kept is_whole)) }
+    ) -> io::Result<()>
+        ensures count { count_of self.new ≡ min (count_of self.old + 1) u64.MAX }
+        ensures left { left_of R.remaining self.new ≡ left_of R.remaining self.old }
+        ensures width { width_of self.new ≡ width_of self.old }
         ensures names { names_of self.new ≡ names_of self.old }
     {
-        for _ in 0..u64::MAX {
-            if !self.keep_next(keeper, complaints)? {
-                let is_whole = self.finish(complaints)?;
-                return Ok(is_whole);
-            }
-        }
-        Err(IoFailure::from(io::Error::other("there are too many records")))
+        let number = self.number();
+        self.omitted.say(complaints, number, problem)
     }
 
-    // The number of the record that was read last, from 1: that of the names counts too.
-    fn number(&self) -> u64 {
+    /// The number of the record that was read last, from 1: that of the names counts too.
+    pub fn number(&self) -> u64 {
         self.reader.position().record()
     }
 
@@ -315,26 +295,4 @@ fn reader_of<R: Read>(alloc: Global, format: Format, input: R) -> Reader<R>
         .flexible(true)
         .delimiter(format.delimiter)
         .from_reader(alloc, input)
-}
-
-/// The field of a record of one.
-pub fn one_field(row: &ByteRecord) -> Option<&[u8]>
-    ensures { MatchOption result ((field : List ℕ) → fields_of row.now ≢ field ∷ [])
-        (λ field. fields_of row.now ≡ field.now ∷ []) }
-{
-    match (row.get(0), row.get(1)) {
-        (Some(field), None) => Some(field),
-        _ => None,
-    }
-}
-
-/// The fields of a record of two.
-pub fn two_fields(row: &ByteRecord) -> Option<(&[u8], &[u8])>
-    ensures { MatchOption result ((first second : List ℕ) → fields_of row.now ≢ first ∷ second ∷ [])
-        (λ pair. fields_of row.now ≡ pair.0.now ∷ pair.1.now ∷ []) }
-{
-    match (row.get(0), row.get(1), row.get(2)) {
-        (Some(first), Some(second), None) => Some((first, second)),
-        _ => None,
-    }
 }

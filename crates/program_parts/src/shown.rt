@@ -30,15 +30,22 @@ pub struct Excerpt<'a>(pub &'a [u8]);
 
 impl<'a> fmt::Display for Excerpt<'a> {
     fn fmt<W: fmt::Write>(&self, f: &mut fmt::Formatter<W>) -> fmt::Result {
-        let front = self.0.get(..MOST).unwrap_or(self.0);
-        match str::from_utf8(whole_characters(front)) {
-            Ok(text) => write!(f, "{text:?}")?,
-            Err(_) => write!(f, "\"{}\"", front.escape_ascii())?,
-        }
+        let Some(front) = self.0.get(..MOST) else {
+            return write_value(self.0, self.0, f);
+        };
+        write_value(front, whole_characters(front), f)?;
         if front.len() < self.0.len() {
             f.write_str("..")?;
         }
         Ok(())
+    }
+}
+
+// Writes a value, which is this text if it is UTF-8.
+fn write_value<W: fmt::Write>(bytes: &[u8], text: &[u8], f: &mut fmt::Formatter<W>) -> fmt::Result {
+    match str::from_utf8(text) {
+        Ok(text) => write!(f, "{text:?}"),
+        Err(_) => write!(f, "\"{}\"", bytes.escape_ascii()),
     }
 }
 

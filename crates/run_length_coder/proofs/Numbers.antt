@@ -1,15 +1,16 @@
 -- Decimal numbers, which need no quotes and parse as themselves.
-use Rattle.std.proofs.Common.{◌≡◌, ◌≢◌, ℕ, ◌<◌, ◌^◌, false, List, [], ◌∷◌, ◌++◌, get_or, decimal, sym, subst, arith, refl}
-use Rattle.std.proofs.Common.{Ok, ◌==◌}
+use Rattle.std.proofs.Common.{◌≡◌, ◌≢◌, ℕ, ◌<◌, ◌^◌, false, List, [], ◌∷◌, ◌++◌, get_or, decimal, subst, arith, refl}
+use Rattle.std.proofs.Common.{Some, ◌==◌}
 use Rattle.std.specs.Char.{digit_value}
 use Rattle.std.specs.List.{list_any}
-use Rattle.std.specs.Str.Parse.{AllDigits, IsNumeral, ParsesUnsigned, digits_value}
-use Rattle.std.specs.Result.{OkIff}
+use Rattle.std.specs.Str.Parse.{AllDigits, IsNumeral}
 use Rattle.std.proofs.lemmas.Bool.{ne_eqb}
 use Rattle.std.proofs.lemmas.Fmt.{decimal_is_IsNumeral}
 use Rattle.std.proofs.lemmas.Str.Parse.{without_leading_plus_none}
 use Rattle.csv.specs.Reading.{strip_bom}
 use Rattle.csv.specs.Writing.{default_writer, field_text, needs_byte}
+use Rattle.program_parts.proofs.Decimals.{decimal_read}
+use Rattle.program_parts.specs.Decimals.{number_in}
 
 -- a digit is no byte whose value is not below 10
 not_byte : (b c : ℕ) → digit_value b ≡ 36 → digit_value c < 10 → c ≢ b
@@ -48,9 +49,7 @@ first_digit : (ds : List ℕ) → IsNumeral 10 ds → get_or ds 0 0 ≢ 43
 first_digit [] h = absurd (omega (arith, h.0))
 first_digit (c ∷ cs) h = not_byte 43 c refl h.1.0
 
--- a number parses as itself
-pub number_parses : (k n : ℕ) → n < 2 ^ k → n < 2 ^ 64 → ParsesUnsigned {E = Unit {0}} k 10 (decimal n) (Ok n)
-number_parses k n small fits =
-    let (numeral, value) = decimal_is_IsNumeral n fits in
-    let P : List ℕ → Type 0 = λ l. OkIff {E = Unit {0}} (Ok n) (IsNumeral 10 l × (digits_value 10 l < 2 ^ k)) (digits_value 10 l) in
-    subst P (sym (without_leading_plus_none (decimal n) (first_digit (decimal n) numeral))) ((numeral, rw value small), sym value)
+-- a number is read as itself
+pub number_read : (k n : ℕ) → n < 2 ^ k → n < 2 ^ 64 → number_in k (decimal n) ≡ Some n
+number_read k n small fits =
+    rw (without_leading_plus_none (decimal n) (first_digit (decimal n) (decimal_is_IsNumeral n fits).0)) (decimal_read k n small fits)

@@ -1,20 +1,21 @@
--- What is written of bytes: a record for each of their runs.
+-- What is written of bytes, a record for each of their runs, and of such records. A run is a byte, and how many of it there are.
 use Rattle.std.specs.Prelude.{◌≡◌, ℕ, ◌+◌, List, [], ◌∷◌, length, flat_map, replicate, decimal, nat_eq, slice_index}
-use Rattle.std.specs.Prelude.{Option, None, Some, cond, false}
+use Rattle.std.specs.Prelude.{Bool, Option, None, Some, cond, false}
 use Rattle.std.specs.Io.KnownBytes.{Appends}
 use Rattle.csv.specs.Writing.{default_writer, row_text}
-use Rattle.program_parts.specs.Records.{Record}
+use Rattle.program_parts.specs.Decimals.{number_in}
+use Rattle.program_parts.specs.Records.{Record, field}
+use Rattle.program_parts.specs.Said.{AreSaid}
 use Rattle.program_parts.specs.declared.records.Format.{Format}
 use Rattle.slice_group_stream.specs.Split.{last, split, without_last}
-use Rattle.run_length_coder.specs.declared.runs.Run.{Run}
 
 -- runs stand in CSV as `csv`'s defaults write it: commas, two fields a record, and no names of columns
 abbrev pub runs_format : Format
 runs_format = record { has_headers = false; delimiter = 44; width = Some 2 }
 
 -- the bytes of a run
-abbrev pub copies : Run → List ℕ
-copies run = replicate run.count run.byte
+abbrev pub copies : ℕ × ℕ → List ℕ
+copies run = replicate run.1 run.0
 
 -- the record of a group of equal bytes: how many there are, and the byte as a number
 abbrev pub record_of : List ℕ → Record
@@ -39,9 +40,25 @@ abbrev pub text_of : Option (ℕ × ℕ) → List ℕ
 text_of None = []
 text_of (Some run) = run_text run
 
--- the run that is open, where the count is not 0
+-- a run whose count is not 0
 abbrev pub run_if : ℕ → ℕ → Option (ℕ × ℕ)
 run_if byte count = cond (nat_eq count 0) None (Some (byte, count))
+
+-- the run that a record of two fields says: they are the count, of 64 bits and not 0, and the byte, both as decimal numbers
+abbrev pub run_with : Option ℕ → Option ℕ → Option (ℕ × ℕ)
+run_with None byte = None
+run_with (Some count) None = None
+run_with (Some count) (Some byte) = run_if byte count
+
+abbrev pub run_in : Record → Option (ℕ × ℕ)
+run_in fields = run_with (number_in 64 (field fields 0)) (number_in 8 (field fields 1))
+
+-- The bytes of the runs that the records in these bytes say are written; the other records are left out, and there is none if `are_runs`
+-- is true.
+pub record Decodes (bytes : List ℕ) (are_runs : Bool) (before after : Option (List ℕ)) : Type 0 where
+  pub runs : List (ℕ × ℕ)
+  pub reads : AreSaid run_in runs_format bytes runs are_runs
+  pub writes : Appends before after (flat_map copies runs)
 
 -- of the runs the records of all are written but that of the last, which is open
 pub record Written (before after : Option (List ℕ)) (runs : List (ℕ × ℕ)) (byte count : ℕ) : Type 0 where

@@ -1,20 +1,18 @@
 //! Records of runs: `5,97` says that the byte 97 stands there five times in a row.
-ghost use Rattle.std.specs.Prelude.{IfErr, IfOk};
+ghost use Rattle.std.specs.Prelude.{◌≡◌, IfErr, IfOk, None, Some};
 ghost use Rattle.csv.specs.Records.{fields_of};
-ghost use Rattle.run_length_coder.specs.Says.{Says};
-ghost use Rattle.run_length_coder.specs.declared.runs.Run.{Run};
+ghost use Rattle.run_length_coder.specs.Coding.{run_in};
 
 use crate::runs::Run;
 use csv::ByteRecord;
+use program_parts::columns::field_or_empty;
 use program_parts::numbers::{number_8, number_64};
-use program_parts::records::two_fields;
 use program_parts::shown::Excerpt;
 use std::fmt;
 
 /// What is wrong with a record.
 #[derive(Clone, Copy)]
 pub enum Problem<'a> {
-    NotTwo,
     NoCount(&'a [u8]),
     NoByte(&'a [u8]),
 }
@@ -22,7 +20,6 @@ pub enum Problem<'a> {
 impl<'a> fmt::Display for Problem<'a> {
     fn fmt<W: fmt::Write>(&self, f: &mut fmt::Formatter<W>) -> fmt::Result {
         match self {
-            Problem::NotTwo => write!(f, "it has not two fields"),
             Problem::NoCount(text) => write!(
                 f,
                 "its count {} is no number of 64 bits above 0",
@@ -35,25 +32,18 @@ impl<'a> fmt::Display for Problem<'a> {
     }
 }
 
-/// The run that a record says.
-pub fn parse_run(fields: &ByteRecord) -> Result<Run, Problem<'_>>
-    ensures says { IfOk result (λ run. Says (fields_of fields.now) run) }
-    ensures silent { IfErr result (λ _. (run : Run) → Says (fields_of fields.now) run → ⊥) }
+/// The run that a record of two fields says.
+pub fn parse_run(row: &ByteRecord) -> Result<Run, Problem<'_>>
+    ensures says { IfOk result (λ run. run_in (fields_of row.now) ≡ Some (run.byte, run.count)) }
+    ensures silent { IfErr result (λ _. run_in (fields_of row.now) ≡ None) }
 {
-    let Some((count, byte)) = two_fields(fields) else {
-        return Err(Problem::NotTwo);
-    };
-    let Some(number) = number_64(count) else {
-        return Err(Problem::NoCount(count));
-    };
-    if number == 0 {
-        return Err(Problem::NoCount(count));
+    let (count, byte) = (field_or_empty(row, 0), field_or_empty(row, 1));
+    match (number_64(count), number_8(byte)) {
+        (None | Some(0), _) => Err(Problem::NoCount(count)),
+        (_, None) => Err(Problem::NoByte(byte)),
+        (Some(number), Some(value)) => Ok(Run {
+            byte: value,
+            count: number as usize,
+        }),
     }
-    let Some(value) = number_8(byte) else {
-        return Err(Problem::NoByte(byte));
-    };
-    Ok(Run {
-        byte: value,
-        count: number as usize,
-    })
 }

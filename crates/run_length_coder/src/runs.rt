@@ -19,34 +19,19 @@ impl Run {
     ghost use Rattle.std.specs.Prelude.{OnOk};
     ghost use Rattle.std.specs.Io.KnownBytes.{Appends};
     ghost use Rattle.run_length_coder.specs.Coding.{copies};
-    ghost use Rattle.run_length_coder.specs.Waiting.{Puts};
 
-    /// Puts the bytes of the run behind those that wait in the room. Where they are more than the room is to hold, what waits
-    /// is written, and then the run.
-    pub fn put_bytes<W: Write>(self, room: &mut Vec<u8>, out: &mut W) -> io::Result<()>
-        ensures { OnOk result (Puts (W.contents out.old) (W.contents out.new) room.old.items room.new.items (copies self)) }
-    {
-        if self.count <= BLOCK.saturating_sub(room.len()) {
-            room.resize(room.len() + self.count, self.byte)?;
-            return Ok(());
-        }
-        out.write_all(room)?;
-        self.write_bytes(room, out)?;
-        room.clear();
-        Ok(())
-    }
-
-    // Writes the bytes of the run, at most 64 KiB at once, which it puts into the room.
-    fn write_bytes<W: Write>(self, room: &mut Vec<u8>, out: &mut W) -> io::Result<()>
-        ensures { OnOk result (Appends (W.contents out.old) (W.contents out.new) (copies self)) }
+    /// Writes the bytes of the run, at most 64 KiB at once, which it puts into the room.
+    pub fn write_bytes<W: Write>(self, room: &mut Vec<u8>, out: &mut W) -> io::Result<()>
+        ensures { OnOk result (Appends (W.contents out.old) (W.contents out.new) (copies (self.byte, self.count))) }
     {
         room.clear();
         room.resize(self.count.min(BLOCK), self.byte)?;
         let mut left = self.count;
-        while left > room.len() {
-            out.write_all(room)?;
-            left -= room.len();
+        while left > 0 {
+            let len = left.min(room.len());
+            out.write_all(&room[..len])?;
+            left -= len;
         }
-        out.write_all(&room[..left])
+        Ok(())
     }
 }

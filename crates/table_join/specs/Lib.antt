@@ -1,8 +1,6 @@
-pub mod Input
+pub mod Headers
 pub mod Joined
 pub mod Joins
-pub mod Kept
-pub mod Kinds
-pub mod Rows
+pub mod Order
 pub mod Runs
-pub mod Tables
+pub mod Waiting

@@ -11,7 +11,7 @@ returns c =
             w.name-is,
             w.in_ok-extend_from_slice.ensures.items,
             c.new-name.ensures.items,
-            c.field_at.ensures,
+            c.field_or_empty.ensures,
             ← c.is_among.ensures,
             w.if-is_among.true,
           ) refl
@@ -20,7 +20,7 @@ returns c =
             c.in_ok-extend_from_slice-2.ensures.items,
             w.name-is,
             c.new-name.ensures.items,
-            c.field_at.ensures,
+            c.field_or_empty.ensures,
             ← c.is_among.ensures,
             w.if-is_among.false,
           ) refl

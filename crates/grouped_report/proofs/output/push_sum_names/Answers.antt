@@ -2,7 +2,7 @@ use Rattle.std.proofs.Common.{get_or, arith, ◌∙◌}
 use Rattle.std.proofs.lemmas.List.{take_more}
 use Rattle.csv.specs.Records.{fields_of}
 use Rattle.grouped_report.specs.Output.{sum_name}
-use Rattle.grouped_report.proofs.Fields.{fields_more}
+use Rattle.program_parts.proofs.Places.{fields_more}
 use Rattle.grouped_report.proofs.output.push_sum_names.Goals as goal
 
 pub loop-place-preserved : goal.loop-place-preserved

@@ -1,7 +1,7 @@
 use Rattle.std.proofs.Common.{◌++◌, None, get_or, arith, ap, ◌∙◌}
 use Rattle.std.proofs.lemmas.List.{take_more}
 use Rattle.grouped_report.specs.Amounts.{sum_text}
-use Rattle.grouped_report.proofs.Fields.{fields_more}
+use Rattle.program_parts.proofs.Places.{fields_more}
 use Rattle.grouped_report.proofs.output.push_sums.Goals as goal
 
 pub loop-sum-preserved : goal.loop-sum-preserved

@@ -1,9 +1,0 @@
-use Rattle.std.proofs.Common.{◌≡◌, ◌++◌, map, take}
-use Rattle.csv.specs.Records.{fields_of}
-use Rattle.grouped_report.specs.Input.{field}
-use Rattle.grouped_report.proofs.reading.push_fields.Given as goal
-
-abbrev pub invariant-loop-place : goal.invariant-loop-place
-invariant-loop-place l =
-    (l.row.group ≡ l.initial.row.group ++ map (field (fields_of l.fields)) (take l.place-index l.places))
-    × (l.row.amounts ≡ l.initial.row.amounts)
