@@ -96,7 +96,7 @@ module _ {S A : Type 0} (may : S → ℕ → Type 0) (gives : S → ℕ → A �
     pub most : IsWithin cost (high - low + 1) (answer_place r - low + 1) (length questions)
     pub tells : Tells reads questions cost.may_contradict low high r
 
-  -- the ends between which galloping over the places from start up to stop halves: low was answered Less, and the place before high was not
+  -- the ends between which galloping over the places from start up to stop halves: low was answered Less, and high was not
   pub record IsBracket (start stop : ℕ) (s : S) (low high : ℕ) (t : S) : Type 0 where
     pub questions : List (ℕ × A)
     pub run : IsRun may gives s questions t
@@ -105,9 +105,9 @@ module _ {S A : Type 0} (may : S → ℕ → Type 0) (gives : S → ℕ → A �
     pub order : low ≤ high
     pub within : high ≤ stop
     pub nonempty : high ≤ low → stop ≤ start
-    pub most : length questions + digits (high - low) ≤ 2 * digits (low - start + 1) + 1
+    pub most : length questions + digits (high + 1 - low) ≤ 2 * digits (low - start + 1) + 1
     pub low_end : (low ≡ start) ⊎ WasAnswered reads questions low Less
-    pub high_end : (high ≡ stop) ⊎ ((o : Ordering) × WasAnswered reads questions (high - 1) o × (o ≢ Less))
+    pub high_end : (high ≡ stop) ⊎ ((high < stop) × ((o : Ordering) × WasAnswered reads questions high o × (o ≢ Less)))
 
 -- zs: the question about each place
 module _ {S Q A : Type 0} (may : S → Q → Type 0) (gives : S → Q → A → S → Type 0) (zs : List Q) where

@@ -87,8 +87,9 @@ pub fn halve<A, P: Places<A>>(
     Err(from)
 }
 
-/// Doubles the distance from `low` while the place is below `high` and answers `Less`: the ends between which to halve. Its
-/// questions and those of the halving are together at most `2 * digits(from - low + 1) + 1`.
+/// Doubles the distance from `low` while the place is below `high` and answers `Less`: the last place that did, or `low`, and the
+/// first that did not, or `high`. Its questions and those of halving between them, at the last place too, are together at most
+/// `2 * digits(from - low + 1) + 1`.
 #[inline]
 fn bracket<A, P: Places<A>>(asker: &mut A, places: &P, low: usize, high: usize) -> (usize, usize)
     requires order { low ≤ high }
@@ -110,7 +111,7 @@ fn bracket<A, P: Places<A>>(asker: &mut A, places: &P, low: usize, high: usize) 
         }
         next += step;
     }
-    (from, next + 1)
+    (from, next)
 }
 
 /// Gallops over the places from `low` up to, not including, `high`, from `low` on, and then halves.
@@ -130,7 +131,8 @@ pub fn gallop<A, P: Places<A>>(
     ensures { IsPlaceSearch (λ s i. P.may_compare s places.now i) (λ s i a t. P.compares s places.now i a t)
         (λ a. P.reads places.now a) exponential low high asker.old result asker.new }
 {
-    let (from, upto) = bracket(asker, places, low, high);
+    let (from, last) = bracket(asker, places, low, high);
+    let upto = if last < high { last + 1 } else { high };
     halve(asker, places, from, upto)
 }
 

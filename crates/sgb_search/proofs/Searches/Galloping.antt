@@ -1,7 +1,7 @@
 -- The steps of galloping.
 use Rattle.std.specs.Prelude.{◌≡◌, ℕ, ◌+◌, ◌-◌, ◌*◌, ◌<◌, ◌≤◌, List, [], ◌∷◌, ◌++◌, length, ◌⊎◌, ◌≢◌, true, false, refl, Result, Ok, Err}
 use Rattle.std.proofs.Common.{sym, ap, subst, arith, inl, inr, length-append, append_assoc, ◌∙◌, true≢false, is_lt}
-use Rattle.std.specs.List.{AllByRecursion}
+use Rattle.std.specs.List.{AllByRecursion, Contains}
 use Rattle.std.proofs.lemmas.List.Elements.{Contains-push}
 use Rattle.std.specs.declared.cmp.Ordering.{Ordering}
 use Rattle.std.specs.declared.cmp.Ordering.TheVariants.{Less, Equal, Greater}
@@ -79,13 +79,14 @@ module _ {S A : Type 0} (may : S → ℕ → Type 0) (gives : S → ℕ → A �
           omega (arith, n.most)
     ]
 
-    ended_most : stop ≤ place → length n.questions + digits (stop - low) ≤ 2 * digits (low - start + 1) + 1
-    ended_most b = elim n.low_end as (λ _. length n.questions + digits (stop - low) ≤ 2 * digits (low - start + 1) + 1) [
+    ended_most : stop ≤ place → length n.questions + digits (stop + 1 - low) ≤ 2 * digits (low - start + 1) + 1
+    ended_most b = elim n.low_end as (λ _. length n.questions + digits (stop + 1 - low) ≤ 2 * digits (low - start + 1) + 1) [
       | inl e ↦
-          let one : digits (stop - low) ≤ digits (low - start + 1) = digits_mono _ _ (omega (arith, e)) in
+          let one : digits 0 + 1 ≤ digits (low - start + 1) = digits_half (low - start + 1) 0 (omega arith) (omega arith) in
+          let two : digits (stop + 1 - low) ≤ 2 = omega (arith, e, digits_le_self (stop + 1 - low)) in
           omega (arith, none e.0)
       | inr e ↦
-          let same : digits (stop - low) ≤ digits (low - start + 1) = digits_mono _ _ (omega (arith, n.after, e.near)) in
+          let same : digits (stop + 1 - low) ≤ digits (low - start + 1) = digits_mono _ _ (omega (arith, n.after, e.near)) in
           let below : digits (low - start) ≤ digits (low - start + 1) = digits_mono _ _ (omega arith) in
           omega (arith, n.most)
     ]
@@ -127,7 +128,7 @@ module _ {S A : Type 0} (may : S → ℕ → Type 0) (gives : S → ℕ → A �
         answered : (o : Ordering) → o ≡ reads a → WasAnswered reads asked place o
         answered o e = (a, Contains-push n.questions (place, a), sym e)
 
-        pub doubles_stop : (o : Ordering) → o ≡ reads a → o ≢ Less → IsBracket may gives reads start stop s low (place + 1) u
+        pub doubles_stop : (o : Ordering) → o ≡ reads a → o ≢ Less → IsBracket may gives reads start stop s low place u
         doubles_stop o e ne = record {
           questions = asked;
           run = run;
@@ -141,7 +142,7 @@ module _ {S A : Type 0} (may : S → ℕ → Type 0) (gives : S → ℕ → A �
             | inl e ↦ inl e
             | inr e ↦ inr (answered_left reads n.questions ((place, a) ∷ []) low Less e)
           ];
-          high_end = inr (o, subst (λ (k : ℕ). WasAnswered reads asked k o) {x = place} {y = place + 1 - 1} (omega arith) (answered o e), ne);
+          high_end = inr (b, (o, answered o e, ne));
         }
 
         pub doubles_on : Less ≡ reads a → (next : ℕ) → place < next → next + start ≤ 2 * place → next ≤ stop
@@ -163,11 +164,22 @@ module _ {S A : Type 0} (may : S → ℕ → Type 0) (gives : S → ℕ → A �
               });
         }
 
-  module _ (low high : ℕ) (t : S) (n : IsBracket may gives reads start stop s low high t) where
-    pub bracket_may : IsCallable may gives (IsBetween start stop) s → IsCallable may gives (IsBetween low high) t
+  -- where halving up to `upto` leaves out the high end, it was answered Greater
+  module _ (low high : ℕ) (t : S) (n : IsBracket may gives reads start stop s low high t) (upto : ℕ)
+      (ends : ((upto ≡ high) × ((high ≡ stop) ⊎ ((a : A) → reads a ≢ Equal))) ⊎ ((upto ≡ high + 1) × (high < stop))) where
+    inside : upto ≤ stop
+    inside = elim ends as (λ _. upto ≤ stop) [ inl e ↦ omega (arith, e.0, n.within) | inr e ↦ omega (arith, e) ]
+
+    beyond : high ≤ upto
+    beyond = elim ends as (λ _. high ≤ upto) [ inl e ↦ omega (arith, e.0) | inr e ↦ omega (arith, e) ]
+
+    one_more : upto ≤ high + 1
+    one_more = elim ends as (λ _. upto ≤ high + 1) [ inl e ↦ omega (arith, e.0) | inr e ↦ omega (arith, e) ]
+
+    pub bracket_may : IsCallable may gives (IsBetween start stop) s → IsCallable may gives (IsBetween low upto) t
     bracket_may h =
-        may_after may gives (IsBetween start stop) (IsBetween low high)
-        (λ q b. (omega (arith, b, n.after), omega (arith, b, n.within))) s n.questions t n.run n.places h
+        may_after may gives (IsBetween start stop) (IsBetween low upto)
+        (λ q b. (omega (arith, b, n.after), omega (arith, b, inside))) s n.questions t n.run n.places h
 
     module _ (hs : List (ℕ × A)) where
       abbrev all : List (ℕ × A)
@@ -186,57 +198,76 @@ module _ {S A : Type 0} (may : S → ℕ → Type 0) (gives : S → ℕ → A �
       before : (i : ℕ) → (low < i) × WasAnswered reads hs (i - 1) Less → IsLowEnd (WasAnswered reads all) start i
       before i p = inr (omega (arith, n.after, p.0), then (i - 1) Less p.1)
 
-      at : (i : ℕ) → (i < high) × WasAnswered reads hs i Greater → IsHighEnd (WasAnswered reads all) stop i
-      at i g = inr (omega (arith, n.within, g.0), then i Greater g.1)
+      at : (i : ℕ) → (i < upto) × WasAnswered reads hs i Greater → IsHighEnd (WasAnswered reads all) stop i
+      at i g = inr (omega (arith, inside, g.0), then i Greater g.1)
+
+      greater : (o : Ordering) → o ≢ Less → o ≢ Equal → o ≡ Greater
+      greater Less l e = absurd (l refl)
+      greater Equal l e = absurd (e refl)
+      greater Greater l e = refl
+
+      -- nothing lies beyond the high end, or it was answered Greater
+      refused : (high ≡ stop) ⊎ ((a : A) → reads a ≢ Equal) → (high ≡ stop) ⊎ ((high < stop) ×
+          ((o : Ordering) × WasAnswered reads n.questions high o × (o ≢ Less))) → (i : ℕ) → i ≡ high
+          → IsHighEnd (WasAnswered reads all) stop i
+      refused two (inl e) i f = inl (omega arith)
+      refused (inl e) (inr k) i f = inl (omega arith)
+      refused (inr two) (inr (b, (o, (a, has, is), less))) i f =
+          let same = greater o less (λ e. two a (is ∙ e)) in
+          inr (omega arith, first i Greater (a, subst (λ (j : ℕ). Contains n.questions (j, a)) (sym f) has, is ∙ same))
 
       -- where halving ended at an end of the bracket, the answer that put it there stands against the halving's own
-      boundary : (i : ℕ) → low ≤ i → i ≤ high → (low ≡ start) ⊎ WasAnswered reads n.questions low Less → (high ≡ stop) ⊎
-          ((o : Ordering) × WasAnswered reads n.questions (high - 1) o × (o ≢ Less)) → IsLowEnd (WasAnswered reads hs) low i
-          → IsHighEnd (WasAnswered reads hs) high i → TellsBoundary (WasAnswered reads all) true start stop i
-      boundary i a b x (inl y) (inr p) (inl f) =
-          record { low_end = inl (before i p); high_end = inl (inl (omega arith)) }
-      boundary i a b x (inr k) (inr p) (inl f) =
-          let here = subst (λ (j : ℕ). WasAnswered reads n.questions (j - 1) k.0) (sym f) k.1 in
+      ended : ((upto ≡ high) × ((high ≡ stop) ⊎ ((a : A) → reads a ≢ Equal))) ⊎ ((upto ≡ high + 1) × (high < stop))
+          → (high ≡ stop) ⊎ ((high < stop) × ((o : Ordering) × WasAnswered reads n.questions high o × (o ≢ Less))) → (i : ℕ)
+          → i ≡ upto → (low < i) × WasAnswered reads hs (i - 1) Less → TellsBoundary (WasAnswered reads all) true start stop i
+      ended (inl e) y i f p = record { low_end = inl (before i p); high_end = inl (refused e.1 y i (f ∙ e.0)) }
+      ended (inr e) (inl y) i f p = absurd (omega (arith, e, y))
+      ended (inr e) (inr (b, (o, was, less))) i f p =
+          let here = subst (λ (j : ℕ). WasAnswered reads n.questions j o) {x = high} {y = i - 1} (omega (arith, e.0)) was in
           record {
             low_end = inl (before i p);
-            high_end = inr (refl, (omega (arith, p.0), (k.0, Less, first (i - 1) k.0 here, then (i - 1) Less p.1, k.2)));
+            high_end = inr (refl, (omega (arith, p.0), (o, Less, first (i - 1) o here, then (i - 1) Less p.1, less)));
           }
-      boundary i a b x y (inr p) (inr g) =
+
+      boundary : (i : ℕ) → low ≤ i → (low ≡ start) ⊎ WasAnswered reads n.questions low Less → IsLowEnd (WasAnswered reads hs) low i
+          → IsHighEnd (WasAnswered reads hs) upto i → TellsBoundary (WasAnswered reads all) true start stop i
+      boundary i a x (inr p) (inl f) = ended ends n.high_end i f p
+      boundary i a x (inr p) (inr g) =
           record { low_end = inl (before i p); high_end = inl (at i g) }
-      boundary i a b x y (inl e) (inl f) =
-          let z : stop ≤ start = n.nonempty (omega arith) in
+      boundary i a x (inl e) (inl f) =
+          let z : stop ≤ start = n.nonempty (omega (arith, beyond)) in
           record { low_end = inl (inl (omega (arith, z, n.after, n.order, n.within))); high_end = inl (inl (omega (arith, z, n.after, n.order, n.within))) }
-      boundary i a b (inl z) y (inl e) (inr g) =
+      boundary i a (inl z) (inl e) (inr g) =
           record { low_end = inl (inl (omega arith)); high_end = inl (at i g) }
-      boundary i a b (inr k) y (inl e) (inr g) =
+      boundary i a (inr k) (inl e) (inr g) =
           let here = subst (λ (j : ℕ). WasAnswered reads n.questions j Less) (sym e) k in
           record { low_end = inr (refl, (Less, Greater, first i Less here, then i Greater g.1, Less≢Greater)); high_end = inl (at i g) }
 
     module _ (u : S) where
-      fits : (i m : ℕ) → low ≤ i → i ≤ stop → m ≤ digits (high - low + 1 - 1) → IsWithin exponential (stop - start + 1) (i - start + 1)
+      fits : (i m : ℕ) → low ≤ i → i ≤ stop → m ≤ digits (upto - low + 1 - 1) → IsWithin exponential (stop - start + 1) (i - start + 1)
           (length n.questions + m)
-      fits i m from upto few =
+      fits i m least most few =
           within_galloping (stop - start + 1) (i - start + 1) (length n.questions + m) (omega (arith, n.after)) (omega (arith, n.after))
           (omega (
             arith,
             few,
             n.most,
-            digits_mono (high - low + 1 - 1) (high - low) (omega arith),
+            digits_mono (upto - low + 1 - 1) (high + 1 - low) (omega (arith, one_more)),
             digits_mono (low - start + 1) (i - start + 1)
                 (omega (arith, n.after)),
           ))
 
-      fits_all : (i : ℕ) (hs : List (ℕ × A)) → low ≤ i → i ≤ stop → length hs ≤ digits (high - low + 1 - 1) → IsWithin exponential
+      fits_all : (i : ℕ) (hs : List (ℕ × A)) → low ≤ i → i ≤ stop → length hs ≤ digits (upto - low + 1 - 1) → IsWithin exponential
           (stop - start + 1) (i - start + 1) (length (n.questions ++ hs))
-      fits_all i hs from upto few =
-          subst (IsWithin exponential (stop - start + 1) (i - start + 1)) (sym (length-append n.questions hs)) (fits i (length hs) from upto few)
+      fits_all i hs least most few =
+          subst (IsWithin exponential (stop - start + 1) (i - start + 1)) (sym (length-append n.questions hs)) (fits i (length hs) least most few)
 
-      places_all : (hs : List (ℕ × A)) → AllByRecursion (λ q. IsBetween low high q.0) hs
+      places_all : (hs : List (ℕ × A)) → AllByRecursion (λ q. IsBetween low upto q.0) hs
           → AllByRecursion (λ q. IsBetween start stop q.0) (n.questions ++ hs)
       places_all hs h = all_append _ n.questions hs n.places (all_each _ _
-          (λ q b. (omega (arith, b, n.after), omega (arith, b, n.within))) hs h)
+          (λ q b. (omega (arith, b, n.after), omega (arith, b, inside))) hs h)
 
-      pub gallop_ends : (r : Result ℕ ℕ) → IsPlaceSearch may gives reads binary low high t r u
+      pub gallop_ends : (r : Result ℕ ℕ) → IsPlaceSearch may gives reads binary low upto t r u
           → IsPlaceSearch may gives reads exponential start stop s r u
       gallop_ends (Ok i) h =
           let b = h.tells.0 in
@@ -245,9 +276,9 @@ module _ {S A : Type 0} (may : S → ℕ → Type 0) (gives : S → ℕ → A �
             questions = n.questions ++ h.questions;
             run = run_append may gives s n.questions t h.questions u n.run h.run;
             places = places_all h.questions h.places;
-            most = fits_all i h.questions b.0 (omega (arith, b, n.within)) h.most.call;
+            most = fits_all i h.questions b.0 (omega (arith, b, inside)) h.most.call;
             tells = (
-              (omega (arith, b, n.after), omega (arith, b, n.within)),
+              (omega (arith, b, n.after), omega (arith, b, inside)),
               (
                 n.questions ++ f.0,
                 f.1,
@@ -262,10 +293,10 @@ module _ {S A : Type 0} (may : S → ℕ → Type 0) (gives : S → ℕ → A �
             questions = n.questions ++ h.questions;
             run = run_append may gives s n.questions t h.questions u n.run h.run;
             places = places_all h.questions h.places;
-            most = fits_all i h.questions tells.0 (omega (arith, tells.1, n.within)) h.most.call;
+            most = fits_all i h.questions tells.0 (omega (arith, tells.1, inside)) h.most.call;
             tells = (
               omega (arith, tells.0, n.after),
-              omega (arith, tells.1, n.within),
-              boundary h.questions i tells.0 tells.1 n.low_end n.high_end (one_way tells.2.low_end) (one_way tells.2.high_end),
+              omega (arith, tells.1, inside),
+              boundary h.questions i tells.0 n.low_end (one_way tells.2.low_end) (one_way tells.2.high_end),
             );
           }

@@ -6,12 +6,12 @@ use Rattle.sgb_search.proofs.gallop.bisect.Goals as goal
 
 pub compare-requires : goal.compare-requires
 compare-requires g c =
-    let callable = bracket_may _ _ _ _ _ _ c.requires.order _ _ _ c.bracket-from.ensures c.requires.callable in
+    let callable = bracket_may _ _ _ _ _ _ c.requires.order _ _ _ c.bracket-from.ensures _ (inl (refl, inr c.requires.two)) c.requires.callable in
     narrows_may _ _ _ _ _ _ _ _ _ _ c.loop-size.invariant callable _ (upper_middle _ _ (omega (arith, c.loop-size-test.true)))
 
 pub loop-size-preserved : goal.loop-size-preserved
 loop-size-preserved g c =
-    let callable = bracket_may _ _ _ _ _ _ c.requires.order _ _ _ c.bracket-from.ensures c.requires.callable in
+    let callable = bracket_may _ _ _ _ _ _ c.requires.order _ _ _ c.bracket-from.ensures _ (inl (refl, inr c.requires.two)) c.requires.callable in
     let n = c.loop-size.invariant in
     let b = upper_middle _ _ (omega (arith, c.loop-size-test.true)) in
     let k = c.compare.ensures in
@@ -24,5 +24,5 @@ loop-size-preserved g c =
 
 pub returns : goal.returns
 returns g c =
-    gallop_ends _ _ _ _ _ _ c.requires.order _ _ _ c.bracket-from.ensures _ _
+    gallop_ends _ _ _ _ _ _ c.requires.order _ _ _ c.bracket-from.ensures _ (inl (refl, inr c.requires.two)) _ _
     (narrows_end _ _ _ _ _ _ _ _ _ _ c.loop-size.invariant (omega (arith, c.loop-size-test.false)))
