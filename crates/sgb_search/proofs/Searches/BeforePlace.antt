@@ -11,7 +11,7 @@ use Rattle.sgb_split.specs.Split.{last}
 use native.Mathlib.Numerals.{unary_clauses}
 
 -- the method `last` gives the last element
-last_at : {X : Type 0} (xs : List X) → slice_get xs (length xs - 1) ≡ last xs
+pub last_at : {X : Type 0} (xs : List X) → slice_get xs (length xs - 1) ≡ last xs
 last_at [] = refl
 last_at (x ∷ []) = refl
 last_at (x ∷ y ∷ ys) = simp unary_clauses (simp unary_clauses at (last_at (y ∷ ys)))
