@@ -136,8 +136,8 @@ pub fn gallop<A, P: Places<A>>(
     halve(asker, places, from, upto)
 }
 
-/// Gallops as `gallop` does, over places of which none answers `Equal`, and halves with no branch on an answer: for answers that
-/// nothing predicts. The place where the search ended, by at most `2 * digits(i - low + 1) + 1` questions for a place i.
+/// Gallops as `gallop` does, over places of which none answers `Equal`, and halves with no branch on an answer, between the places that
+/// galloping asked about: for answers that nothing predicts. The place where the search ended, by at most `2 * digits(i - low + 1) + 1` questions for a place i.
 #[inline]
 pub fn bisect<A, P: Places<A>>(asker: &mut A, places: &P, low: usize, high: usize) -> usize
     requires order { low ≤ high }
@@ -147,7 +147,8 @@ pub fn bisect<A, P: Places<A>>(asker: &mut A, places: &P, low: usize, high: usiz
     ensures { IsPlaceSearch (λ s i. P.may_compare s places.now i) (λ s i a t. P.compares s places.now i a t)
         (λ a. P.reads places.now a) exponential low high asker.old (Err result) asker.new }
 {
-    let (mut from, upto) = bracket(asker, places, low, high);
+    let (last, upto) = bracket(asker, places, low, high);
+    let mut from = if last > low { last + 1 } else { low };
     let mut size = upto - from;
     while size > 0 {
         let middle = from + size / 2;

@@ -164,8 +164,9 @@ module _ {S A : Type 0} (may : S → ℕ → Type 0) (gives : S → ℕ → A �
               });
         }
 
-  -- where halving up to `upto` leaves out the high end, it was answered Greater
-  module _ (low high : ℕ) (t : S) (n : IsBracket may gives reads start stop s low high t) (upto : ℕ)
+  -- halving goes from `from` up to `upto`: where that leaves out the low end, it was answered Less, and the high end Greater
+  module _ (low high : ℕ) (t : S) (n : IsBracket may gives reads start stop s low high t) (from upto : ℕ)
+      (starts : (from ≡ low) ⊎ ((from ≡ low + 1) × (start < low)))
       (ends : ((upto ≡ high) × ((high ≡ stop) ⊎ ((a : A) → reads a ≢ Equal))) ⊎ ((upto ≡ high + 1) × (high < stop))) where
     inside : upto ≤ stop
     inside = elim ends as (λ _. upto ≤ stop) [ inl e ↦ omega (arith, e.0, n.within) | inr e ↦ omega (arith, e) ]
@@ -176,10 +177,19 @@ module _ {S A : Type 0} (may : S → ℕ → Type 0) (gives : S → ℕ → A �
     one_more : upto ≤ high + 1
     one_more = elim ends as (λ _. upto ≤ high + 1) [ inl e ↦ omega (arith, e.0) | inr e ↦ omega (arith, e) ]
 
-    pub bracket_may : IsCallable may gives (IsBetween start stop) s → IsCallable may gives (IsBetween low upto) t
+    above : low ≤ from
+    above = elim starts as (λ _. low ≤ from) [ inl e ↦ omega (arith, e) | inr e ↦ omega (arith, e.0) ]
+
+    pub in_order : from ≤ upto
+    in_order = elim starts as (λ _. from ≤ upto) [
+      | inl e ↦ omega (arith, e, n.order, beyond)
+      | inr e ↦ grind (arith, e, n.nonempty, n.order, n.within, beyond)
+    ]
+
+    pub bracket_may : IsCallable may gives (IsBetween start stop) s → IsCallable may gives (IsBetween from upto) t
     bracket_may h =
-        may_after may gives (IsBetween start stop) (IsBetween low upto)
-        (λ q b. (omega (arith, b, n.after), omega (arith, b, inside))) s n.questions t n.run n.places h
+        may_after may gives (IsBetween start stop) (IsBetween from upto)
+        (λ q b. (omega (arith, b, n.after, above), omega (arith, b, inside))) s n.questions t n.run n.places h
 
     module _ (hs : List (ℕ × A)) where
       abbrev all : List (ℕ × A)
@@ -195,8 +205,8 @@ module _ {S A : Type 0} (may : S → ℕ → Type 0) (gives : S → ℕ → A �
       Less≢Greater : Less ≢ Greater
       Less≢Greater e = cc
 
-      before : (i : ℕ) → (low < i) × WasAnswered reads hs (i - 1) Less → IsLowEnd (WasAnswered reads all) start i
-      before i p = inr (omega (arith, n.after, p.0), then (i - 1) Less p.1)
+      before : (i : ℕ) → (from < i) × WasAnswered reads hs (i - 1) Less → IsLowEnd (WasAnswered reads all) start i
+      before i p = inr (omega (arith, n.after, above, p.0), then (i - 1) Less p.1)
 
       at : (i : ℕ) → (i < upto) × WasAnswered reads hs i Greater → IsHighEnd (WasAnswered reads all) stop i
       at i g = inr (omega (arith, inside, g.0), then i Greater g.1)
@@ -219,55 +229,73 @@ module _ {S A : Type 0} (may : S → ℕ → Type 0) (gives : S → ℕ → A �
       -- where halving ended at an end of the bracket, the answer that put it there stands against the halving's own
       ended : ((upto ≡ high) × ((high ≡ stop) ⊎ ((a : A) → reads a ≢ Equal))) ⊎ ((upto ≡ high + 1) × (high < stop))
           → (high ≡ stop) ⊎ ((high < stop) × ((o : Ordering) × WasAnswered reads n.questions high o × (o ≢ Less))) → (i : ℕ)
-          → i ≡ upto → (low < i) × WasAnswered reads hs (i - 1) Less → TellsBoundary (WasAnswered reads all) true start stop i
+          → i ≡ upto → (from < i) × WasAnswered reads hs (i - 1) Less → TellsBoundary (WasAnswered reads all) true start stop i
       ended (inl e) y i f p = record { low_end = inl (before i p); high_end = inl (refused e.1 y i (f ∙ e.0)) }
       ended (inr e) (inl y) i f p = absurd (omega (arith, e, y))
       ended (inr e) (inr (b, (o, was, less))) i f p =
           let here = subst (λ (j : ℕ). WasAnswered reads n.questions j o) {x = high} {y = i - 1} (omega (arith, e.0)) was in
           record {
             low_end = inl (before i p);
-            high_end = inr (refl, (omega (arith, p.0), (o, Less, first (i - 1) o here, then (i - 1) Less p.1, less)));
+            high_end = inr (refl, (omega (arith, n.after, above, p.0), (o, Less, first (i - 1) o here, then (i - 1) Less p.1, less)));
           }
 
-      boundary : (i : ℕ) → low ≤ i → (low ≡ start) ⊎ WasAnswered reads n.questions low Less → IsLowEnd (WasAnswered reads hs) low i
-          → IsHighEnd (WasAnswered reads hs) upto i → TellsBoundary (WasAnswered reads all) true start stop i
-      boundary i a x (inr p) (inl f) = ended ends n.high_end i f p
-      boundary i a x (inr p) (inr g) =
-          record { low_end = inl (before i p); high_end = inl (at i g) }
-      boundary i a x (inl e) (inl f) =
+      begun : (from ≡ low) ⊎ ((from ≡ low + 1) × (start < low))
+          → ((upto ≡ high) × ((high ≡ stop) ⊎ ((a : A) → reads a ≢ Equal))) ⊎ ((upto ≡ high + 1) × (high < stop))
+          → (low ≡ start) ⊎ WasAnswered reads n.questions low Less → (i : ℕ) → i ≡ from → IsHighEnd (WasAnswered reads hs) upto i
+          → TellsBoundary (WasAnswered reads all) true start stop i
+      begun (inl d) y x i e (inl f) =
           let z : stop ≤ start = n.nonempty (omega (arith, beyond)) in
-          record { low_end = inl (inl (omega (arith, z, n.after, n.order, n.within))); high_end = inl (inl (omega (arith, z, n.after, n.order, n.within))) }
-      boundary i a (inl z) (inl e) (inr g) =
+          record {
+            low_end = inl (inl (omega (arith, z, n.after, n.order, n.within)));
+            high_end = inl (inl (omega (arith, z, n.after, n.order, n.within)));
+          }
+      begun (inl d) y (inl z) i e (inr g) =
           record { low_end = inl (inl (omega arith)); high_end = inl (at i g) }
-      boundary i a (inr k) (inl e) (inr g) =
-          let here = subst (λ (j : ℕ). WasAnswered reads n.questions j Less) (sym e) k in
+      begun (inl d) y (inr k) i e (inr g) =
+          let here = subst (λ (j : ℕ). WasAnswered reads n.questions j Less) (sym (e ∙ d)) k in
           record { low_end = inr (refl, (Less, Greater, first i Less here, then i Greater g.1, Less≢Greater)); high_end = inl (at i g) }
+      begun (inr d) y (inl z) i e h = absurd (omega (arith, d, z))
+      begun (inr d) y (inr k) i e h =
+          let last = subst (λ (j : ℕ). WasAnswered reads n.questions j Less) {x = low} {y = i - 1} (omega (arith, d.0, e)) k in
+          record { low_end = inl (inr (omega (arith, d, e), first (i - 1) Less last)); high_end = inl (high_of y h) }
+        where
+          high_of : ((upto ≡ high) × ((high ≡ stop) ⊎ ((a : A) → reads a ≢ Equal))) ⊎ ((upto ≡ high + 1) × (high < stop))
+              → IsHighEnd (WasAnswered reads hs) upto i → IsHighEnd (WasAnswered reads all) stop i
+          high_of y (inr g) = at i g
+          high_of (inl y) (inl f) = refused y.1 n.high_end i (f ∙ y.0)
+          high_of (inr y) (inl f) = let z : stop ≤ start = n.nonempty (omega (arith, y.0, d.0, e, f)) in absurd (omega (arith, z, d.1, n.order, y.1))
+
+      boundary : (i : ℕ) → IsLowEnd (WasAnswered reads hs) from i → IsHighEnd (WasAnswered reads hs) upto i
+          → TellsBoundary (WasAnswered reads all) true start stop i
+      boundary i (inr p) (inl f) = ended ends n.high_end i f p
+      boundary i (inr p) (inr g) = record { low_end = inl (before i p); high_end = inl (at i g) }
+      boundary i (inl e) h = begun starts ends n.low_end i e h
 
     module _ (u : S) where
-      fits : (i m : ℕ) → low ≤ i → i ≤ stop → m ≤ digits (upto - low + 1 - 1) → IsWithin exponential (stop - start + 1) (i - start + 1)
+      fits : (i m : ℕ) → from ≤ i → i ≤ stop → m ≤ digits (upto - from + 1 - 1) → IsWithin exponential (stop - start + 1) (i - start + 1)
           (length n.questions + m)
       fits i m least most few =
-          within_galloping (stop - start + 1) (i - start + 1) (length n.questions + m) (omega (arith, n.after)) (omega (arith, n.after))
+          within_galloping (stop - start + 1) (i - start + 1) (length n.questions + m) (omega (arith, n.after)) (omega (arith, n.after, above))
           (omega (
             arith,
             few,
             n.most,
-            digits_mono (upto - low + 1 - 1) (high + 1 - low) (omega (arith, one_more)),
+            digits_mono (upto - from + 1 - 1) (high + 1 - low) (omega (arith, one_more, above)),
             digits_mono (low - start + 1) (i - start + 1)
-                (omega (arith, n.after)),
+                (omega (arith, n.after, above)),
           ))
 
-      fits_all : (i : ℕ) (hs : List (ℕ × A)) → low ≤ i → i ≤ stop → length hs ≤ digits (upto - low + 1 - 1) → IsWithin exponential
+      fits_all : (i : ℕ) (hs : List (ℕ × A)) → from ≤ i → i ≤ stop → length hs ≤ digits (upto - from + 1 - 1) → IsWithin exponential
           (stop - start + 1) (i - start + 1) (length (n.questions ++ hs))
       fits_all i hs least most few =
           subst (IsWithin exponential (stop - start + 1) (i - start + 1)) (sym (length-append n.questions hs)) (fits i (length hs) least most few)
 
-      places_all : (hs : List (ℕ × A)) → AllByRecursion (λ q. IsBetween low upto q.0) hs
+      places_all : (hs : List (ℕ × A)) → AllByRecursion (λ q. IsBetween from upto q.0) hs
           → AllByRecursion (λ q. IsBetween start stop q.0) (n.questions ++ hs)
       places_all hs h = all_append _ n.questions hs n.places (all_each _ _
-          (λ q b. (omega (arith, b, n.after), omega (arith, b, inside))) hs h)
+          (λ q b. (omega (arith, b, n.after, above), omega (arith, b, inside))) hs h)
 
-      pub gallop_ends : (r : Result ℕ ℕ) → IsPlaceSearch may gives reads binary low upto t r u
+      pub gallop_ends : (r : Result ℕ ℕ) → IsPlaceSearch may gives reads binary from upto t r u
           → IsPlaceSearch may gives reads exponential start stop s r u
       gallop_ends (Ok i) h =
           let b = h.tells.0 in
@@ -278,7 +306,7 @@ module _ {S A : Type 0} (may : S → ℕ → Type 0) (gives : S → ℕ → A �
             places = places_all h.questions h.places;
             most = fits_all i h.questions b.0 (omega (arith, b, inside)) h.most.call;
             tells = (
-              (omega (arith, b, n.after), omega (arith, b, inside)),
+              (omega (arith, b, n.after, above), omega (arith, b, inside)),
               (
                 n.questions ++ f.0,
                 f.1,
@@ -295,8 +323,8 @@ module _ {S A : Type 0} (may : S → ℕ → Type 0) (gives : S → ℕ → A �
             places = places_all h.questions h.places;
             most = fits_all i h.questions tells.0 (omega (arith, tells.1, inside)) h.most.call;
             tells = (
-              omega (arith, tells.0, n.after),
+              omega (arith, tells.0, n.after, above),
               omega (arith, tells.1, inside),
-              boundary h.questions i tells.0 n.low_end (one_way tells.2.low_end) (one_way tells.2.high_end),
+              boundary h.questions i (one_way tells.2.low_end) (one_way tells.2.high_end),
             );
           }

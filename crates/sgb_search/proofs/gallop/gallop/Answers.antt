@@ -1,4 +1,4 @@
-use Rattle.std.proofs.Common.{◌≡◌, ◌≢◌, ◌+◌, ◌<◌, ◌⊎◌, arith, inl, inr}
+use Rattle.std.proofs.Common.{◌≡◌, ◌≢◌, ◌+◌, ◌<◌, ◌⊎◌, refl, arith, inl, inr}
 use Rattle.std.specs.declared.cmp.Ordering.TheVariants.{Equal}
 use Rattle.sgb_search.proofs.Searches.Galloping.{bracket_may, gallop_ends}
 use Rattle.sgb_search.proofs.gallop.gallop.Goals.{then-last-high, else-last-high, Joined-last-high}
@@ -19,7 +19,7 @@ ends g c = elim c.if-last-high.branch [
 pub halve-requires : goal.halve-requires
 halve-requires g c =
     let b = c.bracket-from.ensures in
-    record { order = omega (arith, b.order); callable = bracket_may _ _ _ _ _ _ c.requires.order _ _ _ b _ (ends g c.before) c.requires.callable }
+    record { order = omega (arith, b.order); callable = bracket_may _ _ _ _ _ _ c.requires.order _ _ _ b _ _ (inl refl) (ends g c.before) c.requires.callable }
 
 pub returns : goal.returns
-returns g c = gallop_ends _ _ _ _ _ _ c.requires.order _ _ _ c.bracket-from.ensures _ (ends g c.before.before) _ _ c.halve.ensures
+returns g c = gallop_ends _ _ _ _ _ _ c.requires.order _ _ _ c.bracket-from.ensures _ _ (inl refl) (ends g c.before.before) _ _ c.halve.ensures
