@@ -9,7 +9,7 @@ use std::process::ExitCode;
 use std::{env, io};
 
 /// The version of all programs.
-pub const VERSION: &str = "1.0.0";
+pub const VERSION: &str = "1.1.0";
 
 /// A program.
 pub trait App {

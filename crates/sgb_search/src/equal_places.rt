@@ -82,6 +82,8 @@ where
 /// let places = exponential_equal_places_by_ref(&[1, 3, 3, 5, 8], &mut comparator);
 /// // 1..3, and `asked` is at most 10
 /// ```
+///
+/// May change.
 #[must_use]
 #[inline]
 pub fn exponential_equal_places_by_ref<T, F>(slice: &[T], f: &mut F) -> Range<usize>

@@ -61,6 +61,7 @@ pub fn always_callable_key<T, F: FnMut(&T) -> K, K: PartialEq + Drop>()
 
 /// A key function that may be called on each element of a slice may be asked about its neighbouring pairs (`along`), and about every
 /// two different places in both orders (`apart`).
+/// May change.
 pub fn callable_on_elements<T, F: FnMut(&T) -> K, K: PartialEq + Drop>()
     ensures along { (xs : List T) (func : F) → IsCallableOn F.FnMut xs func
         → IsCallableBy AreNeighbours (by_key F.FnMut K.eq) (record { remainder = xs; judge = key_judge func }) }
@@ -70,6 +71,7 @@ pub fn callable_on_elements<T, F: FnMut(&T) -> K, K: PartialEq + Drop>()
 
 /// If a key function computes a key of each element of a slice, the judge by key answers whether those keys are equal, of neighbouring
 /// pairs (`along`) and of every two different places (`apart`).
+/// May change.
 pub fn computes_on_elements<T, F: FnMut(&T) -> K, K: PartialEq + Drop>()
     ensures along { (xs : List T) (key : T → K) (func : F) → ComputesOn F.FnMut xs key func
         → ComputesBy AreNeighbours (by_key F.FnMut K.eq)
@@ -82,6 +84,7 @@ pub fn computes_on_elements<T, F: FnMut(&T) -> K, K: PartialEq + Drop>()
 /// For a function that its calls leave unchanged, such as a closure that captures nothing by `&mut`. If it may be called on each
 /// element now, a judge by its keys may be asked about neighbouring pairs (`along`) and about every two different places (`apart`).
 /// The reference names the function's type.
+/// May change.
 pub fn callable_unchanged<T, F: FnMut(&T) -> K, K: PartialEq + Drop>(_f: &F)
     ensures along { (xs : List T) (f : F) → ((g h : F) (x : T) (k : K) → CalledAt F.FnMut g x k h → h ≡ g)
         → ((x : T) → Contains xs x → TakesAt F.FnMut f x)
@@ -92,6 +95,7 @@ pub fn callable_unchanged<T, F: FnMut(&T) -> K, K: PartialEq + Drop>(_f: &F)
 {}
 
 /// The same for a predicate that may be called on each neighbouring pair, or on every two different places, in both orders.
+/// May change.
 pub fn callable_unchanged_on_pairs<T, P: FnMut(&T, &T) -> bool>(_predicate: &P)
     ensures along { (xs : List T) (predicate : P) → ((f h : P) (x y : T) (b : Bool) → CalledAtTwo P.FnMut f x y b h → h ≡ f)
         → ((q : T × T) → AreNeighbours xs q → TakesAtTwo P.FnMut predicate q.0 q.1)
@@ -111,6 +115,7 @@ pub fn pairs_are_elements<T>()
 
 /// If a predicate may be called in each of its states on each neighbouring pair of a slice, linear groups by it may be made (`along`).
 /// If it may be called on any two different places, in both orders, binary and exponential ones may be (`apart`).
+/// May change.
 pub fn callable_on_pairs<T, P: FnMut(&T, &T) -> bool>()
     ensures along { (xs : List T) → ((p : P) (q : T × T) → AreNeighbours xs q → TakesAtTwo P.FnMut p q.0 q.1)
         → (predicate : P) → IsCallableBy AreNeighbours (by_predicate P.FnMut)
@@ -122,6 +127,7 @@ pub fn callable_on_pairs<T, P: FnMut(&T, &T) -> bool>()
 
 /// If a predicate, in each of its states, answers a test on the neighbouring pairs of a slice, its judge answers the test there
 /// (`along`); likewise on every two different places, in both orders (`apart`). What it answers elsewhere does not matter.
+/// May change.
 pub fn computes_on_pairs<T, P: FnMut(&T, &T) -> bool>()
     ensures along { (xs : List T) (p : T → T → Bool)
         → ((f h : P) (q : T × T) (b : Bool) → AreNeighbours xs q → CalledAtTwo P.FnMut f q.0 q.1 b h → b ≡ p q.0 q.1)
@@ -141,6 +147,7 @@ pub fn always_callable_chars<P: FnMut(char, char) -> bool>()
 {}
 
 /// A key function of characters that may always be called may be asked about the neighbouring characters of every text.
+/// May change.
 pub fn always_callable_char_key<F: FnMut(char) -> K, K: PartialEq + Drop>()
     ensures { (cs : List ℕ) (func : F) → F.IsAlwaysCallable func
         → IsCallableBy AreNeighbours (by_char_key F.FnMut K.eq)
@@ -149,6 +156,7 @@ pub fn always_callable_char_key<F: FnMut(char) -> K, K: PartialEq + Drop>()
 
 /// For a key function of characters that its calls leave unchanged: if it may be called on each character of a text now, its judge may
 /// be asked about the neighbouring ones. The reference names the function's type.
+/// May change.
 pub fn callable_unchanged_char_key<F: FnMut(char) -> K, K: PartialEq + Drop>(_f: &F)
     ensures { (cs : List ℕ) (f : F) → ((g h : F) (c : ℕ) (k : K) → CalledAtChar F.FnMut g c k h → h ≡ g)
         → ((c : ℕ) → Contains cs c → Takes F.FnMut f (c, tt)) → IsCallableBy AreNeighbours (by_char_key F.FnMut K.eq)
@@ -156,6 +164,7 @@ pub fn callable_unchanged_char_key<F: FnMut(char) -> K, K: PartialEq + Drop>(_f:
 {}
 
 /// The judge by `==` counts its questions.
+/// May change.
 pub fn equality_judges<T: PartialEq>()
     ensures { (j k : EqualityJudge) (n : ℕ) → IsRunOf (by_equality T.eq).may_ask (by_equality T.eq).answers n j k
         → k.asked ≡ j.asked + n }

@@ -35,7 +35,7 @@
 //! Beside this library: `slice_merge_join` joins two sorted slices by a comparator, `slice_group_simd` finds groups of
 //! numbers and of bytes by class with vectors, and `slice_group_stream` has groups of a stream that comes in blocks.
 //!
-//! Version 1.0.0.
+//! Version 1.1.0.
 #![tactic(auto)]
 
 pub mod adapters;

@@ -18,7 +18,7 @@
 //! The groups are queues (`GroupQueue`) of `slice_group_by`, so that its adapters, `walk` and its laws take them. For groups of
 //! a stream take `slice_group_stream`.
 //!
-//! Version 1.0.0.
+//! Version 1.1.0.
 #![tactic(auto)]
 
 mod ascii_classes;

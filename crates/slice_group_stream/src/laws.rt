@@ -120,6 +120,7 @@ pub fn last_changes<V>()
 {}
 
 /// What a stream by a key says of the keys is what `parts_join` takes of the elements.
+/// May change.
 pub fn parts_begin_by_keys<T, K>()
     ensures begins { (k : T → K) (eq : K → K → Bool) (before block : List T)
         → begins_at eq (across (option_map k (last before)) (map k block))
@@ -132,6 +133,7 @@ pub fn parts_begin_by_keys<T, K>()
 /// `each`. If the counter is `each * (n - 1)` for the n elements before, as after a walk over them, it is so for those and the
 /// block afterwards. So over all blocks it counts what `linear_counts` says of one slice. `j` is the judge of the predicate
 /// that is passed, and the run is that of `parts_by`.
+/// May change.
 pub fn streams_count<T, J: Judge<T>, S: Judged<T, J, Linear>>(_parts: &Parts<S>)
     ensures { (counter : J → MutBor ℕ) (each limit : ℕ)
         → RaisesJust J.answers (λ j. (counter j).now) (λ j. (counter j).ghost_name) each limit
@@ -148,6 +150,7 @@ pub fn streams_count<T, J: Judge<T>, S: Judged<T, J, Linear>>(_parts: &Parts<S>)
 
 /// The same of a key function: a block of m elements calls it 2 * m times, so all blocks call it twice on each element.
 /// `f` is the function that is passed, and `g` that of the parts, which `parts_by_key` ensures.
+/// May change.
 pub fn streams_count_keys<
     T,
     K: PartialEq + Drop,

@@ -16,7 +16,7 @@
 //!
 //! For proofs: `laws` has what yours cite.
 //!
-//! Version 1.0.0.
+//! Version 1.1.0.
 #![tactic(auto)]
 
 mod asking;

@@ -56,6 +56,7 @@ impl<I> Parts<I> {
 
 impl<'a, T, P> Parts<LinearGroupBy<'a, T, P>> {
     /// The predicate, as its calls have left it: generic code that was handed one passes it on to the next block.
+    /// May change.
     #[inline]
     pub fn into_predicate(self) -> P
         ensures { result ≡ (groups_of (groups_in self.entry)).judge.predicate }
@@ -67,6 +68,7 @@ impl<'a, T, P> Parts<LinearGroupBy<'a, T, P>> {
 
 impl<'a, T, F, K> Parts<LinearGroupByKey<'a, T, F, K>> {
     /// The key function, as its calls have left it.
+    /// May change.
     #[inline]
     pub fn into_key(self) -> F
         ensures { result ≡ (groups_of (groups_in self.entry)).judge.func }

@@ -44,6 +44,7 @@ pub fn dedup_with_count<'a, T: 'a, Q: SliceQueue<'a, T>>(groups: Q) -> DedupWith
 
 /// What a loop or an adapter sees of the lengths and first elements of groups that are settled for a test: those of the
 /// pieces of the split, in order, and from the back in reverse.
+/// May change.
 pub fn sees_counts<'a, T: 'a, Q: SliceQueue<'a, T>>(_groups: &DedupWithCount<'a, T, Q>)
     ensures { (p : T → T → Bool) (e : End) (s : DedupWithCount T Q) → Q.GroupQueue.is_settled (counted_groups s) p
         → YieldsList (GivesCounted Q.GroupQueue.gives e) (λ x. (x.0, x.1.now)) s

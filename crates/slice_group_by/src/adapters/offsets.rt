@@ -85,6 +85,7 @@ pub fn groups_stand<Q: Offsets>(_groups: &WithOffsets<Q>)
 ///
 /// The groups are of a slice, so that a group is as long as what it shows (`λ _. refl`), and a call of the key function moves no
 /// place: of groups by a key `λ q group k t h. h.2`.
+/// May change.
 pub fn sees_keys_at<Q: Offsets + Keyed>(groups: &WithKeys<WithOffsets<Q>>)
     ensures { (key : Q.Element → Q.Key) (s : WithKeys (WithOffsets Q))
         → ((group : Q.Item) → length (Q.units group) ≡ length (Q.shows group))
@@ -99,6 +100,7 @@ pub fn sees_keys_at<Q: Offsets + Keyed>(groups: &WithKeys<WithOffsets<Q>>)
 }
 
 /// The groups of a text begin and end between characters, whatever the judge answers, so that `&text[start..end]` is a text.
+/// May change.
 pub fn texts_stand<'a, J: TextJudge>(_groups: &WithOffsets<LinearStrGroups<'a, J>>)
     ensures { (e : End) (q t : WithOffsets (LinearStrGroups J)) (items : List (ℕ × Bor (List ℕ)))
         → IsUtf8 (text_place_of (groups_under q)).input

@@ -42,6 +42,7 @@ pub fn calls_take_pieces<Q: GroupQueue>(_queue: &Q)
 
 /// Where a call may be made, one may be made after it, whatever it gave, also `None`: so the condition of `new` is all that is
 /// ever asked.
+/// May change.
 pub fn calls_may_go_on<Q: GroupQueue>(_queue: &Q)
     ensures call { (e : End) (q t : Q) (group : Option Q.Item) → Q.gives e q group t → Q.can_pop q → Q.can_pop t }
     ensures calls { (q t : Q) (ends : List End) (out : List (Option Q.Item)) → IsChain Q.gives q ends out t
@@ -89,6 +90,7 @@ pub fn sees_pieces<Q: GroupQueue>(_queue: &Q)
 
 /// The groups that calls at one end give, joined in their order, are what goes off that end, whatever the judge answers: all of
 /// it, where the calls go on until `None`.
+/// May change.
 pub fn groups_join<Q: GroupQueue>(_queue: &Q)
     ensures part { (e : End) (q t : Q) (groups : List Q.Item) → Yields (Q.gives e) q groups t
         → put_at e (concat (from e (map Q.shows groups))) (Q.remainder t) ≡ Q.remainder q }

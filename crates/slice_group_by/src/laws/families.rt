@@ -33,6 +33,7 @@ pub fn families_agree<T, Q: GroupQueue<Element = T>, R: GroupQueue<Element = T>>
 
 /// The standard library agrees. If a predicate computes a test, `chunk_by` gives the pieces of the one split by its own contract, from
 /// both ends. By `sees_pieces` so does every queue that is settled for the test, such as `LinearGroupBy` by that predicate.
+/// May change.
 pub fn chunk_by_agrees<T, F: FnMut(&T, &T) -> bool, Q: GroupQueue<Element = T>>(
     _chunks: &ChunkBy<'_, T, F>,
     _queue: &Q,

@@ -67,6 +67,7 @@ pub fn pieces_add_up<T>()
 
 /// What `partition_best_by` keeps if `worse` is an order: what is not worse is transitive, and of two elements at most one is worse.
 /// Of a list that ascends by a key, each is an element of the list, and none with its key is better.
+/// May change.
 pub fn bests_are_greatest<T, K: Ord>()
     ensures { (worse : T → T → Bool) → ((x y : T) → worse x y ≡ true → worse y x ≡ false)
         → ((x y z : T) → worse x y ≡ false → worse y z ≡ false → worse x z ≡ false)
@@ -78,6 +79,7 @@ pub fn bests_are_greatest<T, K: Ord>()
 
 /// Two columns of one length are rows of pairs: the pieces of the keys, each with the values at its places (`groups_stand`), are
 /// the two columns of the pieces of the rows by their keys.
+/// May change.
 pub fn columns_split<A, B>()
     ensures { (p : A → A → Bool) (keys : List A) (values : List B) → length values ≡ length keys
         → map {B = List A × List B} (λ x. (x.1, take (length x.1) (drop x.0 values))) (with_offsets 0 (split p keys))

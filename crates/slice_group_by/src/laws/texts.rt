@@ -12,6 +12,7 @@ use crate::laws::judged::OfText;
 /// The bytes of the groups of a text, joined, are what goes: of a list of calls at both ends, and of calls at one end, until nothing
 /// remains or not. What `groups_join` and `walk` say of characters, this says of bytes. The bytes of each group are the
 /// encodings of its characters, and so of the piece that it is.
+/// May change.
 pub fn texts_join<S: OfText>(_groups: &S)
     ensures encodings { (s t : S) (ends : List End) (out : List (Option S.Item)) → IsChain S.GroupQueue.gives s ends out t
         → map (option_map S.bytes) out
@@ -25,6 +26,7 @@ pub fn texts_join<S: OfText>(_groups: &S)
 {}
 
 /// A text has no more characters than bytes, so that a count of them fits where one of the bytes does.
+/// May change.
 pub fn characters_fit()
     ensures { (text : List ℕ) → length (chars text) ≤ length text }
 {}

@@ -9,6 +9,7 @@ use crate::laws::judged::Lends;
 /// What a loop keeps that notes each group as it comes, at either end. A call leads from `s` to `t`, and the note of how its group
 /// was left from `t` to `u`. If `f` says how each piece is left, what is noted, and between it what `f` makes of the pieces to come,
 /// is the same list before and after. So it is the invariant of the loop, and where no group is left it says what the input ends as.
+/// May change.
 pub fn notes_keep_pieces<T, S: Lends<T>>(_groups: &S)
     ensures { (p : S.Element → S.Element → Bool) (f : List S.Element → List T) (e : End) (s t u : S) (group : S.Item)
         (value whole : List T) → S.GroupQueue.gives e s (Some group) t → S.GroupQueue.is_settled s p
