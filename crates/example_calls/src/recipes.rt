@@ -1,8 +1,8 @@
 //! What groups and searches are good for, each in a few lines.
 use slice_group_by::{
-    LinearGroup, LinearGroupBy, exponential_equal_places_by, exponential_partition_point,
-    partition_best_by_key,
+    LinearGroup, LinearGroupBy, exponential_equal_places_by, partition_best_by_key,
 };
+use slice_merge_join::AsOfJoin;
 use std::alloc::{AllocError, Global};
 use std::cmp::Ordering;
 use std::io;
@@ -22,20 +22,11 @@ pub fn with_prefix<'a>(words: &'a [&'a str], prefix: &str) -> &'a [&'a str] {
 /// For each time the last row that is not later, of rows and times that ascend: an as-of join.
 pub fn as_of<'a>(
     alloc: Global,
-    times: &[u64],
+    times: &'a [u64],
     rows: &'a [(u64, u64)],
 ) -> Result<Vec<Option<&'a (u64, u64)>>, AllocError> {
-    let mut joined = Vec::new(alloc);
-    let mut rest = rows;
-    let mut last = None;
-    for time in times {
-        let place = exponential_partition_point(rest, |row| row.0 <= *time);
-        let (earlier, later) = rest.split_at(place);
-        last = earlier.last().or(last);
-        rest = later;
-        joined.push(last)?;
-    }
-    Ok(joined)
+    let join = AsOfJoin::new(times, rows, |time: &u64, row: &(u64, u64)| time.cmp(&row.0));
+    join.map(|(_time, row)| row).collect(alloc)
 }
 
 /// The spans that overlap, of spans that ascend by their starts, each as one span from the first start to the greatest

@@ -34,8 +34,7 @@ pub fn ascending_is_searchable<T, K: Ord>()
 /// In a list whose answers are `Less`, then `Equal`, then `Greater` (`ascending_is_searchable`), the elements that are `Less` come
 /// first (`less`), and so do those that are not `Greater` (`not_greater`). A search for a partition point by either test finds where
 /// they end. What stands before that place are those that pass (`before`), and from it on the others (`behind`). `last` is what the
-/// method `last` of the part before it gives. Where one test passes what another does, a search by it may start behind elements that
-/// passed the other: it finds how many more pass (`rest`).
+/// method `last` of the part before it gives.
 pub fn searchable_is_partitioned<T>()
     ensures less { (ord : T → Ordering) (xs : List T) → IsLessEqualGreater ord xs → IsPartitionedBy (λ x. is_lt (ord x)) xs }
     ensures not_greater { (ord : T → Ordering) (xs : List T) → IsLessEqualGreater ord xs
@@ -46,8 +45,6 @@ pub fn searchable_is_partitioned<T>()
         → drop place xs ≡ filter (λ x. not (p x)) xs }
     ensures last { (p : T → Bool) (xs : List T) (place : ℕ) → IsPartitionedBy p xs → place ≡ count_by p xs
         → slice_get (take place xs) (length (take place xs) - 1) ≡ last (filter p xs) }
-    ensures rest { (p q : T → Bool) (xs : List T) (start : ℕ) → ((x : T) → p x ≡ true → q x ≡ true) → IsPartitionedBy q xs
-        → start ≤ count_by p xs → IsPartitionedBy q (drop start xs) × (start + count_by q (drop start xs) ≡ count_by q xs) }
 {}
 
 /// Where the equal elements stand, in a list whose answers are `Less`, then `Equal`, then `Greater`: behind as many as are `Less`

@@ -37,22 +37,6 @@ module _ {T : Type 0} (p : T → Bool) where
           let none = none_behind x xs h e in
           rw (e, none) (ap (λ l. x ∷ l) (more ∙ ap (λ l. l ++ filter (λ y. not (p y)) xs) none))
 
-  -- a search of what stands behind elements that pass
-  from : (xs : List T) (start : ℕ) → IsPartitionedBy p xs → start ≤ length (filter p xs)
-      → IsPartitionedBy p (drop start xs) × (start + length (filter p (drop start xs)) ≡ length (filter p xs))
-  from xs zero h l = (h, omega arith)
-  from [] (suc n) h l = absurd (omega arith)
-  from (x ∷ xs) (suc n) h l = by (p x) refl (from xs n (behind_first x xs h))
-    where
-      by : (b : Bool) → p x ≡ b
-          → (n ≤ length (filter p xs) → IsPartitionedBy p (drop n xs) × (n + length (filter p (drop n xs)) ≡ length (filter p xs)))
-          → IsPartitionedBy p (drop n xs) × (suc n + length (filter p (drop n xs)) ≡ length (filter p (x ∷ xs)))
-      by true e more =
-          let within = rw e at l in
-          let (later, counted) = more (omega (arith, within)) in
-          (later, rw e (omega (arith, counted)))
-      by false e more = let none = rw (e, none_behind x xs h e) at l in absurd (omega (arith, none))
-
   module _ (xs : List T) (place : ℕ) (h : IsPartitionedBy p xs) (is : place ≡ count_by p xs) where
     pub before : take place xs ≡ filter p xs
     before =
@@ -64,22 +48,3 @@ module _ {T : Type 0} (p : T → Bool) where
 
     pub last_before : slice_get (take place xs) (length (take place xs) - 1) ≡ last (filter p xs)
     last_before = last_at (take place xs) ∙ ap last before
-
--- which passed another test that is no weaker
-passing : {T : Type 0} (p q : T → Bool) → ((x : T) → p x ≡ true → q x ≡ true) → (xs : List T) → length (filter p xs) ≤ length (filter q xs)
-passing p q weaker [] = omega arith
-passing {T} p q weaker (x ∷ xs) = by (p x) refl (q x) refl (passing p q weaker xs)
-  where
-    by : (a : Bool) → p x ≡ a → (b : Bool) → q x ≡ b → length (filter p xs) ≤ length (filter q xs)
-        → length (filter p (x ∷ xs)) ≤ length (filter q (x ∷ xs))
-    by true e true f more = rw (e, f) (omega (arith, more))
-    by true e false f more = absurd (true≢false (sym (weaker x e) ∙ f))
-    by false e true f more = rw (e, f) (omega (arith, more))
-    by false e false f more = rw (e, f) more
-
-pub rest : {T : Type 0} (p q : T → Bool) (xs : List T) (start : ℕ) → ((x : T) → p x ≡ true → q x ≡ true) → IsPartitionedBy q xs
-    → start ≤ count_by p xs → IsPartitionedBy q (drop start xs) × (start + count_by q (drop start xs) ≡ count_by q xs)
-rest p q xs start weaker h l =
-    let more = passing p q weaker xs in
-    let within = rw (← length-filter p xs) at l in
-    rw (← length-filter q (drop start xs), ← length-filter q xs) (from q xs start h (omega (arith, within, more)))

@@ -16,6 +16,3 @@ returns-clause-behind g c = place.behind
 
 pub returns-clause-last : goal.returns-clause-last
 returns-clause-last g c = place.last_before
-
-pub returns-clause-rest : goal.returns-clause-rest
-returns-clause-rest g c = place.rest
