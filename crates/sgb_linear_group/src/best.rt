@@ -7,6 +7,8 @@ ghost use Rattle.sgb_split.specs.Judges.{by_key, by_predicate, key_judge, predic
 ghost use Rattle.sgb_split.specs.Split.{AreNeighbours, split};
 ghost use Rattle.sgb_linear_group.specs.Best.{AreKept, Keeps, best_of_each};
 
+use crate::scan::scan;
+use sgb_split::end::End;
 use sgb_split::judge::{Judge, KeyJudge, PredicateJudge};
 
 /// Moves the best element of each group to the front, in order, and gives how many groups there are. The others stand behind
@@ -84,7 +86,7 @@ fn partition_best<T, J: Judge<T> + Drop, B: FnMut(&T, &T) -> bool>(
     let mut kept = 0;
     let mut rest = 0;
     while rest < slice.len() {
-        let end = rest + judge.first_len(slice, rest, slice.len());
+        let end = rest + scan(End::Front, slice, rest, slice.len(), &mut judge);
         let place = best_place(slice, rest, end, &mut is_worse);
         slice.swap(kept, place);
         kept += 1;

@@ -3,3 +3,4 @@
 
 pub mod best;
 pub mod linear_group;
+mod scan;

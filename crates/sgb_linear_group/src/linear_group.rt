@@ -1,6 +1,7 @@
 //! Linear groups, found by a scan along the neighbouring pairs.
 ghost use Rattle.std.specs.Prelude.{length};
 
+use crate::scan::scan;
 use sgb_groups::debug::{DebugNames, Names};
 use sgb_groups::groups::SliceGroups;
 use sgb_groups::groups_mut::SliceGroupsMut;
@@ -137,10 +138,7 @@ impl Way for Linear {
         high: usize,
         judge: &mut J,
     ) -> usize {
-        match end {
-            End::Front => judge.first_len(slice, low, high),
-            End::Back => judge.last_len(slice, low, high),
-        }
+        scan(end, slice, low, high, judge)
     }
 }
 

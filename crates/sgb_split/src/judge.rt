@@ -7,15 +7,7 @@ use std::marker::{Model, PhantomData};
 ///
 /// A question is about two elements: linear calls ask about the left one first, binary and exponential ones about the outermost
 /// first. `Self` is the state that a question may change.
-///
-/// `first_len` and `last_len` ask about one neighbouring pair after another. A judge may answer for many pairs at once in
-/// their place, with the same answers.
 pub trait Judge<T> {
-    ghost use Rattle.std.specs.Prelude.{◌<◌, ◌≤◌, length, slice_range};
-    ghost use Rattle.sgb_split.specs.declared.end.End.TheVariants.{Front, Back};
-    ghost use Rattle.sgb_split.specs.Questions.{IsRun, IsCallable, questions};
-    ghost use Rattle.sgb_split.specs.Split.{AreNeighbours};
-
     // The judge may be asked about the pair.
     ghost may_ask: { Self → T × T → Type 0 };
 
@@ -26,54 +18,6 @@ pub trait Judge<T> {
     fn ask(&mut self, first: &T, second: &T) -> bool
         requires { may_ask self.old (first.now, second.now) }
         ensures { answers self.old (first.now, second.now) result self.new };
-
-    /// How many elements the first group has of the part of the slice from the place `low` up to, not including, `high`: asks about
-    /// neighbours from the first on, up to the first pair that is refused.
-    #[inline]
-    fn first_len(&mut self, slice: &[T], low: usize, high: usize) -> usize
-        requires nonempty { low < high }
-        requires inside { high ≤ length slice.now }
-        requires callable { IsCallable may_ask answers (AreNeighbours (slice_range slice.now low high)) self.old }
-        ensures nonempty { 0 < result }
-        ensures within { low + result ≤ high }
-        ensures asked { IsRun may_ask answers self.old (questions Front (slice_range slice.now low high) result) self.new }
-    {
-        let size = high - low;
-        let mut len = 1;
-        while len < size {
-            let next = low + len;
-            let together = self.ask(&slice[next - 1], &slice[next]);
-            if !together {
-                return len;
-            }
-            len += 1;
-        }
-        len
-    }
-
-    /// How many elements the last group has of the part of the slice from the place `low` up to, not including, `high`. It asks about
-    /// neighbours from the last on, up to the first pair that is refused. The left element of each pair comes first.
-    #[inline]
-    fn last_len(&mut self, slice: &[T], low: usize, high: usize) -> usize
-        requires nonempty { low < high }
-        requires inside { high ≤ length slice.now }
-        requires callable { IsCallable may_ask answers (AreNeighbours (slice_range slice.now low high)) self.old }
-        ensures nonempty { 0 < result }
-        ensures within { low + result ≤ high }
-        ensures asked { IsRun may_ask answers self.old (questions Back (slice_range slice.now low high) result) self.new }
-    {
-        let size = high - low;
-        let mut len = 1;
-        while len < size {
-            let start = high - len;
-            let together = self.ask(&slice[start - 1], &slice[start]);
-            if !together {
-                return len;
-            }
-            len += 1;
-        }
-        len
-    }
 }
 
 /// Asks a predicate: one call a question, on the first element of it and the second.
