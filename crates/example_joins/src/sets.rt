@@ -17,6 +17,15 @@ pub fn is_set(numbers: &[u32]) -> bool
     numbers.is_sorted_by(|x, y| x < y)
 }
 
+/// Makes a set of numbers in any order.
+pub fn make_set(numbers: &mut Vec<u32>)
+    ensures { AlwaysAscends nat_cmp numbers.new.items }
+{
+    sets_ascend::<u32>();
+    numbers.sort_unstable();
+    numbers.dedup();
+}
+
 /// The numbers that stand on the left or on the right.
 pub fn union(alloc: Global, left: &[u32], right: &[u32]) -> Result<Vec<u32>, AllocError>
     requires left { AlwaysAscends nat_cmp left.now }

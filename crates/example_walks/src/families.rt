@@ -77,15 +77,13 @@ pub fn sort_and_count<T: Ord>(slice: &mut [T]) -> usize
     groups.count()
 }
 
-/// The first group of any slice ends at a local boundary, after few questions.
-pub fn first_len<T: PartialEq>(slice: &[T]) -> usize
-    ensures none { length slice.now ≡ 0 → result ≡ 0 }
-    ensures some { 0 < length slice.now → IsLocalEnd slice.now T.eq result }
+/// The lengths of the first two groups of any slice, if it has two: each ends at a local boundary, after few questions.
+pub fn first_two_lens<T: PartialEq>(slice: &[T]) -> Option<(usize, usize)>
+    ensures { IfSome result (λ lens. IsLocalEnd slice.now T.eq lens.0 × IsLocalEnd (drop lens.0 slice.now) T.eq lens.1) }
 {
     let mut groups = BinaryGroup::new(slice);
     groups_end_locally(&groups);
-    match groups.next() {
-        Some(group) => group.len(),
-        None => 0,
-    }
+    let first = groups.next()?;
+    let second = groups.next()?;
+    Some((first.len(), second.len()))
 }
