@@ -5,7 +5,7 @@ ghost use Rattle.std.specs.Ordering.{nat_cmp};
 ghost use Rattle.slice_group_by.specs.Search.{NeverDescends};
 
 use slice_merge_join::MergeJoinBy;
-use slice_merge_join::laws::{merges_interleave_by_keys, parts_or_empty, sees_merge_by_keys};
+use slice_merge_join::laws::{merges_interleave_by_keys, sees_merge_by_keys};
 use std::alloc::{AllocError, Global};
 
 /// A change: the time, the key and the new value.
@@ -27,13 +27,12 @@ pub fn merge_logs(
     ensures ascends { IfOk result (λ v. NeverDescends nat_cmp (map (λ c. c.time) v.items)) }
     ensures same { IfOk result (λ v. IsPermutation (left.now ++ right.now) v.items) }
 {
-    parts_or_empty::<Change, Change>();
     merges_interleave_by_keys::<Change, u64>();
     let join = MergeJoinBy::new(left, right, |x: &Change, y: &Change| x.time.cmp(&y.time));
     sees_merge_by_keys::<_, _, u64, _>(&join);
     let mut merged = Vec::new(alloc);
     for part in join {
-        let (lefts, rights) = part.or(&[], &[]);
+        let (lefts, rights) = part.sides();
         merged.extend_from_slice(lefts)?;
         merged.extend_from_slice(rights)?;
     }

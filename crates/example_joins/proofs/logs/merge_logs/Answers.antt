@@ -1,15 +1,9 @@
-use Rattle.std.proofs.Common.{◌++◌, rules, arith, refl, sym, subst, map}
+use Rattle.std.proofs.Common.{◌++◌, rules, sym, subst, map}
 use Rattle.std.proofs.lemmas.Fn.{always_returns_same}
-use Rattle.std.proofs.lemmas.Grind.{common_steps}
 use Rattle.std.specs.List.Sorted.{IsPermutation}
 use Rattle.std.specs.Ordering.{nat_cmp}
 use Rattle.slice_group_by.specs.Search.{NeverDescends}
 use Rattle.example_joins.proofs.logs.merge_logs.Goals as goal
-
-pub loop-part-preserved : goal.loop-part-preserved
-loop-part-preserved c =
-    let k = c.parts_or_empty.ensures c.in-Some.part _ _ c.or.result refl refl c.or.ensures in
-    grind (arith, common_steps, k.0, k.1, c.loop-part.invariant)
 
 pub returns : goal.returns
 returns c =
