@@ -82,7 +82,8 @@ pub fn passed_pieces_join<T>()
 pub fn queries_by_key<T, K: Ord, R>()
     ensures having { (f : K → List T → R) (test : List T → Bool) (key : T → K) (d : T) (xs : List T) → NeverDescends K.cmp (map key xs)
         → map (λ g. f (key (get_or g 0 d)) g) (filter test (split (λ a b. K.eq (key a) (key b)) xs))
-        ≡ map (λ k. f k (filter (λ y. K.eq (key y) k) xs)) (filter (λ k. test (filter (λ y. K.eq (key y) k) xs)) (dedup K.eq (map key xs))) }
+        ≡ map (λ k. f k (filter (λ y. K.eq (key y) k) xs))
+        (filter (λ k. test (filter (λ y. K.eq (key y) k) xs)) (dedup K.eq (map key xs))) }
     ensures ranks { (f : K → ℕ → R) (key : T → K) (d : T) (xs : List T) → NeverDescends K.cmp (map key xs)
         → map (λ e. f (key (get_or e.1 0 d)) e.0) (with_offsets 0 (split (λ a b. K.eq (key a) (key b)) xs))
         ≡ map (λ k. f k (count_by (λ y. is_lt (K.cmp (key y) k)) xs)) (dedup K.eq (map key xs)) }

@@ -11,5 +11,6 @@ pub returns-clause-elements : goal.returns-clause-elements
 unfolding returns-clause-ends
 returns-clause-elements g c holds =
     let e = returns-clause-ends g c in
-    let long = ap length {y = c.resolve.new.slice} (sym c.resolve.ensures.ends.4) ∙ c.resolve.ensures.len ∙ ap length c.as_mut_slice.ensures.elements in
+    let long = ap length {y = c.resolve.new.slice} (sym c.resolve.ensures.ends.4) ∙ c.resolve.ensures.len
+    ∙ ap length c.as_mut_slice.ensures.elements in
     (e.0, e.1, e.2, e.3, ap g.S.AsMutSlice.elements e.4 ∙ holds e.1.value long)
