@@ -16,7 +16,7 @@ pub struct Change {
     pub value: u32,
 }
 
-/// All changes of two logs, by their times; at equal times the left ones come first.
+/// All changes of two logs that ascend by time, in the order of their times.
 pub fn merge_logs(
     alloc: Global,
     left: &[Change],

@@ -77,13 +77,18 @@ pub fn sort_and_count<T: Ord>(slice: &mut [T]) -> usize
     groups.count()
 }
 
-/// The lengths of the first two groups of any slice, if it has two: each ends at a local boundary, after few questions.
-pub fn first_two_lens<T: PartialEq>(slice: &[T]) -> Option<(usize, usize)>
-    ensures { IfSome result (λ lens. IsLocalEnd slice.now T.eq lens.0 × IsLocalEnd (drop lens.0 slice.now) T.eq lens.1) }
+/// The lengths of the first two groups of any slice, 0 for each that it has not: they end at local boundaries, after few questions.
+pub fn first_two_lens<T: PartialEq>(slice: &[T]) -> (usize, usize)
+    ensures first { 0 < length slice.now → IsLocalEnd slice.now T.eq result.0 }
+    ensures second { result.0 < length slice.now → IsLocalEnd (drop result.0 slice.now) T.eq result.1 }
 {
     let mut groups = BinaryGroup::new(slice);
     groups_end_locally(&groups);
-    let first = groups.next()?;
-    let second = groups.next()?;
-    Some((first.len(), second.len()))
+    let Some(first) = groups.next() else {
+        return (0, 0);
+    };
+    let Some(second) = groups.next() else {
+        return (first.len(), 0);
+    };
+    (first.len(), second.len())
 }

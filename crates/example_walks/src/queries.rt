@@ -1,8 +1,9 @@
 //! Groups that pass a test, and ranks.
-ghost use Rattle.std.specs.Prelude.{◌≡◌, ◌+◌, count_by, flat_map, length, map, nat_eq, nat_lt, not, IfOk};
+ghost use Rattle.std.specs.Prelude.{◌≡◌, ◌+◌, count_by, flat_map, get_or, length, map, nat_eq, nat_lt, not, IfOk};
 ghost use Rattle.std.specs.List.{dedup, filter};
 ghost use Rattle.std.specs.Ordering.{flip_args, nat_cmp};
 ghost use Rattle.slice_group_by.specs.Search.{NeverDescends};
+ghost use Rattle.slice_group_by.specs.Split.{split};
 
 use slice_group_by::laws::{groups_stand, passed_pieces_join, queries_by_key, sees_pieces};
 use slice_group_by::{GroupAdapters, LinearGroup, LinearGroupByKey};
@@ -10,7 +11,9 @@ use std::alloc::{AllocError, Global};
 
 /// The runs of numbers that are not 0: joined, they are these numbers.
 pub fn active(alloc: Global, levels: &[u32]) -> Result<Vec<&[u32]>, AllocError>
-    ensures { IfOk result (λ v. flat_map (λ g. g.now) v.items ≡ filter (λ x. not (nat_eq x 0)) levels.now) }
+    ensures runs { IfOk result (λ v. map (λ g. g.now) v.items ≡ filter (λ g. not (nat_eq (get_or g 0 0) 0))
+        (split (λ a b. ⟦<bool as PartialEq>⟧.eq (nat_eq a 0) (nat_eq b 0)) levels.now)) }
+    ensures joined { IfOk result (λ v. flat_map (λ g. g.now) v.items ≡ filter (λ x. not (nat_eq x 0)) levels.now) }
 {
     passed_pieces_join::<u32>();
     let groups = LinearGroupByKey::new(levels, |x: &u32| *x == 0);

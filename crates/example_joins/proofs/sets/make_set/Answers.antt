@@ -9,5 +9,8 @@ use Rattle.example_joins.proofs.sets.make_set.Goals as goal
 
 pub returns : goal.returns
 returns c =
-    c.sets_ascend.ensures.sorted _ (subst (IsStrictlySortedBy nat_cmp) (sym (dedup_is nat_eq _ _ c.dedup.ensures.filtered))
-    (IsStrictlySortedBy-dedup nat_cmp_total (λ x y. grind (arith, nat_tests)) _ c.sort_unstable.ensures.sorted))
+    let once = dedup_is nat_eq _ _ c.dedup.ensures.filtered in record {
+      ascends = c.sets_ascend.ensures.sorted _ (subst (IsStrictlySortedBy nat_cmp) (sym once)
+          (IsStrictlySortedBy-dedup nat_cmp_total (λ x y. grind (arith, nat_tests)) _ c.sort_unstable.ensures.sorted));
+      same = (_, c.sort_unstable.ensures.permutation, once);
+    }

@@ -19,4 +19,7 @@ returns c =
     let found = rw c.new-groups.ensures.remainder at (map_from_collect _ c.collect.ensures.ran
     (YieldsList-from_filter _ (λ g. not (is_zero (get_or g 0 0))) seen c.filter.ensures.closure (λ x b q k. search (rules, tests)))) in
     let passed = c.passed_pieces_join.ensures alike (λ x. not (is_zero x)) (λ x y e. search (rules, tests)) 0 c.args.levels.now in
-    IfOk-weaker c.collect.result _ _ (λ v e. sym (flat_map-map (λ g. g) (λ g. g.now) v.items) ∙ ap concat e ∙ passed) found
+    record {
+      runs = found;
+      joined = IfOk-weaker c.collect.result _ _ (λ v e. sym (flat_map-map (λ g. g) (λ g. g.now) v.items) ∙ ap concat e ∙ passed) found;
+    }
