@@ -20,5 +20,6 @@ returns c =
     c.flat_map.ensures.done))) in record {
       all = IfOk-weaker c.collect.result _ _ (λ v is. λ e. rw is (laws.members _ _ _ seen.0 seen.1.merges e)) once_each;
       same = IfOk-weaker c.collect.result _ _ (λ v is. rw is (laws.permutes _ _ _ seen.0 seen.1.merges)) once_each;
-      run = λ h k. IfOk-weaker c.collect.result _ _ (λ v is. rw is (laws.strictly (λ (e : Entry). e.key) _ _ seen.0 h k seen.1.merges)) once_each;
+      run = λ h k. IfOk-weaker c.collect.result _ _
+          (λ v is. rw is (laws.strictly (λ (e : Entry). e.key) _ _ seen.0 h k seen.1.merges)) once_each;
     }
