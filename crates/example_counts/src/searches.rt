@@ -1,5 +1,5 @@
 //! Searches: a lower bound, and searches that are lent a function which counts its calls in a variable of the caller's.
-ghost use Rattle.std.specs.Prelude.{◌≡◌, ◌↔◌, ℕ, ◌+◌, ◌*◌, ◌<◌, ◌≤◌, Some, count_by, map, slice_get, string_bytes, string_cmp};
+ghost use Rattle.std.specs.Prelude.{◌≡◌, ◌↔◌, ℕ, ◌+◌, ◌*◌, ◌<◌, ◌≤◌, Some, count_by, map, not, slice_get, string_bytes, string_cmp};
 ghost use Rattle.std.specs.List.{filter};
 ghost use Rattle.std.specs.declared.cmp.Ordering.TheVariants.{Equal};
 ghost use Rattle.std.specs.Cmp.Lexicographic.{slice_cmp};
@@ -30,6 +30,17 @@ pub fn lower_bound<T: Ord>(slice: &[T], sought: &T) -> usize
     let less = |x: &T| x.cmp(sought).is_lt();
     always_computes(&less);
     exponential_partition_point(slice, less)
+}
+
+/// The elements that are less than one that is given, and the others, of a slice that ascends.
+pub fn split_below<'a, T: Ord>(slice: &'a [T], sought: &T) -> (&'a [T], &'a [T])
+    requires { NeverDescends T.cmp slice.now }
+    ensures below { result.0.now ≡ filter (λ x. is_lt (T.cmp x sought.now)) slice.now }
+    ensures others { result.1.now ≡ filter (λ x. not (is_lt (T.cmp x sought.now))) slice.now }
+{
+    ascending_is_searchable::<T, T>();
+    searchable_is_partitioned::<T>();
+    slice.split_at(lower_bound(slice, sought))
 }
 
 /// The rows whose keys lie from `low` to `high`, of rows that ascend by them.

@@ -5,6 +5,7 @@ pub mod alone;
 pub mod as_of;
 pub mod compaction;
 pub mod kinds;
+pub mod logs;
 pub mod merged;
 pub mod names;
 pub mod parts;

@@ -8,9 +8,7 @@ ghost use Rattle.slice_group_by.specs.Search.{NeverDescends};
 ghost use Rattle.example_joins.specs.Names.{shown_groups};
 
 use slice_merge_join::MergeJoinBy;
-use slice_merge_join::laws::{
-    always_compares, merges_interleave, one_merge, parts_or_empty, sees_merge,
-};
+use slice_merge_join::laws::{always_compares, merges_interleave, one_merge, sees_merge};
 use std::alloc::{AllocError, Global};
 use std::cmp::Ordering;
 
@@ -39,12 +37,11 @@ fn sides<'a, A: Compares<B>, B>(
     ensures { (ps : List (Part A B)) → IsMerge A.order left.now right.now ps
         → IfOk result (λ sides. map shown_groups sides.items ≡ map (λ p. (lefts p, rights p)) ps) }
 {
-    parts_or_empty::<A, B>();
     let compare = |x: &A, y: &B| x.compare(y);
     always_compares(&compare);
     let join = MergeJoinBy::new(left, right, compare);
     sees_merge(&join);
-    join.map(|part| part.or(&[], &[])).collect(alloc)
+    join.map(|part| part.sides()).collect(alloc)
 }
 
 /// All elements of two slices that ascend, in order; of equal ones the left ones come first.

@@ -1,6 +1,7 @@
 //! Sets of numbers, as slices that ascend strictly.
-ghost use Rattle.std.specs.Prelude.{◌≡◌, ◌↔◌, ℕ, ◌+◌, length, nat_eq, not, ◌⊎◌, IfOk, IsTrue};
-ghost use Rattle.std.specs.List.{Contains, filter, list_any};
+ghost use Rattle.std.specs.Prelude.{◌≡◌, ◌↔◌, ℕ, ◌+◌, List, length, nat_eq, not, ◌⊎◌, IfOk, IsTrue};
+ghost use Rattle.std.specs.List.{Contains, dedup, filter, list_any};
+ghost use Rattle.std.specs.List.Sorted.{IsPermutation};
 ghost use Rattle.std.specs.Ordering.{nat_cmp};
 ghost use Rattle.slice_group_by.specs.Search.{AlwaysAscends};
 ghost use Rattle.slice_group_by.specs.Matches.{has_partner};
@@ -15,6 +16,16 @@ pub fn is_set(numbers: &[u32]) -> bool
 {
     sets_ascend::<u32>();
     numbers.is_sorted_by(|x, y| x < y)
+}
+
+/// Makes a set of numbers in any order: sorts them, and drops what repeats.
+pub fn make_set(numbers: &mut Vec<u32>)
+    ensures ascends { AlwaysAscends nat_cmp numbers.new.items }
+    ensures same { (sorted : List ℕ) × IsPermutation numbers.old.items sorted × (numbers.new.items ≡ dedup nat_eq sorted) }
+{
+    sets_ascend::<u32>();
+    numbers.sort_unstable();
+    numbers.dedup();
 }
 
 /// The numbers that stand on the left or on the right.

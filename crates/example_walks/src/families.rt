@@ -77,15 +77,18 @@ pub fn sort_and_count<T: Ord>(slice: &mut [T]) -> usize
     groups.count()
 }
 
-/// The first group of any slice ends at a local boundary, after few questions.
-pub fn first_len<T: PartialEq>(slice: &[T]) -> usize
-    ensures none { length slice.now ≡ 0 → result ≡ 0 }
-    ensures some { 0 < length slice.now → IsLocalEnd slice.now T.eq result }
+/// The lengths of the first two groups of any slice, 0 for each that it has not: they end at local boundaries, after few questions.
+pub fn first_two_lens<T: PartialEq>(slice: &[T]) -> (usize, usize)
+    ensures first { 0 < length slice.now → IsLocalEnd slice.now T.eq result.0 }
+    ensures second { result.0 < length slice.now → IsLocalEnd (drop result.0 slice.now) T.eq result.1 }
 {
     let mut groups = BinaryGroup::new(slice);
     groups_end_locally(&groups);
-    match groups.next() {
-        Some(group) => group.len(),
-        None => 0,
-    }
+    let Some(first) = groups.next() else {
+        return (0, 0);
+    };
+    let Some(second) = groups.next() else {
+        return (first.len(), 0);
+    };
+    (first.len(), second.len())
 }

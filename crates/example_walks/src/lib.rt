@@ -12,6 +12,7 @@ pub mod keys;
 pub mod long_runs;
 pub mod loops;
 pub mod offsets;
+pub mod queries;
 pub mod streams;
 pub mod texts;
 pub mod tokens;

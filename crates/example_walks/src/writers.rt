@@ -107,10 +107,10 @@ fn reversed(slice: &mut [u8]) -> Ended<'_, u8>
 }
 
 /// Reverses each group of a vector in place.
+#[tactic(auto, using(std::proofs::lemmas::List::with_items_is))]
 pub fn reverse_groups_of(vec: &mut Vec<u8>)
     ensures { vec.new.items ≡ concat (map reverse (split nat_eq vec.old.items)) }
 {
-    one_split::<u8>();
     resolve_in(vec, |part| reversed(part));
 }
 

@@ -6,3 +6,4 @@ pub mod PiecesOfLists
 pub mod Adjacent
 pub mod Bests
 pub mod Columns
+pub mod Queries

@@ -13,7 +13,8 @@ pub use sgb_loans::loans::{Ended, Loans};
 pub use sgb_loans::resolve::{resolve, resolve_and_return};
 
 /// Lends `f` the elements of `holder`: `resolve` for a vector, an array, or whatever lends its elements. They are then what
-/// the token says that `f` answers, as many as before.
+/// the token says that `f` answers, as many as before. `elements` says it of a holder that keeps a list of the old length
+/// whole, as vectors do by the lemma `with_items_is`.
 ///
 /// ```
 /// pub fn reverse_groups_of(vec: &mut Vec<u8>) {
@@ -28,6 +29,10 @@ pub fn resolve_in<T, S: AsMutSlice<T>, F: FnOnce(&mut [T]) -> Ended<'_, T>>(hold
         × (holder.new ≡ S.AsMutSlice.with_elements holder.old l.value) }
     ensures len { (xs : List T) × (holder.new ≡ S.AsMutSlice.with_elements holder.old xs)
         × (length xs ≡ length (S.AsMutSlice.elements holder.old)) }
+    ensures elements { ((xs : List T) → length xs ≡ length (S.AsMutSlice.elements holder.old)
+        → S.AsMutSlice.elements (S.AsMutSlice.with_elements holder.old xs) ≡ xs)
+        → (p : MutBor (List T)) × (l : Token T) × (p.now ≡ S.AsMutSlice.elements holder.old) × F.post f p l
+        × (S.AsMutSlice.elements holder.new ≡ l.value) }
 {
     resolve(holder.as_mut_slice(), f)
 }

@@ -90,18 +90,6 @@ module _ {A : Type 0} (q : List A → Bool) (stays : (g part : List A) → g ≢
       counted (with_part gs x) xs (still_some gs x.0 x.1 h n.0) n.1
       ∙ omega (arith, one_counted gs x.0 x.1 h, sum_by-append (λ (y : Bool × List A). cond (y.0 && q y.1) 1 0) (x ∷ []) xs)
 
--- all pass where the answer is always yes
-pub count_of_all : {X : Type 0} (xs : List X) → count_by (λ _. true) xs ≡ length xs
-count_of_all [] = refl
-count_of_all (x ∷ xs) = omega (arith, count_of_all xs, sum_by-append (λ (y : _). 1) (x ∷ []) xs)
-
-pub count_of_begun : {X : Type 0} (begins : X → Bool) (xs : List X) → count_by (λ x. begins x && true) xs ≡ count_by begins xs
-count_of_begun begins xs = ap (λ test. count_by test xs) (λ i x. both (begins x) i)
-  where
-    both : (b : Bool) → (b && true) ≡ b
-    both true = refl
-    both false = refl
-
 -- the last value, changed where it stands
 pub last_set : {V : Type 0} (h : V → V) (vs : List V) (i : ℕ) (v : V) → i + 1 ≡ length vs → v ≡ get_or vs i v → set vs i (h v) ≡ change_last h vs
 last_set h [] i v e is = absurd (omega arith)

@@ -1,6 +1,6 @@
 //! Laws of groups that go on over the blocks of a stream.
 ghost use Rattle.std.specs.Prelude.{◌≡◌, ◌≢◌, ℕ, ◌+◌, ◌-◌, ◌*◌, ◌<◌, Bool, ◌&&◌, List, [], ◌∷◌, ◌++◌};
-ghost use Rattle.std.specs.Prelude.{length, Option, None, Some, count_by, flat_map, map, option_map, slice_index_or, slice_set};
+ghost use Rattle.std.specs.Prelude.{length, Option, Some, count_by, flat_map, map, option_map, slice_index_or, slice_set};
 ghost use Rattle.std.specs.Borrow.{MutBor};
 ghost use Rattle.std.specs.Fn.{CalledAt};
 ghost use Rattle.std.specs.Iterator.{Drains, Yields};
@@ -22,8 +22,8 @@ use slice_group_by::GroupQueue;
 use slice_group_by::laws::Judged;
 
 /// The parts of a block, joined, are the block, whatever the judge answers: `whole`. If it computes a test, the parts
-/// make the groups of what has come before and of the block: `block`, where `before` are the elements before. How many
-/// these are, `groups` says, and `count` how many of them pass a test that their first elements decide, part by part.
+/// make the groups of what has come before and of the block: `block`, where `before` are the elements before. `count` says
+/// how many of these pass a test that their first elements decide, part by part.
 ///
 /// `kept` says which element the stream keeps. A loop that keeps more than `parts_fold` says keeps it of `with_parts`
 /// of the parts so far: `turn` says what a part more changes, and each is `nonempty`.
@@ -36,12 +36,6 @@ pub fn parts_join<Q: GroupQueue>(_parts: &Parts<Q>)
         → begins_of s ≡ begins_at p (across (last before) block)
         → Drains (GivesBlockPart (Q.gives Front)) s parts
         → with_parts (split p before) (map (λ x. (x.0, Q.shows x.1)) parts) ≡ split p (before ++ block) }
-    ensures groups { (p : Q.Element → Q.Element → Bool) (before block : List Q.Element)
-        (s : Parts Q) (parts : List (Bool × Q.Item))
-        → Q.is_settled (groups_in s) p → Q.remainder (groups_in s) ≡ block
-        → begins_of s ≡ begins_at p (across (last before) block)
-        → Drains (GivesBlockPart (Q.gives Front)) s parts
-        → length (split p (before ++ block)) ≡ length (split p before) + count_by (λ x. x.0) parts }
     ensures count { (test : List Q.Element → Bool)
         → ((group part : List Q.Element) → group ≢ [] → test (group ++ part) ≡ test group)
         → (p : Q.Element → Q.Element → Bool) (before block : List Q.Element)
@@ -103,9 +97,8 @@ pub fn parts_close<Q: GroupQueue, V, W>(_parts: &Parts<Q>)
         → ClosedSoFar p kept close after made' value' (came ++ block) }
 {}
 
-/// Before the first block nothing is made (`begins`), and when what is kept after the last is closed too, all groups are (`all`).
+/// When what is kept after the last block is closed too, all groups are (`all`).
 pub fn groups_close<A, V, W>()
-    ensures begins { (p : A → A → Bool) (kept : List A → V) (close : V → List W) → ClosedSoFar p kept close None [] (kept []) [] }
     ensures all { (p : A → A → Bool) (kept : List A → V) (close : V → List W) (before : Option A) (made : List W) (value : V)
         (came : List A) → close (kept []) ≡ [] → ClosedSoFar p kept close before made value came
         → made ++ close value ≡ flat_map (λ group. close (kept group)) (split p came) }

@@ -74,8 +74,8 @@ pub fn parts<L: Drop, R: Drop>(parts: [EitherOrBoth<L, R>; 6], values: (L, R)) -
     sixth.or(values.0, values.1)
 }
 
-pub fn parts_of_slices<'a, T>(part: EitherOrBoth<&'a [T], &'a [T]>) -> [&'a [T]; 3] {
-    [part.partnered(), part.alone(), part.once()]
+pub fn parts_of_slices<'a, T>(part: EitherOrBoth<&'a [T], &'a [T]>) -> [&'a [T]; 4] {
+    [part.partnered(), part.alone(), part.once(), part.sides().1]
 }
 
 fn is_copied<T: Copy + Eq + Debug>(_value: &T) {}

@@ -42,8 +42,8 @@ pub use counts::{
 pub use families::{chunk_by_agrees, families_agree, groups_end_locally};
 pub use judged::{Judged, Lends, OfText};
 pub use pieces::{
-    bests_are_greatest, columns_split, equal_pieces_are_copies, pieces_add_up, pieces_by_key,
-    pieces_have_keys,
+    bests_are_greatest, columns_split, equal_pieces_are_copies, passed_pieces_join, pieces_add_up,
+    pieces_by_key, pieces_have_keys, queries_by_key,
 };
 pub use plans::right_plans_ask;
 pub use queue::{RemainderLen, SliceQueue, SliceQueueMut};

@@ -1,10 +1,11 @@
 //! Laws of the pieces of a list.
 ghost use Rattle.std.specs.Prelude.{◌≡◌, ℕ, ◌<◌, Bool, false, true, List, length, flat_map, get_or, map, replicate, sum_by, take, drop};
-ghost use Rattle.std.specs.Prelude.{Some};
+ghost use Rattle.std.specs.Prelude.{Some, count_by};
 ghost use Rattle.std.specs.List.{AllByRecursion, Contains, dedup, filter, zip};
+ghost use Rattle.std.specs.Ordering.{flip_args, is_lt};
 ghost use Rattle.sgb_linear_group.specs.Best.{best_of_each};
 ghost use Rattle.sgb_search.specs.Search.{AlwaysAscends, NeverDescends};
-ghost use Rattle.sgb_split.specs.Split.{first, split};
+ghost use Rattle.sgb_split.specs.Split.{concat, first, split};
 ghost use Rattle.slice_group_by.specs.Dedup.{counted};
 ghost use Rattle.slice_group_by.specs.Keyed.{keyed};
 ghost use Rattle.slice_group_by.specs.Offsets.{with_offsets};
@@ -63,6 +64,32 @@ pub fn pieces_have_keys<T, K: PartialEq>()
 pub fn pieces_add_up<T>()
     ensures lengths { (p : T → T → Bool) (xs : List T) → sum_by length (split p xs) ≡ length xs }
     ensures sums { (p : T → T → Bool) (f : T → ℕ) (xs : List T) → sum_by (λ g. sum_by f g) (split p xs) ≡ sum_by f xs }
+{}
+
+/// The pieces whose first element passes a test, joined, are the elements that pass it: the tokens of a text without white space, the
+/// runs that are not 0. The test answers alike on two neighbours that the split accepts, as one of their key does.
+pub fn passed_pieces_join<T>()
+    ensures { (p : T → T → Bool) (keep : T → Bool) → ((x y : T) → p x y ≡ true → keep x ≡ keep y) → (d : T) (xs : List T)
+        → concat (filter (λ g. keep (get_or g 0 d)) (split p xs)) ≡ filter keep xs }
+{}
+
+/// Queries by a key, in a list that ascends by it. They give one result for each key, in order.
+///
+/// - `having`: what `f` makes of each piece that passes a test, and of its key, is what it makes of each key whose elements, taken
+///   together, pass the test: `GROUP BY` with `HAVING`.
+/// - `ranks`: the offset of a piece is how many elements have a lesser key. In a list that descends by the key it is how many have a
+///   greater one (`ranks_down`).
+pub fn queries_by_key<T, K: Ord, R>()
+    ensures having { (f : K → List T → R) (test : List T → Bool) (key : T → K) (d : T) (xs : List T) → NeverDescends K.cmp (map key xs)
+        → map (λ g. f (key (get_or g 0 d)) g) (filter test (split (λ a b. K.eq (key a) (key b)) xs))
+        ≡ map (λ k. f k (filter (λ y. K.eq (key y) k) xs))
+        (filter (λ k. test (filter (λ y. K.eq (key y) k) xs)) (dedup K.eq (map key xs))) }
+    ensures ranks { (f : K → ℕ → R) (key : T → K) (d : T) (xs : List T) → NeverDescends K.cmp (map key xs)
+        → map (λ e. f (key (get_or e.1 0 d)) e.0) (with_offsets 0 (split (λ a b. K.eq (key a) (key b)) xs))
+        ≡ map (λ k. f k (count_by (λ y. is_lt (K.cmp (key y) k)) xs)) (dedup K.eq (map key xs)) }
+    ensures ranks_down { (f : K → ℕ → R) (key : T → K) (d : T) (xs : List T) → NeverDescends (flip_args K.cmp) (map key xs)
+        → map (λ e. f (key (get_or e.1 0 d)) e.0) (with_offsets 0 (split (λ a b. K.eq (key a) (key b)) xs))
+        ≡ map (λ k. f k (count_by (λ y. is_lt (K.cmp k (key y))) xs)) (dedup K.eq (map key xs)) }
 {}
 
 /// What `partition_best_by` keeps if `worse` is an order: what is not worse is transitive, and of two elements at most one is worse.

@@ -1,4 +1,4 @@
-use Rattle.std.proofs.Common.{◌+◌, ◌++◌, Bool, true, List, refl, sym, ap, ◌∙◌, [], ◌∷◌, map}
+use Rattle.std.proofs.Common.{◌+◌, Bool, List, sym, ap, ◌∙◌, [], ◌∷◌, map}
 use Rattle.std.proofs.lemmas.List.{map-append}
 use Rattle.std.specs.List.{count_by}
 use Rattle.std.proofs.lemmas.List.Folds.{fold-map}
@@ -6,7 +6,7 @@ use Rattle.sgb_split.specs.Split.{concat, split}
 use Rattle.sgb_split.specs.declared.end.End.TheVariants.{Front}
 use Rattle.slice_group_stream.specs.Streams.{with_parts}
 use Rattle.slice_group_stream.proofs.JoinedParts as joined
-use Rattle.slice_group_stream.proofs.FoldedParts.{counted, count_of_all, count_of_begun}
+use Rattle.slice_group_stream.proofs.FoldedParts.{counted}
 use Rattle.slice_group_by.proofs.Queues.Yields.{drains_parts}
 use Rattle.slice_group_stream.proofs.StreamParts.{parts_of_block, parts_some, pieces_some}
 use Rattle.slice_group_stream.proofs.laws.parts_join.Goals as goal
@@ -32,12 +32,6 @@ returns-clause-count g c test stays p before block s parts settled is begins dra
     ∙ counted test stays (split p before) (map (λ x. (x.0, shows x.1)) parts) (pieces_some p before)
     (parts_some _ _ _ g.met.Q.GroupQueue.part s drains.1.0 parts drains.1.1)
     ∙ ap (λ n. count_by test (split p before) + n) (fold-map _ (λ x. (x.0, shows x.1)) 0 parts)
-
-pub returns-clause-groups : goal.returns-clause-groups
-returns-clause-groups g c p before block s parts settled is begins drains =
-    sym (count_of_all (split p (before ++ block)))
-    ∙ returns-clause-count g c (λ _. true) (λ group part some. refl) p before block s parts settled is begins drains
-    ∙ (λ i. count_of_all (split p before) i + count_of_begun (λ x. x.0) parts i)
 
 pub returns-clause-kept : goal.returns-clause-kept
 returns-clause-kept g c before block = joined.last_kept before block
