@@ -68,6 +68,8 @@ pub fn pieces_add_up<T>()
 
 /// The pieces whose first element passes a test, joined, are the elements that pass it: the tokens of a text without white space, the
 /// runs that are not 0. The test answers alike on two neighbours that the split accepts, as one of their key does.
+///
+/// May change.
 pub fn passed_pieces_join<T>()
     ensures { (p : T → T → Bool) (keep : T → Bool) → ((x y : T) → p x y ≡ true → keep x ≡ keep y) → (d : T) (xs : List T)
         → concat (filter (λ g. keep (get_or g 0 d)) (split p xs)) ≡ filter keep xs }
