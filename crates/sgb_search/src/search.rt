@@ -59,8 +59,8 @@ impl<'a, T, B: Ord + Drop, F: FnMut(&T) -> B> Places<F> for Keyed<'a, T, B> {
 ///
 /// ```
 /// let slice = [0, 1, 1, 1, 1, 2, 3, 5, 8, 13, 21, 34, 55];
-/// exponential_search_by(&slice, |x| x.cmp(&13)); // Ok(9)
-/// exponential_search_by(&slice, |x| x.cmp(&4));  // Err(7)
+/// let found = exponential_search_by(&slice, |x| x.cmp(&13)); // Ok(9)
+/// let found = exponential_search_by(&slice, |x| x.cmp(&4));  // Err(7)
 /// ```
 ///
 /// # Contract
@@ -97,7 +97,7 @@ where
 ///     asked = asked.wrapping_add(1);
 ///     x.cmp(&13)
 /// };
-/// exponential_search_by_ref(&[1, 2, 3, 5, 8, 13, 21], &mut comparator); // Ok(5), and `asked` is at most 7
+/// let found = exponential_search_by_ref(&[1, 2, 3, 5, 8, 13, 21], &mut comparator); // Ok(5), and `asked` is at most 7
 /// ```
 #[inline]
 pub fn exponential_search_by_ref<T, F>(slice: &[T], f: &mut F) -> Result<usize, usize>
@@ -124,9 +124,9 @@ where
 ///
 /// ```
 /// let slice = [0, 1, 1, 1, 1, 2, 3, 5, 8, 13, 21, 34, 55];
-/// exponential_search(&slice, &13);  // Ok(9)
-/// exponential_search(&slice, &4);   // Err(7)
-/// exponential_search(&slice, &100); // Err(13)
+/// let found = exponential_search(&slice, &13);  // Ok(9)
+/// let found = exponential_search(&slice, &4);   // Err(7)
+/// let found = exponential_search(&slice, &100); // Err(13)
 /// ```
 #[inline]
 pub fn exponential_search<T: Ord>(slice: &[T], elem: &T) -> Result<usize, usize>
@@ -146,8 +146,8 @@ pub fn exponential_search<T: Ord>(slice: &[T], elem: &T) -> Result<usize, usize>
 ///
 /// ```
 /// let slice = [(0, 0), (2, 1), (4, 1), (5, 1), (3, 1), (1, 2), (2, 3), (4, 5), (5, 8), (3, 13), (1, 21)];
-/// exponential_search_by_key(&slice, &13, |&(_, b)| b); // Ok(9)
-/// exponential_search_by_key(&slice, &4, |&(_, b)| b);  // Err(7)
+/// let found = exponential_search_by_key(&slice, &13, |&(_, b)| b); // Ok(9)
+/// let found = exponential_search_by_key(&slice, &4, |&(_, b)| b);  // Err(7)
 /// ```
 #[inline]
 pub fn exponential_search_by_key<T, B, F>(slice: &[T], b: &B, mut f: F) -> Result<usize, usize>
@@ -178,7 +178,7 @@ where
 ///     called = called.wrapping_add(1);
 ///     row.1
 /// };
-/// exponential_search_by_key_ref(&[(0, 1), (4, 2), (2, 3)], &2, &mut key); // Ok(1), and `called` is at most 5
+/// let found = exponential_search_by_key_ref(&[(0, 1), (4, 2), (2, 3)], &2, &mut key); // Ok(1), and `called` is at most 5
 /// ```
 #[inline]
 pub fn exponential_search_by_key_ref<T, B, F>(slice: &[T], b: &B, f: &mut F) -> Result<usize, usize>

@@ -13,7 +13,7 @@ use crate::class_counts::{ClassCounts, class_after, class_counts_add_up, count_c
 /// let mut counter = ClassCounter::new();
 /// counter.push(b"po");
 /// counter.push(b"rt 8080;");
-/// counter.counts(); // letters: 1, digits: 1, spaces: 1, others: 1
+/// let counts = counter.counts(); // letters: 1, digits: 1, spaces: 1, others: 1
 /// ```
 #[derive(Clone, Copy, Debug)]
 pub struct ClassCounter {

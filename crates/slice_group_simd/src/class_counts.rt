@@ -27,9 +27,9 @@ pub struct ClassCounts {
 /// It compares 64 bytes at a time, and its time depends on nothing but their number.
 ///
 /// ```
-/// count_classes(None, b"port 8080;");
+/// let counts = count_classes(None, b"port 8080;");
 /// // letters: 1, digits: 1, spaces: 1, others: 1
-/// count_classes(Some(AsciiClass::Letter), b"port 8080;");
+/// let counts = count_classes(Some(AsciiClass::Letter), b"port 8080;");
 /// // letters: 0, digits: 1, spaces: 1, others: 1
 /// ```
 pub fn count_classes(before: Option<AsciiClass>, bytes: &[u8]) -> ClassCounts
