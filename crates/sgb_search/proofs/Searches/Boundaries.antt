@@ -41,24 +41,6 @@ one_answer known never both low high i t = (
   elim t.high_end as (λ _. IsHighEnd known high i) [ inl a ↦ a | inr b ↦ absurd (never (i - 1) b.1.1) ],
 )
 
--- where the first place is known to be Less, and the others are searched
-pub with_first : (known : ℕ → Ordering → Type 0) (both : Bool) (high i : ℕ) → 1 ≤ i → known 0 Less → TellsBoundary known both 1 high i
-    → TellsBoundary known both 0 high i
-with_first known both high i l first t = record {
-  low_end = elim t.low_end as (λ _. IsLowEnd known 0 i ⊎ ((both ≡ true) × Contradicts known i)) [
-    | inl a ↦ inl (low a)
-    | inr b ↦ inr b
-  ];
-  high_end = elim t.high_end as (λ _. IsHighEnd known high i ⊎ ((both ≡ true) × ((0 < i) × Contradicts known (i - 1)))) [
-    | inl a ↦ inl a
-    | inr b ↦ inr (b.0, (l, b.1.1))
-  ];
-}
-  where
-    low : IsLowEnd known 1 i → IsLowEnd known 0 i
-    low (inl e) = inr (l, subst (λ (k : ℕ). known k Less) {x = 0} {y = i - 1} (omega (arith, e)) first)
-    low (inr p) = inr (l, p.1)
-
 pub answers_once : {T : Type 0} (ord : T → Ordering) (xs : List T) (i : ℕ) → Contradicts (AnswersAt ord xs) i → ⊥
 answers_once ord xs i (a, b, x, y, ne) = let same : x.0 ≡ y.0 = cc (x.1, y.1) in ne (sym x.2 ∙ ap ord same ∙ y.2)
 
