@@ -6,7 +6,7 @@ use slice_group_by::laws::{RemainderLen, SliceQueue, SliceQueueMut};
 use slice_group_by::loans::{Ended, Loans};
 use slice_group_by::*;
 use slice_group_simd::{ByteClasses, Lanes, LinearClassGroup, LinearNumberGroup};
-use slice_merge_join::{EitherOrBoth, MergeJoinBy};
+use slice_merge_join::{AsOfJoin, EitherOrBoth, MergeJoinBy};
 use std::cmp::Ordering;
 use std::fmt::Debug;
 use std::iter::FusedIterator;
@@ -90,6 +90,7 @@ fn gives<I: FusedIterator<Item = G>, G>(_join: &I) {}
 pub fn joins<'a, A, B, FA: Fn(&A) -> K, FB: Fn(&B) -> K, F: FnMut(&A, &B) -> Ordering, K>(
     by_key: &MergeJoin<'a, A, B, FA, FB, K>,
     by: &MergeJoinBy<'a, A, B, F>,
+    as_of: &AsOfJoin<'a, A, B, F>,
     outer: &OuterJoin<'a, A, B, FA, FB, K>,
 )
 where
@@ -98,6 +99,8 @@ where
     gives::<_, (K, &'a [A], &'a [B])>(outer);
     gives::<_, (&'a [A], &'a [B])>(by_key);
     gives::<_, EitherOrBoth<&'a [A], &'a [B]>>(by);
+    gives::<_, (&'a A, Option<&'a B>)>(as_of);
+    let _ = as_of.len();
 }
 
 // What is given lives as long as the input, and not as the iterator.
@@ -169,11 +172,13 @@ pub fn wrapped<'a, T: 'a, Q: Clone + Debug, A: Debug, B: Debug, F: Clone>(
     keys: &WithKeys<Q>,
     counts: &DedupWithCount<'a, T, Q>,
     join: &MergeJoinBy<'a, A, B, F>,
+    as_of: &AsOfJoin<'a, A, B, F>,
 ) {
     is_copied(offsets);
     is_copied(keys);
     is_copied(counts);
     is_copied(join);
+    is_copied(as_of);
 }
 
 pub fn masks<N: Lanes + Debug, C: ByteClasses>(
@@ -189,15 +194,17 @@ pub fn threads<T: Send + Sync, F: Send + Sync, K: Send + Sync, N: Lanes + Send +
     groups: (&LinearGroup<'_, T>, &ExponentialGroupByKeyMut<'_, T, F, K>),
     numbers: &LinearNumberGroup<'_, N>,
     texts: (&LinearStrGroupByKey<'_, F, K>, &LinearStrGroupMut<'_>),
-    joins: (&MergeJoin<'_, T, T, F, F, K>, &MergeJoinBy<'_, T, T, F>),
+    by_key: &MergeJoin<'_, T, T, F, F, K>,
+    by: (&MergeJoinBy<'_, T, T, F>, &AsOfJoin<'_, T, T, F>),
 ) {
     crosses_threads(groups.0);
     crosses_threads(groups.1);
     crosses_threads(numbers);
     crosses_threads(texts.0);
     crosses_threads(texts.1);
-    crosses_threads(joins.0);
-    crosses_threads(joins.1);
+    crosses_threads(by_key);
+    crosses_threads(by.0);
+    crosses_threads(by.1);
 }
 
 // (whatever is in the slice)

@@ -6,7 +6,7 @@ ghost use Rattle.slice_group_by.specs.Split.{AreApart, AreNeighbours};
 ghost use Rattle.slice_group_by.specs.Judges.{IsCallableOn};
 
 use slice_group_by::*;
-use slice_merge_join::{EitherOrBoth, MergeJoinBy, joinable_prefixes};
+use slice_merge_join::{AsOfJoin, EitherOrBoth, MergeJoinBy, joinable_prefixes};
 use std::cmp::Ordering;
 use std::fmt::Debug;
 
@@ -53,16 +53,14 @@ pub fn joined_by_key<A, B, FA: Fn(&A) -> K, FB: Fn(&B) -> K, K: Ord + Drop>(
     let _ = MergeJoin::new(left.0, left.1, right.0, right.1).outer();
 }
 
-pub fn joined_by<A, B, F: FnMut(&A, &B) -> Ordering>(left: &[A], right: &[B], compare: F)
-    requires { IsCallableAcross F.FnMut left.now right.now compare }
+pub fn joined_by<A, B, F: FnMut(&A, &B) -> Ordering>(left: &[A], right: &[B], f: F, g: F, h: F)
+    requires f { IsCallableAcross F.FnMut left.now right.now f }
+    requires g { IsCallableAcross F.FnMut left.now right.now g }
+    requires h { IsCallableAcross F.FnMut left.now right.now h }
 {
-    let _ = MergeJoinBy::new(left, right, compare);
-}
-
-pub fn joined_in_blocks<A, B, F: FnMut(&A, &B) -> Ordering>(left: &[A], right: &[B], compare: F)
-    requires { IsCallableAcross F.FnMut left.now right.now compare }
-{
-    let _ = joinable_prefixes(left, false, right, true, compare);
+    let _ = MergeJoinBy::new(left, right, f).next();
+    let _ = AsOfJoin::new(left, right, g).next();
+    let _ = joinable_prefixes(left, false, right, true, h);
 }
 
 // Values that may be let go, and slices of anything.

@@ -9,7 +9,7 @@ use slice_group_by::{
 use slice_group_simd::{AsciiClasses, ClassCounter, LinearClassGroup, LinearNumberGroup};
 use slice_group_stream::StreamGroups;
 use slice_merge_join::EitherOrBoth::{Both, Left, Right};
-use slice_merge_join::{EitherOrBoth, MergeJoinBy};
+use slice_merge_join::{AsOfJoin, EitherOrBoth, MergeJoinBy};
 use std::alloc::{AllocError, Global};
 use std::fmt::{self, Debug, Write};
 use std::test::Fail;
@@ -197,10 +197,11 @@ fn adapters_written(alloc: Global, wanted: &str) -> Result<bool, AllocError> {
     )
 }
 
-fn join_written(alloc: Global, wanted: &str) -> Result<bool, AllocError> {
+fn joins_written(alloc: Global, wanted: &str) -> Result<bool, AllocError> {
     let mut join = MergeJoinBy::new(&[1, 3], &[2], |x: &u8, y: &u8| x.cmp(y));
-    let _ = join.next();
-    is_written(alloc, &join.clone()?, wanted)
+    let mut as_of = AsOfJoin::new(&[2, 3], &[2, 4], |x: &u8, y: &u8| x.cmp(y));
+    let _ = (join.next(), as_of.next());
+    is_written(alloc, &(join.clone()?, as_of.clone()?), wanted)
 }
 
 fn stream_written(alloc: Global, wanted: &str) -> Result<bool, AllocError> {
@@ -221,7 +222,9 @@ fn texts_of_adapters(rt: HostRuntime) -> Result<(), Fail> {
         WithKeys { groups: MaskGroups { remainder: [49] } }, \
         DedupWithCount { groups: MaskGroups { remainder: [2] }, .. })";
     assert!(rt; adapters_written(alloc, adapters)?);
-    assert!(rt; join_written(alloc, "MergeJoinBy { left: [3], right: [2], .. }")?);
+    let joins = "(MergeJoinBy { left: [3], right: [2], .. }, \
+        AsOfJoin { left: [3], passed: Some(2), right: [4], .. })";
+    assert!(rt; joins_written(alloc, joins)?);
     let stream = "(StreamGroups { kept: None }, \
         Parts { begins: true, groups: MaskGroups { remainder: [2] } }, \
         StreamGroups { kept: Some(2) })";

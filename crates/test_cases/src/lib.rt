@@ -3,6 +3,8 @@
 #![tactic(auto)]
 
 #[cfg(test)]
+mod as_of;
+#[cfg(test)]
 mod by_name;
 #[cfg(test)]
 mod calls;
